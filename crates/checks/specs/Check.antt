@@ -1,0 +1,40 @@
+-- Checks in a fixed order (document 01, "Numbers a crew can act on"): the first that fails gives its number and its place. Demand 1.
+use mathlib.Core.Bool.{Bool, true, false}
+use mathlib.Core.List.{List, [], _∷_, _++_}
+use mathlib.Core.Path.{_≡_}
+use Prim.Native.Nat.{ℕ, zero, suc}
+use Rattle.checks.specs.declared.Verdict.{Verdict}
+use Rattle.checks.specs.declared.Verdict.the-variants.{Passed, Refused}
+
+-- document 01's number and place for each case of a verdict; 0 and 0 where all passed
+abbrev pub numberOf : Verdict → ℕ
+numberOf Passed = 0
+numberOf (Refused n p) = n
+
+abbrev pub placeOf : Verdict → ℕ
+placeOf Passed = 0
+placeOf (Refused n p) = p
+
+-- a row of the table: whether it is broken here, its number, and the place it names
+pub record Check : Type 0 where
+  pub broken : Bool
+  pub number : ℕ
+  pub place : ℕ
+
+abbrev pub check : ℕ → Bool → ℕ → Check
+check n b p = record { broken = b; number = n; place = p }
+
+-- the verdict of checks made in order: that of the first broken one
+unfoldable pub firstBroken : List Check → Verdict
+firstBroken [] = Passed
+firstBroken (c ∷ cs) = elim (c .broken) [ true ↦ Refused (c .number) (c .place) | false ↦ firstBroken cs ]
+
+-- the checks of class 1, then those of class 2, and so on up to class n
+unfoldable pub classByClass : (ℕ → List Check) → ℕ → List Check
+classByClass f zero = []
+classByClass f (suc n) = classByClass f n ++ f (suc n)
+
+-- a decision says yes exactly when the claim holds
+pub record Exactly (b : Bool) (P : Type 0) : Type 0 where
+  pub sound : b ≡ true → P
+  pub complete : P → b ≡ true

@@ -1,0 +1,2 @@
+-- What a refusal says, and checks in a fixed order.
+pub mod Check

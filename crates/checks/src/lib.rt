@@ -1,0 +1,49 @@
+// Refusals: the numbers of document 01, "Numbers a crew can act on", and the verdict of checks made in a fixed order.
+// Serves demand 1: a refusal is a number and a place, for the first check that fails.
+ghost use mathlib.Core.Path.{_≡_};
+ghost use Rattle.checks.specs.Check.{numberOf, placeOf};
+
+// What checks say: all passed, or the number and the place of the first that failed.
+pub enum Verdict {
+    Passed,
+    Refused(u8, usize),
+}
+
+// The input ends before the kind byte, or inside a body.
+pub const CUT: u8 = 1;
+// Unknown kind.
+pub const UNKNOWN_KIND: u8 = 2;
+// A 64th class record.
+pub const TOO_MANY: u8 = 3;
+// Parent not lower than the class, or a leaf.
+pub const PARENT: u8 = 4;
+// Weight outside its range.
+pub const WEIGHT: u8 = 5;
+// Longest outside its range.
+pub const LONGEST: u8 = 6;
+// Children's weights exceed their inner parent's.
+pub const TOO_HEAVY: u8 = 7;
+// Inner class without a child.
+pub const CHILDLESS: u8 = 8;
+// No class at all.
+pub const NO_CLASS: u8 = 9;
+
+// The number of a verdict: 0 where all passed.
+pub fn number(v: Verdict) -> u8
+    ensures { λ r. ⌜ r ≡ numberOf v ⌝ }
+{
+    match v {
+        Verdict::Passed => 0,
+        Verdict::Refused(n, _) => n,
+    }
+}
+
+// The place of a verdict: 0 where all passed.
+pub fn place(v: Verdict) -> usize
+    ensures { λ r. ⌜ r ≡ placeOf v ⌝ }
+{
+    match v {
+        Verdict::Passed => 0,
+        Verdict::Refused(_, p) => p,
+    }
+}

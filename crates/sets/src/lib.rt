@@ -1,0 +1,47 @@
+// Sets of classes in a 64-bit number: is a class in, put one in, take one out, the common ones, and the next one from a place on.
+ghost use mathlib.Core.Path.{_≡_};
+ghost use Prim.Native.Nat.{_≤_, _<_};
+ghost use Rattle.sets.specs.Set.{has, with, without, Both, Next};
+
+// Is the class in the set?
+pub fn has(set: u64, class: usize) -> bool
+    requires { ⌜ class < 64 ⌝ }
+    ensures { λ r. ⌜ r ≡ has set class ⌝ }
+{
+    (set >> class) & 1 == 1
+}
+
+// The set with the class put in.
+pub fn with(set: u64, class: usize) -> u64
+    requires { ⌜ class < 64 ⌝ }
+    ensures { λ r. ⌜ r ≡ with set class ⌝ }
+{
+    set | (1 << class)
+}
+
+// The set with the class taken out.
+pub fn without(set: u64, class: usize) -> u64
+    requires { ⌜ class < 64 ⌝ }
+    ensures { λ r. ⌜ r ≡ without set class ⌝ }
+{
+    set & !(1 << class)
+}
+
+// The classes that are in both sets.
+pub fn both(a: u64, b: u64) -> u64
+    ensures { λ r. ⌜ Both a b r ⌝ }
+{
+    a & b
+}
+
+// The lowest class of the set from the place on, or 64 where there is none.
+pub fn next(set: u64, place: usize) -> usize
+    requires { ⌜ place ≤ 64 ⌝ }
+    ensures { λ r. ⌜ Next set place r ⌝ }
+{
+    if place == 64 {
+        return 64;
+    }
+    let rest = (set >> place) << place;
+    u64::trailing_zeros(rest) as usize
+}

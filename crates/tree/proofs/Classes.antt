@@ -1,0 +1,77 @@
+-- Laws of a tree's classes: which numbers are classes, and what the plan rules say of one class.
+use mathlib.Core.Bool.{Bool, true, false, _&&_, _||_, not, cond}
+use mathlib.Core.Logic.{_⊎_, inl, inr}
+use mathlib.Core.Path.{_≡_, refl, sym, ap, _∙_}
+use Prim.Native.Nat.{ℕ, zero, suc, _+_, _-_, _*_, _≤_, _<_, zero-le}
+use native.Mathlib.Omega.{arith}
+use lib.Dec.{eqb, leb, ltb}
+use borrow.Author.Tests.{le-leb, lt-leb, leb-true, ltb-true, ltb-false, leb-false}
+use Rattle.tree.specs.declared.Tree.{Tree}
+use Rattle.tree.specs.Class.{parentOf, weightOf, longestOf, isClass, isLeaf, isInner, isChild, childWeight, childrenWeight, hasChild}
+use Rattle.checks.specs.Check.{Check, check, firstBroken}
+use Rattle.checks.specs.declared.Verdict.the-variants.{Passed}
+use Rattle.checks.proofs.Laws.{passed-parts}
+use Rattle.tree.specs.Rules.{badParent, badWeight, badLongest, childless, tooHeavy, classChecks, closingOf, Light}
+use Rattle.tree.specs.Sum.{sumTo}
+use Rattle.tree.proofs.Sums.{sum-bound}
+
+-- both tests, or one of them
+pub both-true : (a b : Bool) → (a && b) ≡ true → (a ≡ true) × (b ≡ true)
+both-true true b e = (refl, e)
+both-true false b e = (e, (cc))
+
+pub neither-true : (a b : Bool) → (a || b) ≡ false → (a ≡ false) × (b ≡ false)
+neither-true true b e = ((cc), (cc))
+neither-true false b e = (refl, e)
+
+-- the classes are 1 to count
+pub class-in : (t : Tree) (i : ℕ) → 1 ≤ i → i ≤ t .count → isClass t i ≡ true
+unfolding isClass
+class-in t i l u = rw (le-leb 1 i l, le-leb i (t .count) u)
+
+pub class-range : (t : Tree) (i : ℕ) → isClass t i ≡ true → (1 ≤ i) × (i ≤ t .count)
+unfolding isClass
+class-range t i e =
+    let h = both-true (leb 1 i) (leb i (t .count)) e in
+    (leb-true 1 i (h .0), leb-true i (t .count) (h .1))
+
+pub class-past : (t : Tree) (i : ℕ) → t .count < i → isClass t i ≡ false
+unfolding isClass
+class-past t i h = go (leb 1 i)
+  where
+    go : (b : Bool) → (b && leb i (t .count)) ≡ false
+    go true = lt-leb i (t .count) h
+    go false = refl
+
+pub root-no-class : (t : Tree) → isClass t 0 ≡ false
+unfolding isClass
+root-no-class t = refl
+
+-- sums of weights fit
+cond-le : (b : Bool) (x m : ℕ) → x ≤ m → cond b x 0 ≤ m
+cond-le true x m h = h
+cond-le false x m h = zero-le
+
+pub child-light : (t : Tree) (p i : ℕ) → Light t → 1 ≤ i → i ≤ t .count → childWeight t p i ≤ 1_000_000
+unfolding childWeight
+child-light t p i l a b = cond-le (isChild t p i) (weightOf t i) 1_000_000 (l .light i (class-in t i a b))
+
+-- the checks of a class pass exactly where none of its rows is broken
+pub class-passes : (t : Tree) (i p : ℕ) → badParent t i ≡ false → badWeight t i ≡ false → badLongest t i ≡ false → firstBroken (classChecks t i p) ≡ Passed
+unfolding firstBroken
+class-passes t i p a b d = rw (a, b, d)
+
+pub class-passed : (t : Tree) (i p : ℕ) → firstBroken (classChecks t i p) ≡ Passed → (badParent t i ≡ false) × (badWeight t i ≡ false) × (badLongest t i ≡ false)
+class-passed t i p e =
+    let a = passed-parts _ _ e in
+    let b = passed-parts _ _ (a .1) in
+    (a .0, b .0, passed-parts _ _ (b .1) .0)
+
+pub closing-passes : (t : Tree) (i : ℕ) → childless t i ≡ false → tooHeavy t i ≡ false → firstBroken (closingOf t i) ≡ Passed
+unfolding firstBroken
+closing-passes t i a b = rw (a, b)
+
+pub closing-passed : (t : Tree) (i : ℕ) → firstBroken (closingOf t i) ≡ Passed → (childless t i ≡ false) × (tooHeavy t i ≡ false)
+closing-passed t i e =
+    let a = passed-parts _ _ e in
+    (a .0, passed-parts _ _ (a .1) .0)

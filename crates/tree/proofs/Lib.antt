@@ -1,0 +1,4 @@
+pub mod Sums
+pub mod Classes
+pub mod Rules
+pub mod AfterEnd

@@ -1,0 +1,82 @@
+-- What the plan rules say of a class, and the ceiling of the round size. Demands 1 and 3.
+use mathlib.Core.Bool.{Bool, true, false, _&&_, _||_, not, cond}
+use mathlib.Core.Path.{_≡_, refl, sym, ap, _∙_}
+use Prim.Native.Nat.{ℕ, zero, suc, _+_, _-_, _*_, _≤_, _<_, zero-le}
+use native.Mathlib.Nat.{mul-le-mul-right}
+use native.Mathlib.Omega.{arith}
+use lib.Dec.{eqb, leb, ltb}
+use borrow.Author.Tests.{le-leb, lt-leb, leb-true, ltb-true, ltb-false, leb-false, eqb-false}
+use Rattle.units.specs.Cost.{costOf}
+use Rattle.units.proofs.Laws.{cost-ceiling}
+use Rattle.tree.specs.declared.Tree.{Tree}
+use Rattle.tree.specs.Class.{parentOf, weightOf, longestOf, isClass, isLeaf}
+use Rattle.tree.specs.Rules.{tooMany, badParent, badWeight, badLongest, noClass, Light, PlanRules}
+use Rattle.tree.specs.Size.{allWeights, allLongest, longestCost, roundSize}
+use Rattle.tree.proofs.Sums.{sum-bound}
+use Rattle.tree.proofs.Classes.{neither-true, class-in}
+
+-- 3 and 9: from 1 to 63 classes
+pub few-classes : (t : Tree) → PlanRules t → t .count ≤ 63
+unfolding tooMany
+few-classes t r = ltb-false 63 (t .count) (r .few)
+
+pub some-class : (t : Tree) → PlanRules t → 1 ≤ t .count
+unfolding noClass
+some-class t r = let ne = eqb-false (t .count) 0 (r .closing .classes) in omega (arith, ne)
+
+-- 4: the parent is lower, and no leaf
+pub parent-lower : (t : Tree) (i : ℕ) → PlanRules t → isClass t i ≡ true → parentOf t i < i
+unfolding badParent
+parent-lower t i r h = leb-false i (parentOf t i) (neither-true (leb i (parentOf t i)) _ (r .each .parents i h) .0)
+
+pub parent-no-leaf : (t : Tree) (i : ℕ) → PlanRules t → isClass t i ≡ true → isLeaf t (parentOf t i) ≡ false
+unfolding badParent
+parent-no-leaf t i r h = neither-true (leb i (parentOf t i)) _ (r .each .parents i h) .1
+
+-- 5: the weight's range
+pub weight-range : (t : Tree) (i : ℕ) → badWeight t i ≡ false → (1 ≤ weightOf t i) × (weightOf t i ≤ 1_000_000)
+unfolding badWeight
+weight-range t i e =
+    let h = neither-true (ltb (weightOf t i) 1) (ltb 1_000_000 (weightOf t i)) e in
+    (ltb-false (weightOf t i) 1 (h .0), ltb-false 1_000_000 (weightOf t i) (h .1))
+
+-- 6: the range of a leaf's longest packet
+pub longest-range : (t : Tree) (i : ℕ) → badLongest t i ≡ false → isLeaf t i ≡ true → (1 ≤ longestOf t i) × (longestOf t i ≤ 9_216)
+unfolding badLongest
+longest-range t i e leaf =
+    let h = neither-true (ltb (longestOf t i) 1) (ltb 9_216 (longestOf t i)) (rw leaf at e) in
+    (ltb-false (longestOf t i) 1 (h .0), ltb-false 9_216 (longestOf t i) (h .1))
+
+-- sums of weights fit
+pub rules-light : (t : Tree) → PlanRules t → Light t
+rules-light t r = record {
+  few = few-classes t r;
+  light = λ i h. weight-range t i (r .each .weights i h) .1;
+}
+
+pub longest-cost-bound : (t : Tree) (i : ℕ) → PlanRules t → 1 ≤ i → i ≤ t .count → longestCost t i ≤ 9_216
+unfolding longestCost
+longest-cost-bound t i r l u = go (isLeaf t i) refl
+  where
+    go : (b : Bool) → isLeaf t i ≡ b → cond b (costOf (longestOf t i)) 0 ≤ 9_216
+    go true e = cost-ceiling (longestOf t i) (longest-range t i (r .each .longests i (class-in t i l u)) e .1)
+    go false e = zero-le
+
+-- the ceiling of document 01
+pub weights-ceiling : (t : Tree) → PlanRules t → allWeights t ≤ 63_000_000
+unfolding allWeights
+weights-ceiling t r =
+    let few = few-classes t r in
+    let sum = sum-bound (weightOf t) 1_000_000 (t .count) (λ i l u. rules-light t r .light i (class-in t i l u)) in
+    omega arith
+
+pub longest-ceiling : (t : Tree) → PlanRules t → allLongest t ≤ 580_608
+unfolding allLongest
+longest-ceiling t r =
+    let few = few-classes t r in
+    let sum = sum-bound (longestCost t) 9_216 (t .count) (λ i l u. longest-cost-bound t i r l u) in
+    omega arith
+
+pub size-ceiling : (t : Tree) → PlanRules t → roundSize t ≤ 63_580_608
+unfolding roundSize
+size-ceiling t r = omega (arith, weights-ceiling t r, longest-ceiling t r)

@@ -1,0 +1,60 @@
+-- Laws of sums and searches over the classes 1 to n.
+use mathlib.Core.Bool.{Bool, true, false, _||_, or-false, or-true}
+use mathlib.Core.Path.{_≡_, refl, sym, ap, _∙_}
+use Prim.Native.Nat.{ℕ, zero, suc, _+_, _-_, _*_, _≤_, _<_, zero-le}
+use native.Mathlib.Nat.{suc-mul}
+use native.Mathlib.Decide.{decLe}
+use native.Mathlib.Omega.{arith}
+use Rattle.tree.specs.Sum.{sumTo, someTo}
+
+pub sum-none : (f : ℕ → ℕ) → sumTo f 0 ≡ 0
+unfolding sumTo
+sum-none f = refl
+
+pub sum-last : (f : ℕ → ℕ) (n : ℕ) → sumTo f (suc n) ≡ sumTo f n + f (suc n)
+unfolding sumTo
+sum-last f n = refl
+
+-- a loop's step: class i is added to the classes below it
+pub sum-step : (f : ℕ → ℕ) (i : ℕ) → 1 ≤ i → sumTo f (i + 1 - 1) ≡ sumTo f (i - 1) + f i
+sum-step f zero h = absurd (omega arith)
+sum-step f (suc i) h =
+    let e : suc i + 1 - 1 ≡ suc i = omega arith in
+    let e′ : suc i - 1 ≡ i = omega arith in
+    rw (e, e′) (sum-last f i)
+
+-- a sum of n terms, none above m
+pub sum-bound : (f : ℕ → ℕ) (m n : ℕ) → ((i : ℕ) → 1 ≤ i → i ≤ n → f i ≤ m) → sumTo f n ≤ n * m
+unfolding sumTo
+sum-bound f m zero h = zero-le
+sum-bound f m (suc n) h = go (sum-bound f m n (λ i l u. h i l (omega arith)))
+  where
+    open-suc : suc n * m ≡ n * m + m
+    open-suc = suc-mul n m
+
+    go : sumTo f n ≤ n * m → sumTo f n + f (suc n) ≤ suc n * m
+    go ih = omega (arith, open-suc, h (suc n) (omega arith) (omega arith))
+
+pub some-none : (f : ℕ → Bool) → someTo f 0 ≡ false
+unfolding someTo
+some-none f = refl
+
+pub some-step : (f : ℕ → Bool) (i : ℕ) → 1 ≤ i → someTo f (i + 1 - 1) ≡ (someTo f (i - 1) || f i)
+unfolding someTo
+some-step f zero h = absurd (omega arith)
+some-step f (suc i) h =
+    let e : suc i + 1 - 1 ≡ suc i = omega arith in
+    let e′ : suc i - 1 ≡ i = omega arith in
+    rw (e, e′)
+
+-- one that is found is enough
+pub some-found : (f : ℕ → Bool) (n i : ℕ) → 1 ≤ i → i ≤ n → f i ≡ true → someTo f n ≡ true
+unfolding someTo
+some-found f zero i l u e = absurd (omega arith)
+some-found f (suc n) i l u e = go (decLe i n) (λ m. some-found f n i l m e)
+  where
+    go : Dec (i ≤ n) → (i ≤ n → someTo f n ≡ true) → (someTo f n || f (suc n)) ≡ true
+    go (yes m) ih = rw (ih m)
+    go (no m) ih =
+        let s : suc n ≡ i = omega arith in
+        rw (s, e) (or-true (someTo f n))

@@ -1,0 +1,67 @@
+-- `tree::all_longest` meets its contract.
+use mathlib.Core.Path.{_≡_, sym}
+use Prim.Native.Nat.{ℕ, _+_, _-_, _≤_}
+use native.Mathlib.Omega.{arith}
+use Rattle.tree.specs.Size.{longestCost, allLongest}
+use Rattle.tree.specs.Sum.{sumTo}
+use Rattle.tree.proofs.Sums.{sum-none, sum-step, sum-bound}
+use Rattle.tree.proofs.Rules.{few-classes, longest-cost-bound}
+use borrow.Author.Needs.{needs}
+use Rattle.tree.proofs.all_longest.Statement.{statement}
+use Rattle.tree.proofs.all_longest.Tie as tie
+
+abbrev Inv-loop : tie.InvT-loop
+Inv-loop tree last sum₀ i₀ sum i = (1 ≤ i) × (i ≤ tree .count + 1) × (sum .0 ≡ sumTo (longestCost tree) (i - 1))
+
+abbrev μ-loop : tie.MeasureT-loop
+μ-loop tree last sum₀ i₀ sum i = tree .count + 1 - i
+
+loop-holds : tie.Need-loop-holds Inv-loop μ-loop
+loop-holds c = (omega arith, omega arith, sym (sum-none (longestCost (c .args .tree))))
+
+longest-cost-requires : tie.Need-longest-cost-requires Inv-loop μ-loop
+longest-cost-requires c κs = let st = c .before .before in omega (arith, few-classes (st .args .tree) (st .pre))
+
+plus-requires : tie.Need-plus-requires Inv-loop μ-loop
+plus-requires c κs =
+    let h = c .before in
+    let st = h .before .before in
+    let t = st .args .tree in
+    let i = h .before .loop .i in
+    omega (
+      arith,
+      few-classes t (st .pre),
+      longest-cost-bound t i (st .pre) (h .before .loop .inv .0) (h .loop-test .taken),
+      sum-bound (longestCost t) 9_216 (i - 1) (λ k l u. longest-cost-bound t k (st .pre) l (omega arith)),
+    )
+
+add-i : tie.Need-add-i Inv-loop μ-loop
+add-i c = let st = c .before .before .before .before in omega (arith, few-classes (st .args .tree) (st .pre))
+
+loop-less : tie.Need-loop-less Inv-loop μ-loop
+loop-less c = search needs
+
+loop-again : tie.Need-loop-again Inv-loop μ-loop
+loop-again c =
+    let h = c .before .before .before in
+    (omega arith, omega arith, omega (arith, sum-step (longestCost (h .before .args .tree)) (h .loop .i) (h .loop .inv .0)))
+
+returns : tie.Need-returns Inv-loop μ-loop
+unfolding allLongest
+returns c =
+    let e : c .before .loop .i - 1 ≡ c .before .before .args .tree .count = omega arith in
+    rw e at (c .before .loop .inv .2)
+
+pub all-longest-spec : {M : Type 1} → statement M
+all-longest-spec =
+    tie.close
+    (tie.spec
+    Inv-loop
+    μ-loop
+    loop-holds
+    longest-cost-requires
+    plus-requires
+    add-i
+    loop-less
+    loop-again
+    returns)

@@ -1,0 +1,72 @@
+-- The classes of a tree (document 01, "The class tree"): class 0 is the root, the others are numbered 1, 2, .. in plan order. Demands 1 to 3.
+use mathlib.Core.Bool.{Bool, true, false, cond, _&&_, not}
+use mathlib.Core.List.{List}
+use Prim.Native.Nat.{ℕ, _+_}
+use lib.Dec.{eqb, leb}
+use lib.ListN.{getD, set, replicate}
+use Rattle.sets.specs.Set.{has, with}
+use Rattle.units.specs.declared.Weight.{Weight}
+use Rattle.tree.specs.declared.Tree.{Tree}
+use Rattle.tree.specs.declared.Class.{Class}
+use Rattle.tree.specs.Sum.{sumTo, someTo}
+
+-- no weight
+abbrev pub noWeight : Weight
+noWeight = record { 0 = 0 }
+
+-- the parent, the weight and the longest packet of class i
+abbrev pub parentOf : Tree → ℕ → ℕ
+parentOf t i = getD (t .parent) i 0
+
+abbrev pub weightOf : Tree → ℕ → ℕ
+weightOf t i = getD (t .weight) i noWeight .0
+
+abbrev pub longestOf : Tree → ℕ → ℕ
+longestOf t i = getD (t .longest) i 0
+
+-- i is the number of a class that a plan record gave
+unfoldable pub isClass : Tree → ℕ → Bool
+isClass t i = leb 1 i && leb i (t .count)
+
+-- class i is a leaf; any other class, but the root, is inner
+unfoldable pub isLeaf : Tree → ℕ → Bool
+isLeaf t i = has (t .leaves) i
+
+unfoldable pub isInner : Tree → ℕ → Bool
+isInner t i = isClass t i && not (isLeaf t i)
+
+-- class i is a child of class p
+unfoldable pub isChild : Tree → ℕ → ℕ → Bool
+isChild t p i = eqb (parentOf t i) p
+
+-- what class i adds to the weight of class p's children
+unfoldable pub childWeight : Tree → ℕ → ℕ → ℕ
+childWeight t p i = cond (isChild t p i) (weightOf t i) 0
+
+-- what the children of class p weigh together
+unfoldable pub childrenWeight : Tree → ℕ → ℕ
+childrenWeight t p = sumTo (childWeight t p) (t .count)
+
+-- class p has a child
+unfoldable pub hasChild : Tree → ℕ → Bool
+hasChild t p = someTo (isChild t p) (t .count)
+
+-- the tree without classes: all its numbers are 0
+abbrev pub noTree : Tree
+noTree = record {
+  count = 0;
+  leaves = 0;
+  parent = replicate 64 0;
+  weight = replicate 64 noWeight;
+  longest = replicate 64 0;
+}
+
+-- the tree with one class more, whose number follows the last
+abbrev pub added : Tree → Class → Tree
+added t c = record {
+  count = t .count + 1;
+  leaves = cond (c .leaf) (with (t .leaves) (t .count + 1)) (t .leaves);
+  parent = set (t .parent) (t .count + 1) (c .parent);
+  weight = set (t .weight) (t .count + 1) (c .weight);
+  longest = set (t .longest) (t .count + 1) (c .longest);
+}

@@ -1,0 +1,24 @@
+-- The round size Q (document 01, "The class tree"). Demands 2 and 3.
+use mathlib.Core.Bool.{cond}
+use Prim.Native.Nat.{ℕ}
+use Rattle.units.specs.Unit.{sizeOf}
+use Rattle.units.specs.Cost.{costOf}
+use Rattle.tree.specs.declared.Tree.{Tree}
+use Rattle.tree.specs.Class.{weightOf, longestOf, isLeaf}
+use Rattle.tree.specs.Sum.{sumTo}
+
+-- the sum of all weights
+unfoldable pub allWeights : Tree → ℕ
+allWeights t = sumTo (weightOf t) (t .count)
+
+-- what the longest packet of class i costs, where it is a leaf
+unfoldable pub longestCost : Tree → ℕ → ℕ
+longestCost t i = cond (isLeaf t i) (costOf (longestOf t i)) 0
+
+-- the sum of what all leaves' longest packets cost
+unfoldable pub allLongest : Tree → ℕ
+allLongest t = sumTo (longestCost t) (t .count)
+
+-- Q: the sum of all weights plus the sum of all leaves' longest packets
+unfoldable pub roundSize : Tree → ℕ
+roundSize t = sizeOf (allWeights t) (allLongest t)

@@ -1,0 +1,6 @@
+-- What a packet costs on the link, in bytes. Demands 2 and 3.
+use Prim.Native.Nat.{ℕ}
+
+-- its bare length
+unfoldable pub costOf : ℕ → ℕ
+costOf length = length

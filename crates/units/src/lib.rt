@@ -1,0 +1,72 @@
+// Weights and bytes as two types, and the only four places where they meet (document 01, "The class tree"); what a packet costs.
+// Serves demand 2: a share is never taken for a byte count.
+ghost use mathlib.Core.Path.{_≡_};
+ghost use Prim.Native.Nat.{_+_, _-_, _*_, _^_, _<_, _≤_};
+ghost use Rattle.units.specs.Unit.{dueOf, quotaOf, surplusOf, sizeOf};
+ghost use Rattle.units.specs.Cost.{costOf};
+
+// A class's share of its parent, or a sum of such shares: a bare number.
+pub struct Weight(pub u32);
+
+// Bytes: a balance, a residual, a round size, what a packet costs.
+pub struct Bytes(pub u64);
+
+impl Weight {
+    // Two shares together.
+    pub fn plus(self, other: Weight) -> Weight
+        requires { ⌜ self .0 + other .0 < 2 ^ 32 ⌝ }
+        ensures { λ r. ⌜ r .0 ≡ self .0 + other .0 ⌝ }
+    {
+        Weight(self.0 + other.0)
+    }
+}
+
+impl Bytes {
+    // Two byte counts together.
+    pub fn plus(self, other: Bytes) -> Bytes
+        requires { ⌜ self .0 + other .0 < 2 ^ 64 ⌝ }
+        ensures { λ r. ⌜ r .0 ≡ self .0 + other .0 ⌝ }
+    {
+        Bytes(self.0 + other.0)
+    }
+}
+
+// Weight times fair quota gives bytes.
+pub fn due(weight: Weight, quota: u64) -> Bytes
+    requires { ⌜ weight .0 * quota < 2 ^ 64 ⌝ }
+    ensures { λ r. ⌜ r .0 ≡ dueOf (weight .0) quota ⌝ }
+{
+    Bytes(weight.0 as u64 * quota)
+}
+
+// Balance over a weight sum, rounded down, gives a fair quota; 0 where the sum is 0.
+pub fn quota(balance: Bytes, sum: Weight) -> u64
+    ensures { λ r. ⌜ r ≡ quotaOf (balance .0) (sum .0) ⌝ }
+{
+    if sum.0 == 0 {
+        return 0;
+    }
+    balance.0 / sum.0 as u64
+}
+
+// The surplus test reads a weight sum as bytes.
+pub fn surplus(held: Bytes, sum: Weight) -> bool
+    ensures { λ r. ⌜ r ≡ surplusOf (held .0) (sum .0) ⌝ }
+{
+    sum.0 as u64 <= held.0
+}
+
+// The round size adds weights to bytes.
+pub fn size(weights: Weight, packets: Bytes) -> Bytes
+    requires { ⌜ weights .0 + packets .0 < 2 ^ 64 ⌝ }
+    ensures { λ r. ⌜ r .0 ≡ sizeOf (weights .0) (packets .0) ⌝ }
+{
+    Bytes(weights.0 as u64 + packets.0)
+}
+
+// What a packet of this length costs: the one way from a length to bytes.
+pub fn cost(length: u16) -> Bytes
+    ensures { λ r. ⌜ r .0 ≡ costOf length ⌝ }
+{
+    Bytes(length as u64)
+}
