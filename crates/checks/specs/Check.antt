@@ -15,6 +15,11 @@ abbrev pub placeOf : Verdict → ℕ
 placeOf Passed = 0
 placeOf (Refused n p) = p
 
+-- whether all passed
+abbrev pub passed : Verdict → Bool
+passed Passed = true
+passed (Refused n p) = false
+
 -- a row of the table: whether it is broken here, its number, and the place it names
 pub record Check : Type 0 where
   pub broken : Bool

@@ -1,0 +1,3 @@
+pub mod Records
+pub mod EventLaws
+pub mod Reading

@@ -1,0 +1,312 @@
+-- Laws of the reader's definition: one record, the records passed over, and the record that decides. Demand 1.
+use mathlib.Core.Bool.{Bool, true, false, cond, _&&_, not}
+use mathlib.Core.List.{List, [], _∷_, _++_}
+use mathlib.Core.Path.{_≡_, refl, sym, ap, _∙_}
+use Prim.Native.Nat.{ℕ, zero, suc, _+_, _-_, _≤_, _<_}
+use native.Mathlib.Decide.{decLt, ℕ-discrete}
+use native.Mathlib.Numerals.{add-one}
+use native.Mathlib.Omega.{arith}
+use lib.Dec.{eqb}
+use lib.ListN.{length, take, drop, length-drop}
+use lib.Seq.{take-all}
+use borrow.Author.Count.{below-more}
+use borrow.Author.Tests.{eq-eqb, ne-eqb, eqb-false, ltb-false}
+use Rattle.checks.specs.declared.Verdict.{Verdict}
+use Rattle.checks.specs.declared.Verdict.the-variants.{Passed, Refused}
+use Rattle.checks.specs.Check.{Check, check, firstBroken, passed}
+use Rattle.checks.proofs.Laws.{not-both, not-true-and-false, decides, pass-over, passed-parts, after-passed, refused-before, none-broken}
+use Rattle.tree.specs.declared.Tree.{Tree}
+use Rattle.tree.specs.declared.Class.{Class}
+use Rattle.tree.specs.Class.{noTree, added}
+use Rattle.tree.specs.Rules.{tooMany, classChecks, closingChecks, ClassesPass, Light}
+use Rattle.tree.proofs.Classes.{both-true, class-passed}
+use Rattle.tree.proofs.Rules.{weight-range}
+use Rattle.tree.proofs.Growth.{Grown, Proper, none-grown, added-grown, classes-kept, none-pass}
+use Rattle.plan.specs.declared.Next.{Next}
+use Rattle.plan.specs.declared.Next.the-variants.{Stop, Ended, Onward}
+use Rattle.plan.specs.declared.Part.the-variants.{Plan}
+use Rattle.plan.specs.Kind.{bodyLength, givesClass, givesLeaf}
+use Rattle.plan.specs.Record.{kindAt, missing, unknown, cut, bodyOf, innerClass, leafClass, classAt}
+use Rattle.plan.specs.Reader.{newClassChecks, recordChecks, after, treeOf, checksOf, passes, inRow, passedOver, decidingChecks, outcome, planOf}
+use Rattle.plan.specs.Steps.{ClassSays, WholeSays, StepSays}
+
+-- ---- one record
+
+-- the rest of the input, as a part of it
+pub rest-part : (s : List ℕ) (place : ℕ) → take (length s - place) (drop place s) ≡ drop place s
+rest-part s place = take-all (length s - place) (drop place s) (omega (arith, length-drop place s))
+
+-- the checks of a record, by the rows of its head
+module _ (s : List ℕ) (place : ℕ) (t : Tree) where
+  pub record-missing : missing (drop place s) ≡ true → firstBroken (recordChecks s place t) ≡ Refused 1 (length s)
+  unfolding recordChecks
+  record-missing e = decides (check 1 (missing (drop place s)) (length s)) _ e
+
+  pub record-unknown : missing (drop place s) ≡ false → unknown Plan (drop place s) ≡ true → firstBroken (recordChecks s place t) ≡ Refused 2 place
+  unfolding recordChecks
+  record-unknown e f =
+      pass-over (check 1 (missing (drop place s)) (length s)) _ e ∙ decides (check 2 (unknown Plan (drop place s)) place) _ f
+
+  pub record-cut : missing (drop place s) ≡ false → unknown Plan (drop place s) ≡ false → cut (drop place s) ≡ true
+      → firstBroken (recordChecks s place t) ≡ Refused 1 place
+  unfolding recordChecks
+  record-cut e f g =
+      pass-over (check 1 (missing (drop place s)) (length s)) _ e
+      ∙ pass-over (check 2 (unknown Plan (drop place s)) place) _ f
+      ∙ decides (check 1 (cut (drop place s)) place) _ g
+
+  -- a whole record: what is left are the checks of its class
+  pub record-whole : missing (drop place s) ≡ false → unknown Plan (drop place s) ≡ false → cut (drop place s) ≡ false
+      → firstBroken (recordChecks s place t)
+      ≡ firstBroken (cond (givesClass (kindAt (drop place s))) (newClassChecks (added t (classAt (drop place s))) place) [])
+  unfolding recordChecks
+  record-whole e f g =
+      pass-over (check 1 (missing (drop place s)) (length s)) _ e
+      ∙ pass-over (check 2 (unknown Plan (drop place s)) place) _ f
+      ∙ pass-over (check 1 (cut (drop place s)) place) _ g
+
+  pub record-class : missing (drop place s) ≡ false → unknown Plan (drop place s) ≡ false → cut (drop place s) ≡ false
+      → givesClass (kindAt (drop place s)) ≡ true
+      → firstBroken (recordChecks s place t) ≡ firstBroken (newClassChecks (added t (classAt (drop place s))) place)
+  record-class e f g h =
+      record-whole e f g
+      ∙ ap (λ (b : Bool). firstBroken (cond b (newClassChecks (added t (classAt (drop place s))) place) [])) h
+
+  pub record-end : missing (drop place s) ≡ false → unknown Plan (drop place s) ≡ false → cut (drop place s) ≡ false
+      → givesClass (kindAt (drop place s)) ≡ false → firstBroken (recordChecks s place t) ≡ Passed
+  record-end e f g h =
+      record-whole e f g
+      ∙ ap (λ (b : Bool). firstBroken (cond b (newClassChecks (added t (classAt (drop place s))) place) [])) h
+      ∙ none-broken
+
+-- what a class that was put to the tree says of its record
+pub class-to-whole : (rest : List ℕ) (place to : ℕ) (t t′ : Tree) (next : Next) → givesClass (kindAt rest) ≡ true
+    → to ≡ place + 1 + bodyLength (kindAt rest) → to ≤ place + length rest → ClassSays t (classAt rest) place to t′ next → WholeSays rest place t t′ next
+class-to-whole rest place to t t′ (Stop n p) g e u h = (g, h)
+class-to-whole rest place to t t′ Ended g e u h = absurd h
+class-to-whole rest place to t t′ (Onward next) g e u h = (g, h .0, h .1 ∙ e, omega (arith, h .1), h .2)
+
+-- and what a whole record says of the input
+pub whole-to-step : (s : List ℕ) (place : ℕ) (t t′ : Tree) (next : Next) → place ≤ length s
+    → missing (drop place s) ≡ false → unknown Plan (drop place s) ≡ false → cut (drop place s) ≡ false → 1 ≤ length (drop place s)
+    → WholeSays (drop place s) place t t′ next → StepSays s place t t′ next
+whole-to-step s place t t′ (Stop n p) u e f g l h = record-class s place t e f g (h .0) ∙ h .1
+whole-to-step s place t t′ Ended u e f g l h = (record-end s place t e f g h, h, omega (arith, length-drop place s))
+whole-to-step s place t t′ (Onward next) u e f g l h =
+    (record-class s place t e f g (h .0) ∙ h .1, h .0, h .2, omega (arith, h .3, length-drop place s), h .4)
+
+-- ---- the records passed over
+
+pub after-next : (s : List ℕ) (k : ℕ) → after s (k + 1) ≡ after s k + 1 + bodyLength (kindAt (drop (after s k) s))
+unfolding after
+after-next s k = rw (add-one k)
+
+pub tree-next : (s : List ℕ) (k : ℕ) → treeOf s (k + 1) ≡ added (treeOf s k) (classAt (drop (after s k) s))
+unfolding treeOf
+tree-next s k = rw (add-one k)
+
+pub tree-count : (s : List ℕ) (k : ℕ) → treeOf s k .count ≡ k
+unfolding treeOf
+tree-count s zero = refl
+tree-count s (suc k) = omega (arith, tree-count s k)
+
+pub pass-yes : (s : List ℕ) (k : ℕ) → givesClass (kindAt (drop (after s k) s)) ≡ true → firstBroken (checksOf s k) ≡ Passed → passes s k ≡ true
+unfolding passes
+pass-yes s k g e = rw (g, e)
+
+pub pass-parts : (s : List ℕ) (k : ℕ) → passes s k ≡ true → (givesClass (kindAt (drop (after s k) s)) ≡ true) × (firstBroken (checksOf s k) ≡ Passed)
+unfolding passes
+pass-parts s k e =
+    let h = both-true (givesClass (kindAt (drop (after s k) s))) (passed (firstBroken (checksOf s k))) e in
+    (h .0, is-passed (firstBroken (checksOf s k)) (h .1))
+  where
+    is-passed : (v : Verdict) → passed v ≡ true → v ≡ Passed
+    is-passed Passed e = refl
+    is-passed (Refused n p) e = absurd (not-true-and-false e refl)
+
+pub pass-no-class : (s : List ℕ) (k : ℕ) → givesClass (kindAt (drop (after s k) s)) ≡ false → passes s k ≡ false
+unfolding passes
+pass-no-class s k g = rw g
+
+pub pass-refused : (s : List ℕ) (k : ℕ) {n p : ℕ} → firstBroken (checksOf s k) ≡ Refused n p → passes s k ≡ false
+unfolding passes
+pass-refused s k e = rw e (and-no (givesClass (kindAt (drop (after s k) s))))
+  where
+    and-no : (b : Bool) → (b && false) ≡ false
+    and-no true = refl
+    and-no false = refl
+
+-- a record that passes breaks no row of its head, and its class none of the rows 3 to 6
+pub record Taken (s : List ℕ) (k : ℕ) (t : Tree) : Type 0 where
+  pub there : missing (drop (after s k) s) ≡ false
+  pub known : unknown Plan (drop (after s k) s) ≡ false
+  pub whole : cut (drop (after s k) s) ≡ false
+  pub few : tooMany t ≡ false
+  pub rows : firstBroken (classChecks t (t .count) (after s k)) ≡ Passed
+
+pub taken : (s : List ℕ) (k : ℕ) → passes s k ≡ true → Taken s k (added (treeOf s k) (classAt (drop (after s k) s)))
+unfolding recordChecks
+taken s k e =
+    let h = pass-parts s k e in
+    let a = passed-parts (check 1 (missing (drop (after s k) s)) (length s)) _ (h .1) in
+    let b = passed-parts (check 2 (unknown Plan (drop (after s k) s)) (after s k)) _ (a .1) in
+    let d = passed-parts (check 1 (cut (drop (after s k) s)) (after s k)) _ (b .1) in
+    let t = added (treeOf s k) (classAt (drop (after s k) s)) in
+    let f : firstBroken (newClassChecks t (after s k)) ≡ Passed =
+    sym (record-class s (after s k) (treeOf s k) (a .0) (b .0) (d .0) (h .0)) ∙ h .1
+    in
+    let g = passed-parts (check 3 (tooMany t) (after s k)) _ f in
+    record { there = a .0; known = b .0; whole = d .0; few = g .0; rows = g .1 }
+
+-- so a 64th class record does not pass
+pub room-left : (s : List ℕ) (k : ℕ) → passes s k ≡ true → k < 63
+unfolding tooMany
+room-left s k e =
+    omega (arith, tree-count s k, ltb-false 63 (treeOf s k .count + 1) (taken s k e .few))
+
+-- the tree of records that pass: no class breaks rows 4, 5 and 6
+pub tree-passes : (s : List ℕ) (k : ℕ) → ((j : ℕ) → j < k → passes s j ≡ true) → ClassesPass (treeOf s k)
+unfolding treeOf
+tree-passes s zero h = none-pass
+tree-passes s (suc k) h =
+    let t = treeOf s k in
+    let c = classAt (drop (after s k) s) in
+    let r = class-passed (added t c) (t .count + 1) (after s k) (taken s k (h k (omega arith)) .rows) in
+    classes-kept t c (tree-passes s k (λ j u. h j (omega arith))) (r .0) (r .1) (r .2)
+
+pub tree-light : (s : List ℕ) (k : ℕ) → k ≤ 63 → ((j : ℕ) → j < k → passes s j ≡ true) → Light (treeOf s k)
+tree-light s k u h = record {
+  few = omega (arith, tree-count s k);
+  light = λ i is. weight-range (treeOf s k) i (tree-passes s k h .weights i is) .1;
+}
+
+-- and what no record sets is 0
+pub class-proper : (rest : List ℕ) → Proper (classAt rest)
+unfolding classAt
+class-proper rest = go (givesLeaf (kindAt rest))
+  where
+    go : (b : Bool) → Proper (cond b (leafClass (bodyOf rest)) (innerClass (bodyOf rest)))
+    go true = λ e. absurd (not-true-and-false refl e)
+    go false = λ e. refl
+
+pub tree-grown : (s : List ℕ) (k : ℕ) → k ≤ 63 → Grown (treeOf s k)
+unfolding treeOf
+tree-grown s zero u = none-grown
+tree-grown s (suc k) u =
+    added-grown (treeOf s k) _ (tree-grown s k (omega arith)) (omega (arith, tree-count s k)) (class-proper (drop (after s k) s))
+
+-- ---- the record that decides
+
+pub row-all : (f : ℕ → Bool) (n : ℕ) → ((j : ℕ) → j < n → f j ≡ true) → inRow f n ≡ n
+unfolding inRow
+row-all f zero h = refl
+row-all f (suc n) h = rw (eq-eqb (inRow f n) n (row-all f n (λ j u. h j (omega arith))), h n (omega arith))
+
+pub row-stops : (f : ℕ → Bool) (n k : ℕ) → k < n → ((j : ℕ) → j < k → f j ≡ true) → f k ≡ false → inRow f n ≡ k
+unfolding inRow
+row-stops f zero k u h e = absurd (omega arith)
+row-stops f (suc n) k u h e = go (decLt k n) (λ l. row-stops f n k l h e)
+  where
+    go : Dec (k < n) → (k < n → inRow f n ≡ k) → cond (eqb (inRow f n) n && f n) (suc n) (inRow f n) ≡ k
+    go (yes l) ih =
+        let here = ih l in
+        rw (ne-eqb (inRow f n) n (λ z. omega arith)) here
+    go (no l) ih =
+        let is : n ≡ k = omega arith in
+        let all : inRow f n ≡ n = row-all f n (λ j u. h j (omega arith)) in
+        let off : f n ≡ false = rw is e in
+        rw (eq-eqb (inRow f n) n all, off) (all ∙ is)
+
+-- how many records are passed over
+pub passed-over : (s : List ℕ) (k : ℕ) → k ≤ 63 → ((j : ℕ) → j < k → passes s j ≡ true) → passes s k ≡ false → passedOver s ≡ k
+unfolding passedOver
+passed-over s k u h e = go (decLt k 63)
+  where
+    go : Dec (k < 63) → inRow (passes s) 63 ≡ k
+    go (yes l) = row-stops (passes s) 63 k l h e
+    go (no l) =
+        let is : k ≡ 63 = omega arith in
+        row-all (passes s) 63 (λ j v. h j (omega arith)) ∙ sym is
+
+module _ (s : List ℕ) (k : ℕ) (most : k ≤ 63) (below : (j : ℕ) → j < k → passes s j ≡ true) where
+  pub plan-decided : passes s k ≡ false → planOf s ≡ outcome (firstBroken (decidingChecks s k)) (treeOf s k) (after s k + 1)
+  unfolding planOf
+  plan-decided e = rw (passed-over s k most below e)
+
+  -- refused by a check of the record
+  pub plan-refused : {n p : ℕ} → firstBroken (checksOf s k) ≡ Refused n p → planOf s ≡ outcome (Refused n p) noTree 0
+  unfolding decidingChecks
+  plan-refused {n} {p} e =
+      plan-decided (pass-refused s k e)
+      ∙ ap (λ (v : Verdict). outcome v (treeOf s k) (after s k + 1)) (refused-before (checksOf s k) (closingChecks (treeOf s k)) e)
+
+  -- the end record: what the closing checks say
+  pub plan-ended : firstBroken (checksOf s k) ≡ Passed → givesClass (kindAt (drop (after s k) s)) ≡ false
+      → planOf s ≡ outcome (firstBroken (closingChecks (treeOf s k))) (treeOf s k) (after s k + 1)
+  unfolding decidingChecks
+  plan-ended e g =
+      plan-decided (pass-no-class s k g)
+      ∙ ap (λ (v : Verdict). outcome v (treeOf s k) (after s k + 1)) (after-passed (checksOf s k) (closingChecks (treeOf s k)) e)
+
+-- ---- the reader's state: some class records read, all of which pass
+
+pub record ReadTo (s : List ℕ) (t : Tree) (place : ℕ) : Type 0 where
+  pub tree : t ≡ treeOf s (t .count)
+  pub at : place ≡ after s (t .count)
+  pub most : t .count ≤ 63
+  pub within : place ≤ length s
+  pub below : (j : ℕ) → j < t .count → passes s j ≡ true
+
+pub read-none : (s : List ℕ) → ReadTo s noTree 0
+unfolding treeOf after
+read-none s = record { tree = refl; at = refl; most = omega arith; within = omega arith; below = λ j u. absurd (omega arith) }
+
+module _ (s : List ℕ) (t : Tree) (place : ℕ) (r : ReadTo s t place) where
+  -- the checks of the record there are those of the definition
+  same-checks : recordChecks s place t ≡ checksOf s (t .count)
+  same-checks =
+      ap (λ (p : ℕ). recordChecks s p t) (r .at) ∙ ap (λ (x : Tree). recordChecks s (after s (t .count)) x) (r .tree)
+
+  same-rest : drop place s ≡ drop (after s (t .count)) s
+  same-rest = ap (λ (p : ℕ). drop p s) (r .at)
+
+  pub read-stop : {n p : ℕ} → firstBroken (recordChecks s place t) ≡ Refused n p → planOf s ≡ outcome (Refused n p) noTree 0
+  read-stop e = plan-refused s (t .count) (r .most) (r .below) (ap firstBroken (sym same-checks) ∙ e)
+
+  pub read-end : firstBroken (recordChecks s place t) ≡ Passed → givesClass (kindAt (drop place s)) ≡ false
+      → planOf s ≡ outcome (firstBroken (closingChecks t)) t (place + 1)
+  read-end e g =
+      plan-ended s (t .count) (r .most) (r .below) (ap firstBroken (sym same-checks) ∙ e) (ap (λ (x : List ℕ). givesClass (kindAt x)) (sym same-rest) ∙ g)
+      ∙ ap (λ (x : Tree). outcome (firstBroken (closingChecks x)) x (after s (t .count) + 1)) (sym (r .tree))
+      ∙ ap (λ (p : ℕ). outcome (firstBroken (closingChecks t)) t (p + 1)) (sym (r .at))
+
+  pub read-light : Light t
+  read-light = rw (r .tree) (tree-light s (t .count) (r .most) (r .below))
+
+  pub read-onward : {next : ℕ} {t′ : Tree} → StepSays s place t t′ (Onward next) → (t′ .count ≡ t .count + 1) × ReadTo s t′ next
+  read-onward {next} {t′} h =
+      let here : passes s (t .count) ≡ true =
+      pass-yes s (t .count) (ap (λ (x : List ℕ). givesClass (kindAt x)) (sym same-rest) ∙ h .1) (ap firstBroken (sym same-checks) ∙ h .0)
+      in
+      let more : t′ .count ≡ t .count + 1 = ap (λ (x : Tree). x .count) (h .4) in
+      let grown : t′ ≡ treeOf s (t .count + 1) =
+      h .4
+      ∙ ap (λ (x : List ℕ). added t (classAt x)) same-rest
+      ∙ ap (λ (x : Tree). added x (classAt (drop (after s (t .count)) s))) (r .tree)
+      ∙ sym (tree-next s (t .count))
+      in
+      let on : next ≡ after s (t .count + 1) =
+      h .2
+      ∙ ap (λ (x : List ℕ). place + 1 + bodyLength (kindAt x)) same-rest
+      ∙ ap (λ (p : ℕ). p + 1 + bodyLength (kindAt (drop (after s (t .count)) s))) (r .at)
+      ∙ sym (after-next s (t .count))
+      in (
+        more,
+        record {
+          tree = grown ∙ ap (treeOf s) (sym more);
+          at = on ∙ ap (after s) (sym more);
+          most = omega (arith, more, room-left s (t .count) here);
+          within = h .3;
+          below = λ j u. below-more (λ (k : ℕ). passes s k ≡ true) (t .count) (r .below) here j (omega (arith, more));
+        },
+      )

@@ -1,0 +1,72 @@
+-- What the reader says of any bytes: class records and one end record, checked in the order of document 01. Demand 1.
+use mathlib.Core.Bool.{Bool, true, false, cond, _&&_}
+use mathlib.Core.List.{List, [], _∷_, _++_}
+use Prim.Native.Nat.{ℕ, zero, suc, _+_}
+use lib.Dec.{eqb}
+use lib.ListN.{length, drop}
+use Rattle.checks.specs.declared.Verdict.{Verdict}
+use Rattle.checks.specs.declared.Verdict.the-variants.{Passed, Refused}
+use Rattle.checks.specs.Check.{Check, check, firstBroken, passed}
+use Rattle.tree.specs.declared.Tree.{Tree}
+use Rattle.tree.specs.Class.{noTree, added}
+use Rattle.tree.specs.Rules.{tooMany, classChecks, closingChecks}
+use Rattle.plan.specs.declared.PlanRead.{PlanRead}
+use Rattle.plan.specs.declared.Part.the-variants.{Plan}
+use Rattle.plan.specs.Kind.{bodyLength, givesClass}
+use Rattle.plan.specs.Record.{kindAt, missing, unknown, cut, classAt}
+
+-- the record at a place is checked in the order 2, 1, 3, 4, 5, 6; a missing kind byte is 1, at the input's length
+abbrev pub headChecks : List ℕ → ℕ → List Check
+headChecks input place =
+    let rest = drop place input in
+    check 1 (missing rest) (length input) ∷ check 2 (unknown Plan rest) place ∷ check 1 (cut rest) place ∷ []
+
+-- t is the tree with the class that the record gives, its last
+abbrev pub newClassChecks : Tree → ℕ → List Check
+newClassChecks t place = check 3 (tooMany t) place ∷ classChecks t (t .count) place
+
+unfoldable pub recordChecks : List ℕ → ℕ → Tree → List Check
+recordChecks input place tree =
+    let rest = drop place input in
+    headChecks input place ++ cond (givesClass (kindAt rest)) (newClassChecks (added tree (classAt rest)) place) []
+
+-- the first byte after the first k records
+unfoldable pub after : List ℕ → ℕ → ℕ
+after input zero = 0
+after input (suc k) = after input k + 1 + bodyLength (kindAt (drop (after input k) input))
+
+-- the tree of the first k class records: the classes 1 to k, in plan order
+unfoldable pub treeOf : List ℕ → ℕ → Tree
+treeOf input zero = noTree
+treeOf input (suc k) = added (treeOf input k) (classAt (drop (after input k) input))
+
+-- the checks of the record after the first k class records
+abbrev pub checksOf : List ℕ → ℕ → List Check
+checksOf input k = recordChecks input (after input k) (treeOf input k)
+
+-- that record gives a class and breaks no rule
+unfoldable pub passes : List ℕ → ℕ → Bool
+passes input k = givesClass (kindAt (drop (after input k) input)) && passed (firstBroken (checksOf input k))
+
+-- how many of f 0, f 1, .. f (n - 1) hold in a row, from f 0 on
+unfoldable pub inRow : (ℕ → Bool) → ℕ → ℕ
+inRow f zero = 0
+inRow f (suc n) = let k = inRow f n in cond (eqb k n && f n) (suc n) k
+
+-- how many class records are passed over; the record after them decides
+unfoldable pub passedOver : List ℕ → ℕ
+passedOver input = inRow (passes input) 63
+
+-- its checks, and after the end record the closing ones
+unfoldable pub decidingChecks : List ℕ → ℕ → List Check
+decidingChecks input k = checksOf input k ++ closingChecks (treeOf input k)
+
+-- an accepted plan gives its tree and the bytes used; a refused one number, place, 0 bytes used and the tree without classes
+abbrev pub outcome : Verdict → Tree → ℕ → PlanRead
+outcome Passed tree used = record { verdict = Passed; used = used; tree = tree }
+outcome (Refused n p) tree used = record { verdict = Refused n p; used = 0; tree = noTree }
+
+unfoldable pub planOf : List ℕ → PlanRead
+planOf input =
+    let k = passedOver input in
+    outcome (firstBroken (decidingChecks input k)) (treeOf input k) (after input k + 1)

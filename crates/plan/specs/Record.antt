@@ -1,0 +1,56 @@
+-- One record: one byte of kind, then a body whose length the kind fixes (document 01, "The plan's bytes"). Demand 1.
+-- A record is read off the rest of the input, which begins with the record's first byte.
+use mathlib.Core.Bool.{Bool, true, false, cond, not}
+use mathlib.Core.List.{List}
+use Prim.Native.Nat.{ℕ, _+_, _*_}
+use lib.Dec.{eqb, ltb}
+use lib.ListN.{length, getD, take, drop}
+use Rattle.units.specs.declared.Weight.{Weight}
+use Rattle.tree.specs.declared.Class.{Class}
+use Rattle.plan.specs.declared.Kind.{Kind}
+use Rattle.plan.specs.declared.Part.{Part}
+use Rattle.plan.specs.Kind.{kindOf, bodyLength, standsIn, givesLeaf}
+
+-- numbers are big-endian
+abbrev pub byteAt : List ℕ → ℕ → ℕ
+byteAt s k = getD s k 0
+
+abbrev pub number16 : List ℕ → ℕ → ℕ
+number16 s k = byteAt s k * 256 + byteAt s (k + 1)
+
+abbrev pub number32 : List ℕ → ℕ → ℕ
+number32 s k = byteAt s k * 16_777_216 + byteAt s (k + 1) * 65_536 + byteAt s (k + 2) * 256 + byteAt s (k + 3)
+
+-- the kind of the record
+unfoldable pub kindAt : List ℕ → Kind
+kindAt rest = kindOf (byteAt rest 0)
+
+-- 1: the input ends before the kind byte
+unfoldable pub missing : List ℕ → Bool
+missing rest = eqb (length rest) 0
+
+-- 2: unknown kind
+unfoldable pub unknown : Part → List ℕ → Bool
+unknown part rest = not (standsIn part (kindAt rest))
+
+-- 1: the input ends inside the body
+unfoldable pub cut : List ℕ → Bool
+cut rest = ltb (length rest) (1 + bodyLength (kindAt rest))
+
+-- the body is the part after the kind byte
+unfoldable pub bodyOf : List ℕ → List ℕ
+bodyOf rest = take (bodyLength (kindAt rest)) (drop 1 rest)
+
+-- the class of a body: parent 1, weight 4, and of a leaf longest 2
+abbrev pub innerClass : List ℕ → Class
+innerClass body = record { parent = byteAt body 0; weight = record { 0 = number32 body 1 }; longest = 0; leaf = false }
+
+abbrev pub leafClass : List ℕ → Class
+leafClass body = record { parent = byteAt body 0; weight = record { 0 = number32 body 1 }; longest = number16 body 5; leaf = true }
+
+abbrev pub classOf : Kind → List ℕ → Class
+classOf kind body = cond (givesLeaf kind) (leafClass body) (innerClass body)
+
+-- the class that a class record gives
+unfoldable pub classAt : List ℕ → Class
+classAt rest = classOf (kindAt rest) (bodyOf rest)
