@@ -2,13 +2,13 @@
 use mathlib.Core.Bool.{Bool, true, false}
 use mathlib.Core.List.{List, [], _∷_, _++_}
 use mathlib.Core.Logic.{_⊎_, inl, inr}
-use mathlib.Core.Path.{_≡_, refl, sym, ap, _∙_}
-use Prim.Native.Nat.{ℕ, zero, suc, _+_, _-_, _≤_, _<_}
+use mathlib.Core.Path.{_≡_, refl, sym, _∙_}
+use Prim.Native.Nat.{ℕ, zero, suc, _+_, _≤_, _<_}
 use native.Mathlib.Decide.{decLe}
 use native.Mathlib.Omega.{arith}
 use Rattle.checks.specs.declared.Verdict.{Verdict}
 use Rattle.checks.specs.declared.Verdict.the-variants.{Passed, Refused}
-use Rattle.checks.specs.Check.{Check, check, firstBroken, classByClass, Exactly}
+use Rattle.checks.specs.Check.{Check, firstBroken, classByClass, Exactly}
 
 -- a verdict is one or the other, and not both
 pub not-both : {v : Verdict} {n p : ℕ} → v ≡ Passed → v ≡ Refused n p → ⊥
@@ -53,6 +53,13 @@ refused-before (c ∷ xs) ys {n} {p} e = go (c .broken) refl (λ h. refused-befo
     go : (b : Bool) → c .broken ≡ b → (firstBroken xs ≡ Refused n p → firstBroken (xs ++ ys) ≡ Refused n p) → firstBroken (c ∷ xs ++ ys) ≡ Refused n p
     go true h ih = decides c (xs ++ ys) h ∙ sym (decides c xs h) ∙ e
     go false h ih = pass-over c (xs ++ ys) h ∙ ih (sym (pass-over c xs h) ∙ e)
+
+pub passed-both : (xs ys : List Check) → firstBroken (xs ++ ys) ≡ Passed → (firstBroken xs ≡ Passed) × (firstBroken ys ≡ Passed)
+passed-both [] ys e = (none-broken, e)
+passed-both (c ∷ xs) ys e =
+    let h = passed-parts c (xs ++ ys) e in
+    let r = passed-both xs ys (h .1) in
+    (pass-over c xs (h .0) ∙ r .0, r .1)
 
 -- the check that decides: broken, with no broken one before it
 pub data FirstBroken : List Check → ℕ → ℕ → Type 0 where
@@ -144,3 +151,12 @@ exactly-unique {a} {b} x y = go a b refl refl
     go true false e f = absurd (not-true-and-false (y .complete (x .sound e)) f)
     go false true e f = absurd (not-true-and-false (x .complete (y .sound f)) e)
     go false false e f = e ∙ sym f
+
+-- a refusal comes from the first check, or from one after it
+pub broken-or-later : (c : Check) (cs : List Check) {n p : ℕ} → firstBroken (c ∷ cs) ≡ Refused n p
+    → ((c .broken ≡ true) × (Refused (c .number) (c .place) ≡ Refused n p)) ⊎ ((c .broken ≡ false) × (firstBroken cs ≡ Refused n p))
+broken-or-later c cs {n} {p} e = go (c .broken) refl
+  where
+    go : (b : Bool) → c .broken ≡ b → ((c .broken ≡ true) × (Refused (c .number) (c .place) ≡ Refused n p)) ⊎ ((c .broken ≡ false) × (firstBroken cs ≡ Refused n p))
+    go true h = inl (h, sym (decides c cs h) ∙ e)
+    go false h = inr (h, sym (pass-over c cs h) ∙ e)

@@ -1,7 +1,7 @@
 -- Laws of the event reader's answer, one for each way a record can be.
 use mathlib.Core.Bool.{true, false}
 use mathlib.Core.List.{List}
-use mathlib.Core.Path.{_≡_, refl, sym, ap, _∙_}
+use mathlib.Core.Path.{_≡_}
 use Prim.Native.Nat.{ℕ}
 use Rattle.checks.specs.Check.{firstBroken}
 use Rattle.plan.specs.declared.EventRead.the-variants.{NoMore, Arrive, SendNext, Fault}

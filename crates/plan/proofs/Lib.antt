@@ -1,3 +1,4 @@
 pub mod Records
 pub mod EventLaws
 pub mod Reading
+pub mod Numbers

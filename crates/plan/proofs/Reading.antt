@@ -1,22 +1,21 @@
 -- Laws of the reader's definition: one record, the records passed over, and the record that decides. Demand 1.
-use mathlib.Core.Bool.{Bool, true, false, cond, _&&_, not}
-use mathlib.Core.List.{List, [], _∷_, _++_}
+use mathlib.Core.Bool.{Bool, true, false, cond, _&&_}
+use mathlib.Core.List.{List, []}
 use mathlib.Core.Path.{_≡_, refl, sym, ap, _∙_}
 use Prim.Native.Nat.{ℕ, zero, suc, _+_, _-_, _≤_, _<_}
-use native.Mathlib.Decide.{decLt, ℕ-discrete}
+use native.Mathlib.Decide.{decLt}
 use native.Mathlib.Numerals.{add-one}
 use native.Mathlib.Omega.{arith}
 use lib.Dec.{eqb}
 use lib.ListN.{length, take, drop, length-drop}
 use lib.Seq.{take-all}
 use borrow.Author.Count.{below-more}
-use borrow.Author.Tests.{eq-eqb, ne-eqb, eqb-false, ltb-false}
+use borrow.Author.Tests.{eq-eqb, ne-eqb, eqb-true, ltb-false}
 use Rattle.checks.specs.declared.Verdict.{Verdict}
 use Rattle.checks.specs.declared.Verdict.the-variants.{Passed, Refused}
-use Rattle.checks.specs.Check.{Check, check, firstBroken, passed}
-use Rattle.checks.proofs.Laws.{not-both, not-true-and-false, decides, pass-over, passed-parts, after-passed, refused-before, none-broken}
+use Rattle.checks.specs.Check.{check, firstBroken, passed}
+use Rattle.checks.proofs.Laws.{not-true-and-false, decides, pass-over, passed-parts, after-passed, refused-before, none-broken}
 use Rattle.tree.specs.declared.Tree.{Tree}
-use Rattle.tree.specs.declared.Class.{Class}
 use Rattle.tree.specs.Class.{noTree, added}
 use Rattle.tree.specs.Rules.{tooMany, classChecks, closingChecks, ClassesPass, Light}
 use Rattle.tree.proofs.Classes.{both-true, class-passed}
@@ -216,6 +215,35 @@ row-stops f (suc n) k u h e = go (decLt k n) (λ l. row-stops f n k l h e)
         let all : inRow f n ≡ n = row-all f n (λ j u. h j (omega arith)) in
         let off : f n ≡ false = rw is e in
         rw (eq-eqb (inRow f n) n all, off) (all ∙ is)
+
+-- what the number in a row says of f
+pub record RowOf (f : ℕ → Bool) (n k : ℕ) : Type 0 where
+  pub most : k ≤ n
+  pub below : (j : ℕ) → j < k → f j ≡ true
+  pub here : k < n → f k ≡ false
+
+pub row-of : (f : ℕ → Bool) (n : ℕ) → RowOf f n (inRow f n)
+unfolding inRow
+row-of f zero = record { most = omega arith; below = λ j u. absurd (omega arith); here = λ u. absurd (omega arith) }
+row-of f (suc n) = go (row-of f n) (eqb (inRow f n) n && f n) refl
+  where
+    go : RowOf f n (inRow f n) → (b : Bool) → (eqb (inRow f n) n && f n) ≡ b → RowOf f (suc n) (cond b (suc n) (inRow f n))
+    go ih true e =
+        let h = both-true (eqb (inRow f n) n) (f n) e in
+        let is = eqb-true (inRow f n) n (h .0) in
+        record {
+          most = omega arith;
+          below = λ j u. below-more (λ (i : ℕ). f i ≡ true) n (λ i v. ih .below i (omega arith)) (h .1) j (omega arith);
+          here = λ u. absurd (omega arith);
+        }
+    go ih false e = record { most = omega (arith, ih .most); below = ih .below; here = λ u. stop (decLt (inRow f n) n) }
+      where
+        stop : Dec (inRow f n < n) → f (inRow f n) ≡ false
+        stop (yes l) = ih .here l
+        stop (no l) =
+            let is : inRow f n ≡ n = omega (arith, ih .most) in
+            let off : f n ≡ false = rw (eq-eqb (inRow f n) n is) at e in
+            rw is off
 
 -- how many records are passed over
 pub passed-over : (s : List ℕ) (k : ℕ) → k ≤ 63 → ((j : ℕ) → j < k → passes s j ≡ true) → passes s k ≡ false → passedOver s ≡ k

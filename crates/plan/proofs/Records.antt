@@ -1,8 +1,8 @@
 -- Laws of records: the table of kinds, and what the head of a record says.
-use mathlib.Core.Bool.{Bool, true, false, not, cond}
-use mathlib.Core.List.{List, [], _∷_, _++_}
-use mathlib.Core.Path.{_≡_, refl, sym, ap, _∙_}
-use Prim.Native.Nat.{ℕ, zero, suc, _+_, _-_, _*_, _≤_, _<_, min}
+use mathlib.Core.Bool.{true, false}
+use mathlib.Core.List.{List}
+use mathlib.Core.Path.{_≡_, refl, ap, _∙_}
+use Prim.Native.Nat.{ℕ, _+_, _-_, _≤_}
 use native.Mathlib.Omega.{arith}
 use lib.ListN.{length, take, drop, length-take, length-drop}
 use borrow.Author.Tests.{ltb-false, eqb-false}
@@ -10,7 +10,7 @@ use Rattle.checks.proofs.Laws.{not-true-and-false}
 use Rattle.plan.specs.declared.Kind.{Kind}
 use Rattle.plan.specs.declared.Kind.the-variants.{End, Inner, Leaf, Arrival, Send, Unknown}
 use Rattle.plan.specs.Kind.{bodyLength, givesClass, givesLeaf, givesArrival}
-use Rattle.plan.specs.Record.{kindAt, missing, unknown, cut, bodyOf}
+use Rattle.plan.specs.Record.{kindAt, missing, cut, bodyOf}
 
 -- the body lengths of the table
 pub body-at-most : (k : Kind) → bodyLength k ≤ 7

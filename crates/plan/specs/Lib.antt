@@ -3,4 +3,5 @@ pub mod Kind
 pub mod Record
 pub mod Reader
 pub mod Event
+pub mod Rows
 pub mod Steps

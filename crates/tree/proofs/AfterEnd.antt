@@ -1,5 +1,5 @@
 -- The checks after the end record pass exactly where rows 9, 8 and 7 are broken nowhere. Demand 1.
-use mathlib.Core.Path.{_≡_, refl, sym, _∙_}
+use mathlib.Core.Path.{_≡_, _∙_}
 use Prim.Native.Nat.{ℕ, _≤_}
 use Rattle.checks.specs.Check.{firstBroken}
 use Rattle.checks.specs.declared.Verdict.the-variants.{Passed}

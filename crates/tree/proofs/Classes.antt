@@ -1,19 +1,15 @@
 -- Laws of a tree's classes: which numbers are classes, and what the plan rules say of one class.
-use mathlib.Core.Bool.{Bool, true, false, _&&_, _||_, not, cond}
-use mathlib.Core.Logic.{_⊎_, inl, inr}
-use mathlib.Core.Path.{_≡_, refl, sym, ap, _∙_}
-use Prim.Native.Nat.{ℕ, zero, suc, _+_, _-_, _*_, _≤_, _<_, zero-le}
-use native.Mathlib.Omega.{arith}
-use lib.Dec.{eqb, leb, ltb}
-use borrow.Author.Tests.{le-leb, lt-leb, leb-true, ltb-true, ltb-false, leb-false}
+use mathlib.Core.Bool.{Bool, true, false, _&&_, _||_, cond}
+use mathlib.Core.Path.{_≡_, refl}
+use Prim.Native.Nat.{ℕ, _≤_, _<_, zero-le}
+use lib.Dec.{leb}
+use borrow.Author.Tests.{le-leb, lt-leb, leb-true}
 use Rattle.tree.specs.declared.Tree.{Tree}
-use Rattle.tree.specs.Class.{parentOf, weightOf, longestOf, isClass, isLeaf, isInner, isChild, childWeight, childrenWeight, hasChild}
-use Rattle.checks.specs.Check.{Check, check, firstBroken}
+use Rattle.tree.specs.Class.{weightOf, isClass, isChild, childWeight}
+use Rattle.checks.specs.Check.{firstBroken}
 use Rattle.checks.specs.declared.Verdict.the-variants.{Passed}
 use Rattle.checks.proofs.Laws.{passed-parts}
 use Rattle.tree.specs.Rules.{badParent, badWeight, badLongest, childless, tooHeavy, classChecks, closingOf, Light}
-use Rattle.tree.specs.Sum.{sumTo}
-use Rattle.tree.proofs.Sums.{sum-bound}
 
 -- both tests, or one of them
 pub both-true : (a b : Bool) → (a && b) ≡ true → (a ≡ true) × (b ≡ true)

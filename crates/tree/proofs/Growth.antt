@@ -1,13 +1,13 @@
 -- A tree grown class by class: what a new class sets, what it leaves as it was, and that it breaks no rule of the others. Demand 1.
-use mathlib.Core.Bool.{Bool, true, false, cond, _||_, _&&_, not}
+use mathlib.Core.Bool.{Bool, true, false, cond}
 use mathlib.Core.Path.{_≡_, refl, sym, ap, _∙_}
-use Prim.Native.Nat.{ℕ, zero, suc, _+_, _-_, _≤_, _<_}
+use Prim.Native.Nat.{ℕ, _+_, _≤_, _<_}
 use native.Mathlib.Decide.{decLe, ℕ-discrete}
 use native.Mathlib.Omega.{arith}
-use lib.Dec.{leb, ltb}
-use lib.ListN.{length, getD, length-set, length-replicate, getD-replicate, List·getD-eq-default}
+use lib.Dec.{leb}
+use lib.ListN.{length, length-set, length-replicate, getD-replicate}
 use lib.Seq.{getD-set-same, getD-set-other}
-use borrow.Author.Tests.{leb-false, lt-leb}
+use borrow.Author.Tests.{leb-false}
 use Rattle.checks.proofs.Laws.{not-true-and-false}
 use Rattle.sets.specs.Set.{has, with}
 use Rattle.sets.proofs.Laws.{has-with-same, has-with-other, has-empty}
@@ -15,7 +15,7 @@ use Rattle.units.specs.declared.Weight.{Weight}
 use Rattle.tree.specs.declared.Tree.{Tree}
 use Rattle.tree.specs.declared.Class.{Class}
 use Rattle.tree.specs.Class.{noTree, noWeight, added, parentOf, weightOf, longestOf, isClass, isLeaf}
-use Rattle.tree.specs.Rules.{badParent, badWeight, badLongest, ClassesPass, NothingSet, UnsetIsZero}
+use Rattle.tree.specs.Rules.{badParent, badWeight, badLongest, ClassesPass, UnsetIsZero}
 use Rattle.tree.proofs.Classes.{neither-true, class-in, class-range, class-past}
 
 -- what the other classes have stays

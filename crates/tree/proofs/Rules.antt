@@ -1,11 +1,10 @@
 -- What the plan rules say of a class, and the ceiling of the round size. Demands 1 and 3.
-use mathlib.Core.Bool.{Bool, true, false, _&&_, _||_, not, cond}
-use mathlib.Core.Path.{_≡_, refl, sym, ap, _∙_}
-use Prim.Native.Nat.{ℕ, zero, suc, _+_, _-_, _*_, _≤_, _<_, zero-le}
-use native.Mathlib.Nat.{mul-le-mul-right}
+use mathlib.Core.Bool.{Bool, true, false, cond}
+use mathlib.Core.Path.{_≡_, refl}
+use Prim.Native.Nat.{ℕ, _≤_, _<_, zero-le}
 use native.Mathlib.Omega.{arith}
-use lib.Dec.{eqb, leb, ltb}
-use borrow.Author.Tests.{le-leb, lt-leb, leb-true, ltb-true, ltb-false, leb-false, eqb-false}
+use lib.Dec.{leb, ltb}
+use borrow.Author.Tests.{ltb-false, leb-false, eqb-false}
 use Rattle.units.specs.Cost.{costOf}
 use Rattle.units.proofs.Laws.{cost-ceiling}
 use Rattle.tree.specs.declared.Tree.{Tree}

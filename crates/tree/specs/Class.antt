@@ -1,6 +1,5 @@
 -- The classes of a tree (document 01, "The class tree"): class 0 is the root, the others are numbered 1, 2, .. in plan order. Demands 1 to 3.
-use mathlib.Core.Bool.{Bool, true, false, cond, _&&_, not}
-use mathlib.Core.List.{List}
+use mathlib.Core.Bool.{Bool, cond, _&&_, not}
 use Prim.Native.Nat.{ℕ, _+_}
 use lib.Dec.{eqb, leb}
 use lib.ListN.{getD, set, replicate}

@@ -1,5 +1,5 @@
 -- Sums and searches over the classes 1, 2, .. n. Demands 1 to 3.
-use mathlib.Core.Bool.{Bool, true, false, _||_}
+use mathlib.Core.Bool.{Bool, false, _||_}
 use Prim.Native.Nat.{ℕ, zero, suc, _+_}
 
 -- f 1 + f 2 + .. + f n

@@ -1,6 +1,5 @@
 -- All that other proofs use of a packet's cost: it is at least 1, grows with the length, and is bounded over the lengths of a plan.
 use Prim.Native.Nat.{ℕ, _≤_}
-use native.Mathlib.Omega.{arith}
 use Rattle.units.specs.Cost.{costOf}
 
 pub cost-positive : (n : ℕ) → 1 ≤ n → 1 ≤ costOf n

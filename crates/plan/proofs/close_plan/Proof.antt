@@ -1,6 +1,4 @@
 -- `plan::close_plan` meets its contract.
-use mathlib.Core.Path.{_≡_, sym, _∙_}
-use Rattle.plan.specs.Reader.{outcome}
 use borrow.Author.Needs.{needs}
 use Rattle.plan.proofs.close_plan.Statement.{statement}
 use Rattle.plan.proofs.close_plan.Tie as tie

@@ -1,5 +1,5 @@
 -- `plan::read_class` meets its contract.
-use mathlib.Core.Path.{_≡_, sym, _∙_}
+use mathlib.Core.Path.{sym, _∙_}
 use Rattle.plan.proofs.Records.{leaf-body, inner-body}
 use borrow.Author.Needs.{needs}
 use Rattle.plan.proofs.read_class.Statement.{statement}

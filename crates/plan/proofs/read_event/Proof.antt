@@ -1,5 +1,5 @@
 -- `plan::read_event` meets its contract.
-use mathlib.Core.Path.{_≡_, sym, _∙_}
+use mathlib.Core.Path.{sym, _∙_}
 use Rattle.plan.proofs.EventLaws.{event-end, event-unknown, event-cut, event-whole}
 use borrow.Author.Needs.{needs}
 use Rattle.plan.proofs.read_event.Statement.{statement}

@@ -1,7 +1,6 @@
 -- `plan::read_head` meets its contract.
-use mathlib.Core.Path.{_≡_, sym, _∙_}
 use native.Mathlib.Omega.{arith}
-use borrow.Author.Tests.{eq-eqb, ne-eqb, lt-ltb, le-ltb, not-false}
+use borrow.Author.Tests.{eq-eqb, ne-eqb, lt-ltb, le-ltb}
 use Rattle.plan.specs.Record.{kindAt, missing, unknown, cut}
 use Rattle.plan.proofs.Records.{body-at-most}
 use borrow.Author.Needs.{needs}

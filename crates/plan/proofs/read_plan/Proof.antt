@@ -1,8 +1,7 @@
 -- `plan::read_plan` meets its contract: the answer is the one the rules give, for any bytes.
-use mathlib.Core.Path.{_≡_, sym, ap, _∙_}
-use Prim.Native.Nat.{ℕ, _-_, _+_, _≤_}
+use mathlib.Core.Path.{sym, _∙_}
+use Prim.Native.Nat.{_-_}
 use native.Mathlib.Omega.{arith}
-use denote.Ref.{now}
 use Rattle.plan.proofs.Reading.{ReadTo, read-none, read-stop, read-end, read-light, read-onward}
 use borrow.Author.Needs.{needs}
 use Rattle.plan.proofs.read_plan.Statement.{statement}

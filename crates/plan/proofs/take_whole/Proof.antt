@@ -1,11 +1,11 @@
 -- `plan::take_whole` meets its contract.
 use mathlib.Core.Bool.{true}
 use mathlib.Core.Path.{_≡_, sym, ap, _∙_}
-use Prim.Native.Nat.{ℕ, _+_, _-_}
+use Prim.Native.Nat.{ℕ, _+_}
 use native.Mathlib.Omega.{arith}
 use borrow.Author.Tests.{not-true, not-false}
 use denote.Ref.{now}
-use lib.ListN.{length, take, drop}
+use lib.ListN.{length}
 use mathlib.Core.List.{List}
 use Rattle.plan.specs.declared.Kind.{Kind}
 use Rattle.plan.specs.Kind.{bodyLength, givesClass}

@@ -1,15 +1,14 @@
 -- `plan::whole_event` meets its contract.
 use mathlib.Core.Bool.{true}
 use mathlib.Core.Path.{_≡_, sym, ap, _∙_}
-use Prim.Native.Nat.{ℕ, _+_, _-_}
+use Prim.Native.Nat.{ℕ, _+_}
 use native.Mathlib.Omega.{arith}
 use borrow.Author.Tests.{not-true, not-false}
 use denote.Ref.{now}
-use lib.ListN.{length, take, drop}
+use lib.ListN.{length}
 use Rattle.plan.specs.declared.EventRead.the-variants.{Arrive}
-use Rattle.plan.specs.declared.Kind.{Kind}
 use Rattle.plan.specs.Kind.{bodyLength, givesArrival}
-use Rattle.plan.specs.Record.{kindAt, bodyOf}
+use Rattle.plan.specs.Record.{kindAt}
 use Rattle.plan.specs.Event.{arrivalOf}
 use Rattle.plan.proofs.Records.{body-at-most, body-part, body-length, whole-length, arrival-body}
 use Rattle.plan.proofs.EventLaws.{event-arrival, event-send}

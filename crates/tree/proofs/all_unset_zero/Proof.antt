@@ -1,5 +1,5 @@
 -- `tree::all_unset_zero` meets its contract.
-use Prim.Native.Nat.{ℕ, _+_, _-_, _≤_, _<_}
+use Prim.Native.Nat.{ℕ, _-_, _≤_, _<_}
 use native.Mathlib.Omega.{arith}
 use borrow.Author.Count.{below-more}
 use Rattle.checks.proofs.Laws.{exactly-yes, exactly-no, not-true-and-false}

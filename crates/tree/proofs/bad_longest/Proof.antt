@@ -1,5 +1,5 @@
 -- `tree::bad_longest` meets its contract.
-use mathlib.Core.Path.{_≡_, sym, _∙_}
+use mathlib.Core.Path.{sym, _∙_}
 use borrow.Author.Tests.{lt-ltb, le-ltb, not-true, not-false}
 use Rattle.tree.specs.Class.{isLeaf}
 use Rattle.tree.specs.Rules.{badLongest}

@@ -1,6 +1,6 @@
 -- `tree::children_weight` meets its contract.
 use mathlib.Core.Path.{_≡_, sym}
-use Prim.Native.Nat.{ℕ, _+_, _-_, _≤_}
+use Prim.Native.Nat.{_+_, _-_, _≤_}
 use native.Mathlib.Omega.{arith}
 use Rattle.tree.specs.Class.{childWeight, childrenWeight}
 use Rattle.tree.specs.Sum.{sumTo}

@@ -1,11 +1,11 @@
 -- `tree::closing` meets its contract: row 9, then class by class upward rows 8 and 7.
-use mathlib.Core.Path.{_≡_, refl, sym, ap, _∙_}
+use mathlib.Core.Path.{_≡_, sym, _∙_}
 use Prim.Native.Nat.{ℕ, _+_, _-_, _≤_, _<_}
 use native.Mathlib.Omega.{arith}
 use borrow.Author.Tests.{eq-eqb, ne-eqb}
-use Rattle.checks.specs.Check.{firstBroken, classByClass}
-use Rattle.checks.specs.declared.Verdict.the-variants.{Passed, Refused}
-use Rattle.checks.proofs.Laws.{decides, pass-over, classes-passed, classes-refused, upward-more}
+use Rattle.checks.specs.Check.{firstBroken}
+use Rattle.checks.specs.declared.Verdict.the-variants.{Passed}
+use Rattle.checks.proofs.Laws.{classes-passed, classes-refused, upward-more}
 use Rattle.tree.specs.Rules.{closingOf, noClass}
 use Rattle.tree.proofs.Classes.{class-in}
 use borrow.Author.Needs.{needs}

@@ -1,5 +1,5 @@
 -- `tree::closing_fault` meets its contract: row 8, then row 7.
-use mathlib.Core.Path.{_≡_, sym, ap, _∙_}
+use mathlib.Core.Path.{sym, _∙_}
 use borrow.Author.Tests.{lt-ltb, le-ltb, not-true, not-false}
 use Rattle.checks.specs.Check.{firstBroken}
 use Rattle.tree.specs.Class.{isLeaf, isInner}

@@ -1,5 +1,5 @@
 -- `tree::is_plan` meets its contract: it says yes exactly where the tree obeys the plan rules.
-use mathlib.Core.Path.{_≡_, sym, _∙_}
+use mathlib.Core.Path.{sym, _∙_}
 use borrow.Author.Tests.{lt-ltb, le-ltb, not-true, not-false}
 use Rattle.checks.proofs.Laws.{exactly-yes, exactly-no, not-true-and-false, not-both}
 use Rattle.tree.specs.Rules.{tooMany}

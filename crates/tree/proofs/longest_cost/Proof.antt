@@ -1,5 +1,5 @@
 -- `tree::longest_cost` meets its contract.
-use mathlib.Core.Path.{_≡_, sym, _∙_}
+use mathlib.Core.Path.{sym, _∙_}
 use borrow.Author.Tests.{not-true, not-false}
 use Rattle.tree.specs.Class.{isLeaf}
 use Rattle.tree.specs.Size.{longestCost}

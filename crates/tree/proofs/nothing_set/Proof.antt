@@ -1,5 +1,5 @@
 -- `tree::nothing_set` meets its contract.
-use mathlib.Core.Path.{_≡_, sym, _∙_}
+use mathlib.Core.Path.{sym, _∙_}
 use borrow.Author.Tests.{eq-eqb, eqb-true}
 use Rattle.checks.proofs.Laws.{exactly-no, not-true-and-false}
 use Rattle.tree.specs.Class.{isLeaf}

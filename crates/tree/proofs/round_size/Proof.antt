@@ -1,5 +1,4 @@
 -- `tree::round_size` meets its contract.
-use mathlib.Core.Path.{_≡_}
 use native.Mathlib.Omega.{arith}
 use Rattle.tree.specs.Size.{roundSize}
 use Rattle.tree.proofs.Rules.{rules-light, weights-ceiling, longest-ceiling}

@@ -1,5 +1,5 @@
 -- `tree::unset_is_zero` meets its contract.
-use mathlib.Core.Path.{_≡_, sym, _∙_}
+use mathlib.Core.Path.{sym, _∙_}
 use borrow.Author.Tests.{not-true, not-false}
 use Rattle.checks.proofs.Laws.{exactly-yes, exactly-no, not-true-and-false}
 use borrow.Author.Needs.{needs}

@@ -1,5 +1,5 @@
 -- `units::quota` meets its contract: what is divided by 0 is 0.
-use mathlib.Core.Path.{_≡_, sym}
+use mathlib.Core.Path.{sym}
 use native.Mathlib.Nat.{div-zero}
 use borrow.Author.Needs.{needs}
 use Rattle.units.proofs.quota.Statement.{statement}
