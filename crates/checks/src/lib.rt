@@ -27,6 +27,16 @@ pub const TOO_HEAVY: u8 = 7;
 pub const CHILDLESS: u8 = 8;
 // No class at all.
 pub const NO_CLASS: u8 = 9;
+// The program's input exceeds 65,536 bytes.
+pub const TOO_LONG: u8 = 10;
+// The state is not sound.
+pub const NOT_SOUND: u8 = 11;
+// The class is not a leaf of the plan.
+pub const NO_LEAF: u8 = 12;
+// Length 0 or above the leaf's longest.
+pub const LENGTH: u8 = 13;
+// That leaf already holds 32 packets.
+pub const FULL: u8 = 14;
 
 // The number of a verdict: 0 where all passed.
 pub fn number(v: Verdict) -> u8

@@ -1,5 +1,6 @@
 // Sets of classes in a 64-bit number: is a class in, put one in, take one out, the common ones, and the next one from a place on.
 ghost use mathlib.Core.Path.{_≡_};
+ghost use mathlib.Core.Bool.{true, cond};
 ghost use Prim.Native.Nat.{_≤_, _<_};
 ghost use Rattle.sets.specs.Set.{has, with, without, Both, Next};
 
@@ -11,12 +12,33 @@ pub fn has(set: u64, class: usize) -> bool
     (set >> class) & 1 == 1
 }
 
+// Is the number, any number, a class in the set?
+pub fn holds(set: u64, number: usize) -> bool
+    ensures { λ r. ⌜ (r ≡ has set number) × (r ≡ true → number < 64) ⌝ }
+{
+    if 64 <= number {
+        return false;
+    }
+    has(set, number)
+}
+
 // The set with the class put in.
 pub fn with(set: u64, class: usize) -> u64
     requires { ⌜ class < 64 ⌝ }
     ensures { λ r. ⌜ r ≡ with set class ⌝ }
 {
     set | (1 << class)
+}
+
+// The set with the class put in where the flag is set, and else as it is.
+pub fn with_if(set: u64, class: usize, put: bool) -> u64
+    requires { ⌜ class < 64 ⌝ }
+    ensures { λ r. ⌜ r ≡ cond put (with set class) set ⌝ }
+{
+    if put {
+        return with(set, class);
+    }
+    set
 }
 
 // The set with the class taken out.

@@ -35,6 +35,12 @@ sum-bound f m (suc n) h = go (sum-bound f m n (λ i l u. h i l (omega arith)))
     go : sumTo f n ≤ n * m → sumTo f n + f (suc n) ≤ suc n * m
     go ih = omega (arith, open-suc, h (suc n) (omega arith) (omega arith))
 
+-- a sum of nothing but zeros
+pub sum-zero : (f : ℕ → ℕ) (n : ℕ) → ((i : ℕ) → 1 ≤ i → i ≤ n → f i ≡ 0) → sumTo f n ≡ 0
+unfolding sumTo
+sum-zero f zero h = refl
+sum-zero f (suc n) h = omega (arith, sum-zero f n (λ i l u. h i l (omega arith)), h (suc n) (omega arith) (omega arith))
+
 pub some-none : (f : ℕ → Bool) → someTo f 0 ≡ false
 unfolding someTo
 some-none f = refl

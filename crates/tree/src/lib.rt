@@ -1,10 +1,9 @@
 // The class tree of document 01 as a value; the plan rules decided for any tree whatever; the round size.
 // Serves demand 1 (rows 3 to 9 of the table) and demand 3 (Q).
 ghost use mathlib.Core.Path.{_≡_};
-ghost use mathlib.Core.Bool.{true, false, cond};
+ghost use mathlib.Core.Bool.{true, false};
 ghost use Prim.Native.Nat.{_+_, _≤_, _<_};
 ghost use Rattle.checks.specs.Check.{firstBroken, Exactly};
-ghost use Rattle.sets.specs.Set.{with};
 ghost use Rattle.tree.specs.Class.{noTree, added, isClass, isLeaf, longestOf, childWeight, childrenWeight, hasChild};
 ghost use Rattle.tree.specs.Rules.{badParent, badWeight, badLongest, tooHeavy, childless, classChecks, closingOf, closingChecks, Light, ClassesPass, NothingSet, UnsetIsZero, AllUnsetZero, PlanRules};
 ghost use Rattle.tree.specs.Size.{roundSize, allWeights, allLongest, longestCost};
@@ -55,7 +54,7 @@ impl Tree {
         let i = self.count + 1;
         let leaf = class.leaf;
         let weight = class.weight;
-        let leaves = marked(self.leaves, i, leaf);
+        let leaves = sets::with_if(self.leaves, i, leaf);
         self.count = i;
         self.leaves = leaves;
         self.parent[i] = class.parent;
@@ -63,17 +62,6 @@ impl Tree {
         self.longest[i] = class.longest;
         self
     }
-}
-
-// A set of leaves, with class i where that is a leaf.
-fn marked(leaves: u64, i: usize, leaf: bool) -> u64
-    requires { ⌜ i < 64 ⌝ }
-    ensures { λ r. ⌜ r ≡ cond leaf (with leaves i) leaves ⌝ }
-{
-    if leaf {
-        return sets::with(leaves, i);
-    }
-    leaves
 }
 
 // Row 4: parent not lower than the class, or a leaf.
@@ -120,13 +108,16 @@ pub fn class_fault(tree: Tree, i: usize, place: usize) -> Verdict
     requires { ⌜ i < 64 ⌝ }
     ensures { λ r. ⌜ r ≡ firstBroken (classChecks tree i place) ⌝ }
 {
-    if bad_parent(tree, i) {
+    let parent = bad_parent(tree, i);
+    let weight = bad_weight(tree, i);
+    let longest = bad_longest(tree, i);
+    if parent {
         return Verdict::Refused(checks::PARENT, place);
     }
-    if bad_weight(tree, i) {
+    if weight {
         return Verdict::Refused(checks::WEIGHT, place);
     }
-    if bad_longest(tree, i) {
+    if longest {
         return Verdict::Refused(checks::LONGEST, place);
     }
     Verdict::Passed
@@ -150,10 +141,10 @@ fn children_weight(tree: Tree, p: usize) -> Weight
 {
     let last = tree.count;
     let mut sum = Weight(0);
-    let mut i: usize = 1;
-    while i <= last {
-        sum = sum.plus(child_weight(tree, p, i));
-        i += 1;
+    let mut child: usize = 1;
+    while child <= last {
+        sum = sum.plus(child_weight(tree, p, child));
+        child += 1;
     }
     sum
 }

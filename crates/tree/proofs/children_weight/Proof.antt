@@ -11,10 +11,10 @@ use Rattle.tree.proofs.children_weight.Statement.{statement}
 use Rattle.tree.proofs.children_weight.Tie as tie
 
 abbrev Inv-loop : tie.InvT-loop
-Inv-loop tree p last sum₀ i₀ sum i = (1 ≤ i) × (i ≤ tree .count + 1) × (sum .0 ≡ sumTo (childWeight tree p) (i - 1))
+Inv-loop tree p last sum₀ child₀ sum child = (1 ≤ child) × (child ≤ tree .count + 1) × (sum .0 ≡ sumTo (childWeight tree p) (child - 1))
 
 abbrev μ-loop : tie.MeasureT-loop
-μ-loop tree p last sum₀ i₀ sum i = tree .count + 1 - i
+μ-loop tree p last sum₀ child₀ sum child = tree .count + 1 - child
 
 loop-holds : tie.Need-loop-holds Inv-loop μ-loop
 loop-holds c = (omega arith, omega arith, sym (sum-none (childWeight (c .args .tree) (c .args .p))))
@@ -27,7 +27,7 @@ plus-requires c κs =
     let h = c .before in
     let t = h .before .before .args .tree in
     let p = h .before .before .args .p in
-    let i = h .before .loop .i in
+    let i = h .before .loop .child in
     let light = h .before .before .pre in
     omega (
       arith,
@@ -35,8 +35,8 @@ plus-requires c κs =
       sum-bound (childWeight t p) 1_000_000 (i - 1) (λ k l u. child-light t p k light l (omega arith)),
     )
 
-add-i : tie.Need-add-i Inv-loop μ-loop
-add-i c = search needs
+add-child : tie.Need-add-child Inv-loop μ-loop
+add-child c = search needs
 
 loop-less : tie.Need-loop-less Inv-loop μ-loop
 loop-less c = search needs
@@ -45,12 +45,12 @@ loop-again : tie.Need-loop-again Inv-loop μ-loop
 loop-again c =
     let h = c .before .before .before in
     let a = h .before .args in
-    (omega arith, omega arith, omega (arith, sum-step (childWeight (a .tree) (a .p)) (h .loop .i) (h .loop .inv .0)))
+    (omega arith, omega arith, omega (arith, sum-step (childWeight (a .tree) (a .p)) (h .loop .child) (h .loop .inv .0)))
 
 returns : tie.Need-returns Inv-loop μ-loop
 unfolding childrenWeight
 returns c =
-    let e : c .before .loop .i - 1 ≡ c .before .before .args .tree .count = omega arith in
+    let e : c .before .loop .child - 1 ≡ c .before .before .args .tree .count = omega arith in
     rw e at (c .before .loop .inv .2)
 
 pub children-weight-spec : {M : Type 1} → statement M
@@ -62,7 +62,7 @@ children-weight-spec =
     loop-holds
     child-weight-requires
     plus-requires
-    add-i
+    add-child
     loop-less
     loop-again
     returns)

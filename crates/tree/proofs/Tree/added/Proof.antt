@@ -6,8 +6,8 @@ use Rattle.tree.proofs.Tree.added.Tie as tie
 add-i : tie.Need-add-i
 add-i c = search needs
 
-marked-requires : tie.Need-marked-requires
-marked-requires c κs = search needs
+with-if-requires : tie.Need-with-if-requires
+with-if-requires c κs = search needs
 
 element-write-self : tie.Need-element-write-self
 element-write-self c = search needs
@@ -25,14 +25,14 @@ element-write-self-2 : tie.Need-element-write-self-2
 element-write-self-2 c = search needs
 
 returns : tie.Need-returns
-returns c = rw (c .marked .ensures)
+returns c = rw (c .with-if .ensures)
 
 pub added-spec : {M : Type 1} → statement M
 added-spec =
     tie.close
     (tie.spec
     add-i
-    marked-requires
+    with-if-requires
     element-write-self
     mul-weight
     element-set-from-weight

@@ -1,0 +1,196 @@
+-- Laws of an arrival: what it means, that it keeps a state sound, and that its contract determines the answer. Demands 1 and 2.
+use mathlib.Core.Bool.{Bool, true, false, not, _||_}
+use mathlib.Core.List.{List, [], _∷_, _++_}
+use mathlib.Core.Logic.{_⊎_, inl, inr}
+use mathlib.Core.Path.{_≡_, refl, sym, ap, _∙_}
+use Prim.Native.Nat.{ℕ, _+_, _≤_, _<_}
+use native.Mathlib.Decide.{decLt, ℕ-discrete}
+use native.Mathlib.Omega.{arith}
+use lib.Dec.{leb, ltb}
+use lib.ListN.{length, getD, length-append, List·getD-append}
+use lib.Seq.{getD-set-same, getD-set-other, getD-at}
+use borrow.Author.Tests.{leb-false, ltb-false, not-false}
+use Rattle.checks.specs.declared.Verdict.{Verdict}
+use Rattle.checks.specs.declared.Verdict.the-variants.{Passed, Refused}
+use Rattle.checks.specs.Check.{check, firstBroken}
+use Rattle.checks.proofs.Laws.{not-true-and-false, refused-or-passed, decides, pass-over, passed-parts, exactly-unique}
+use Rattle.units.specs.Cost.{costOf}
+use Rattle.tree.specs.Class.{longestOf, isLeaf}
+use Rattle.tree.proofs.Classes.{neither-true}
+use Rattle.state.specs.declared.Link.{Link}
+use Rattle.state.specs.declared.Packet.{Packet}
+use Rattle.state.specs.Account.{balanceOf}
+use Rattle.state.specs.Queue.{Shaped, noPacket, heldOf, queueOf, putLast}
+use Rattle.state.specs.State.{State, meaning, queueAt}
+use Rattle.state.proofs.Tables.{table-length}
+use Rattle.state.proofs.Meaning.{meaning-held, meaning-put}
+use Rattle.sound.specs.Sound.{InRange, HoldsRight, Sound, SoundLink}
+use Rattle.link.specs.declared.Answered.{Answered}
+use Rattle.link.specs.Arrival.{noLeaf, badLength, full, arrivalChecks, arrived, arrivalGives, arrivalOf, Arrives}
+use Rattle.link.specs.Steps.{judgeChecks}
+
+-- ---- the numbers that the code reads
+
+-- of a class number below 64 they are those of the meaning
+pub same-checks : (sound : Bool) (l : Link) (i : ℕ) (p : Packet) → i < 64
+    → judgeChecks sound (isLeaf (l .tree) i) i (p .length) (longestOf (l .tree) i) (heldOf l i) ≡ arrivalChecks sound (meaning l) i p
+unfolding noLeaf badLength full
+same-checks sound l i p u = rw (← meaning-held l i u)
+
+-- of a number that is no leaf only checks 11 and 12 count
+pub no-leaf-checks : (sound leaf : Bool) (l : Link) (i a b : ℕ) (p : Packet) → leaf ≡ isLeaf (l .tree) i → leaf ≡ false
+    → firstBroken (judgeChecks sound leaf i (p .length) a b) ≡ firstBroken (arrivalChecks sound (meaning l) i p)
+unfolding noLeaf
+no-leaf-checks false leaf l i a b p e f = decides _ _ refl ∙ sym (decides _ _ refl)
+no-leaf-checks true leaf l i a b p e f =
+    pass-over _ _ refl ∙ decides _ _ (rw f refl) ∙ sym (pass-over _ _ refl ∙ decides _ _ (rw (← e, f) refl))
+
+-- what an arrival gives, by its verdict
+pub arrival-refused : (sound : Bool) (l : Link) (i : ℕ) (p : Packet) {n q : ℕ} → firstBroken (arrivalChecks sound (meaning l) i p) ≡ Refused n q
+    → arrivalOf sound l i p ≡ record { verdict = Refused n q; link = l }
+unfolding arrivalOf
+arrival-refused sound l i p e = ap (λ (v : Verdict). arrivalGives v l i p) e
+
+pub arrival-taken : (sound : Bool) (l : Link) (i : ℕ) (p : Packet) → firstBroken (arrivalChecks sound (meaning l) i p) ≡ Passed
+    → arrivalOf sound l i p ≡ record { verdict = Passed; link = putLast l i p }
+unfolding arrivalOf
+arrival-taken sound l i p e = ap (λ (v : Verdict). arrivalGives v l i p) e
+
+-- an arrival that is taken breaks none of the four rows
+pub record Taken (sound : Bool) (s : State) (i : ℕ) (p : Packet) : Type 0 where
+  pub state : sound ≡ true
+  pub leaf : isLeaf (s .tree) i ≡ true
+  pub low : 1 ≤ p .length
+  pub high : p .length ≤ longestOf (s .tree) i
+  pub room : length (queueAt s i) < 32
+
+pub taken : (sound : Bool) (s : State) (i : ℕ) (p : Packet) → firstBroken (arrivalChecks sound s i p) ≡ Passed → Taken sound s i p
+unfolding noLeaf badLength full
+taken sound s i p e =
+    let a = passed-parts (check 11 (not sound) 0) _ e in
+    let b = passed-parts (check 12 (not (isLeaf (s .tree) i)) i) _ (a .1) in
+    let d = passed-parts (check 13 (ltb (p .length) 1 || ltb (longestOf (s .tree) i) (p .length)) i) _ (b .1) in
+    let f = passed-parts (check 14 (leb 32 (length (queueAt s i))) i) [] (d .1) in
+    let r = neither-true (ltb (p .length) 1) (ltb (longestOf (s .tree) i) (p .length)) (d .0) in
+    record {
+      state = not-false sound (a .0);
+      leaf = not-false (isLeaf (s .tree) i) (b .0);
+      low = ltb-false (p .length) 1 (r .0);
+      high = ltb-false (longestOf (s .tree) i) (p .length) (r .1);
+      room = leb-false 32 (length (queueAt s i)) (f .0);
+    }
+
+-- a number that is no leaf is refused
+pub no-leaf-refused : (sound : Bool) (l : Link) (i : ℕ) (p : Packet) → isLeaf (l .tree) i ≡ false
+    → arrivalOf sound l i p ≡ record { verdict = firstBroken (arrivalChecks sound (meaning l) i p); link = l }
+unfolding arrivalOf noLeaf
+no-leaf-refused sound l i p f = go (refused-or-passed (firstBroken (arrivalChecks sound (meaning l) i p)))
+  where
+    go : (firstBroken (arrivalChecks sound (meaning l) i p) ≡ Passed)
+        ⊎ ((n : ℕ) × (q : ℕ) × (firstBroken (arrivalChecks sound (meaning l) i p) ≡ Refused n q))
+        → arrivalGives (firstBroken (arrivalChecks sound (meaning l) i p)) l i p
+        ≡ record { verdict = firstBroken (arrivalChecks sound (meaning l) i p); link = l }
+    go (inl e) = absurd (not-true-and-false (taken sound (meaning l) i p e .leaf) f)
+    go (inr r) = rw (r .2)
+
+-- ---- an arrival keeps a state sound
+
+-- the queues after it
+module _ (s : State) (i : ℕ) (p : Packet) (u : i < length (s .queues)) where
+  pub queue-arrived : queueAt (arrived s i p) i ≡ queueAt s i ++ (p ∷ [])
+  queue-arrived = getD-set-same (s .queues) i (queueAt s i ++ (p ∷ [])) [] u
+
+  pub queue-other : (k : ℕ) → (k ≡ i → ⊥) → queueAt (arrived s i p) k ≡ queueAt s k
+  queue-other k ne = getD-set-other (s .queues) i k (queueAt s i ++ (p ∷ [])) [] ne
+
+  pub length-arrived : length (queueAt (arrived s i p) i) ≡ length (queueAt s i) + 1
+  length-arrived = ap length queue-arrived ∙ length-append (queueAt s i) (p ∷ [])
+
+-- a packet of the queue, or the new one
+packet-in : (s : State) (i : ℕ) (p : Packet) → InRange (s .tree) i p
+    → ((j : ℕ) → j < length (queueAt s i) → InRange (s .tree) i (getD (queueAt s i) j noPacket))
+    → (j : ℕ) → j < length (queueAt s i) + 1 → InRange (s .tree) i (getD (queueAt s i ++ (p ∷ [])) j noPacket)
+packet-in s i p new old j h = go (decLt j (length (queueAt s i)))
+  where
+    go : Dec (j < length (queueAt s i)) → InRange (s .tree) i (getD (queueAt s i ++ (p ∷ [])) j noPacket)
+    go (yes l) = rw (List·getD-append (queueAt s i) (p ∷ []) noPacket j l) (old j l)
+    go (no l) =
+        let e : length (queueAt s i) ≡ j = omega arith in
+        rw (getD-at (queueAt s i) p [] noPacket j e) new
+
+pub arrival-keeps : (s : State) (i : ℕ) (p : Packet) → i < 64 → length (s .queues) ≡ 64 → Sound s → Taken true s i p → Sound (arrived s i p)
+arrival-keeps s i p u many sound t = record {
+  fits = record { tree = sound .fits .tree; size = sound .fits .size };
+  holds = λ k v.
+      let h = sound .holds k v in
+      both k (ℕ-discrete k i)
+      (record {
+        few = λ f. rw (len) (omega (arith, t .room));
+        range = λ f j b.
+            rw here
+            (packet-in s i p (record { low = t .low; high = t .high }) (λ m c. sound .holds i u .range (t .leaf) m c) j (rw len at b));
+        other = λ f. absurd (not-true-and-false (t .leaf) f);
+      })
+      (λ ne. record {
+        few = λ f. rw (there k ne) (h .few f);
+        range = λ f j b. rw (there k ne) (h .range f j (rw (there k ne) at b));
+        other = λ f. rw (there k ne) (h .other f);
+      });
+  waiting = λ k v. record {
+    waits = λ f a.
+        at (λ (q : List Packet). 1 ≤ length q) k (ℕ-discrete k i) (λ e. rw (length-append (queueAt s i) (p ∷ [])) (omega arith)) (sound .waiting k v .waits f a);
+  };
+  past = record { word = sound .past .word; past = sound .past .past };
+  above = λ k v. record { leaf-below = sound .above k v .leaf-below; active = sound .above k v .active };
+  zero = λ k v. record { balance = sound .zero k v .balance; residual = sound .zero k v .residual; leaf = sound .zero k v .leaf };
+  adds = record { adds = sound .adds .adds };
+  place = record { low = sound .place .low; high = sound .place .high };
+  behind = λ k v. record {
+    lacks = λ f a b.
+        at (λ (q : List Packet). balanceOf (s .accounts) k < costOf (getD q 0 noPacket .length)) k (ℕ-discrete k i)
+        (λ e.
+        rw (List·getD-append (queueAt s i) (p ∷ []) noPacket 0 (rw (ap (queueAt s) e) at (sound .waiting k v .waits f a)), ← e)
+        (sound .behind k v .lacks f a b))
+        (sound .behind k v .lacks f a b);
+  };
+}
+  where
+    inside : i < length (s .queues)
+    inside = omega (arith, many)
+
+    here : queueAt (arrived s i p) i ≡ queueAt s i ++ (p ∷ [])
+    here = queue-arrived s i p inside
+
+    len : length (queueAt (arrived s i p) i) ≡ length (queueAt s i) + 1
+    len = length-arrived s i p inside
+
+    there : (k : ℕ) → (k ≡ i → ⊥) → queueAt (arrived s i p) k ≡ queueAt s k
+    there = queue-other s i p inside
+
+    both : (k : ℕ) → Dec (k ≡ i) → HoldsRight (arrived s i p) i → ((k ≡ i → ⊥) → HoldsRight (arrived s i p) k) → HoldsRight (arrived s i p) k
+    both k (yes e) new old = rw e new
+    both k (no ne) new old = old ne
+
+    at : (P : List Packet → Type 0) (k : ℕ) → Dec (k ≡ i) → (k ≡ i → P (queueAt s i ++ (p ∷ []))) → P (queueAt s k) → P (queueAt (arrived s i p) k)
+    at P k (yes e) new old = rw (e, here) (new e)
+    at P k (no ne) new old = rw (there k ne) old
+
+-- the record after it means the state after it, and is sound
+pub arrival-means : (l : Link) (i : ℕ) (p : Packet) → Shaped l → i < 64 → heldOf l i < 32 → meaning (putLast l i p) ≡ arrived (meaning l) i p
+arrival-means = meaning-put
+
+pub arrival-sound : (l : Link) (i : ℕ) (p : Packet) → Shaped l → i < 64 → SoundLink l → firstBroken (arrivalChecks true (meaning l) i p) ≡ Passed
+    → SoundLink (putLast l i p)
+arrival-sound l i p shape u sound e =
+    let t = taken true (meaning l) i p e in
+    let room : heldOf l i < 32 = rw (meaning-held l i u) at (t .room) in
+    record {
+      state = rw (arrival-means l i p shape u room) (arrival-keeps (meaning l) i p u (table-length (queueOf l) 64) (sound .state) t);
+      starts = λ k v. record { start = sound .starts k v .start };
+    }
+
+-- ---- the contract determines the answer
+
+pub arrival-one-answer : (l : Link) (i : ℕ) (p : Packet) (a b : Answered) → Arrives l i p a → Arrives l i p b → a ≡ b
+arrival-one-answer l i p a b x y =
+    x .answer ∙ ap (λ (s : Bool). arrivalOf s l i p) (exactly-unique (x .exactly) (y .exactly)) ∙ sym (y .answer)

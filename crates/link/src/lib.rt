@@ -1,0 +1,76 @@
+// The calls of the library: a fresh link from a plan's tree, and an arrival. Entries for callers outside: they ask nothing.
+// Serves demand 1 (numbers 11 to 14, a refused call hands the record back unaltered) and demand 2.
+ghost use mathlib.Core.Path.{_≡_};
+ghost use Rattle.checks.specs.Check.{firstBroken};
+ghost use Rattle.link.specs.Fresh.{MakesFresh};
+ghost use Rattle.link.specs.Arrival.{Arrives};
+ghost use Rattle.link.specs.Steps.{judgeChecks};
+use checks::Verdict;
+use state::Link;
+use state::Packet;
+use tree::Tree;
+
+// What a call on a link gives: a verdict and the link after it.
+pub struct Answered {
+    pub verdict: Verdict,
+    pub link: Link,
+}
+
+// A fresh link of a tree, any tree.
+pub fn fresh(tree: Tree) -> Answered
+    ensures { λ r. ⌜ MakesFresh tree r ⌝ }
+{
+    if !tree::is_plan(tree) {
+        let verdict = Verdict::Refused(checks::NOT_SOUND, 0);
+        let link = Link::none();
+        return Answered { verdict, link };
+    }
+    let verdict = Verdict::Passed;
+    let link = Link::fresh(tree, tree::round_size(tree));
+    Answered { verdict, link }
+}
+
+// Checks 11, 12, 13 and 14 of an arrival, in this order.
+fn judge(sound: bool, leaf: bool, class: usize, length: u16, longest: u16, held: u8) -> Verdict
+    ensures { λ r. ⌜ r ≡ firstBroken (judgeChecks sound leaf class length longest held) ⌝ }
+{
+    if !sound {
+        return Verdict::Refused(checks::NOT_SOUND, 0);
+    }
+    if !leaf {
+        return Verdict::Refused(checks::NO_LEAF, class);
+    }
+    if length < 1 {
+        return Verdict::Refused(checks::LENGTH, class);
+    }
+    if longest < length {
+        return Verdict::Refused(checks::LENGTH, class);
+    }
+    if 32 <= held {
+        return Verdict::Refused(checks::FULL, class);
+    }
+    Verdict::Passed
+}
+
+// An arrival: any class number, any length and any tag.
+pub fn arrive(link: Link, class: usize, packet: Packet) -> Answered
+    ensures { λ r. ⌜ Arrives link class packet r ⌝ }
+{
+    let sound = sound::is_sound(link);
+    let tree = link.tree;
+    let leaf = sets::holds(tree.leaves, class);
+    if 64 <= class {
+        let verdict = judge(sound, leaf, class, packet.length, 0, 0);
+        return Answered { verdict, link };
+    }
+    let held = link.held[class];
+    let verdict = judge(sound, leaf, class, packet.length, tree.longest[class], held);
+    if let Verdict::Refused(_, _) = verdict {
+        return Answered { verdict, link };
+    }
+    let after = link.put(class, packet);
+    Answered {
+        verdict,
+        link: after,
+    }
+}

@@ -1,0 +1,34 @@
+-- `input::leaves` is safe and ends: it turns n times.
+use Prim.Native.Nat.{_-_}
+use native.Mathlib.Omega.{arith}
+use Rattle.plan_cases.proofs.input.leaves.Statement.{statement}
+use Rattle.plan_cases.proofs.input.leaves.Tie as tie
+
+abbrev Inv-loop : tie.InvT-loop
+Inv-loop n parent input₀ i₀ input i = Unit {0}
+
+abbrev μ-loop : tie.MeasureT-loop
+μ-loop n parent input₀ i₀ input i = n - i
+
+loop-holds : tie.Need-loop-holds Inv-loop μ-loop
+loop-holds c = tt
+
+leaf-requires : tie.Need-leaf-requires Inv-loop μ-loop
+leaf-requires c κs = tt
+
+add-i : tie.Need-add-i Inv-loop μ-loop
+add-i c = omega arith
+
+loop-less : tie.Need-loop-less Inv-loop μ-loop
+loop-less c = omega arith
+
+loop-again : tie.Need-loop-again Inv-loop μ-loop
+loop-again c = tt
+
+returns : tie.Need-returns Inv-loop μ-loop
+returns c = tt
+
+pub leaves-spec : {M : Type 1} → statement M
+leaves-spec =
+    tie.close
+    (tie.spec Inv-loop μ-loop loop-holds leaf-requires add-i loop-less loop-again returns)

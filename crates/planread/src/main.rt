@@ -1,0 +1,102 @@
+// Reads a plan from standard input and prints its classes and its round size, or where it is refused; run and compared with written-down lines.
+// Serves demand 1: a crew sees the number and the place of document 01.
+ghost use Prim.Native.Nat.{_<_};
+use checks::Verdict;
+use libc::STDIN_FILENO;
+use libc::STDOUT_FILENO;
+use tree::Tree;
+
+// A word.
+fn word(text: &[u8]) {
+    io::write_all(STDOUT_FILENO, text);
+}
+
+// A word, then a number.
+fn number(text: &[u8], n: u64) {
+    word(text);
+    io::print_decimal(STDOUT_FILENO, n);
+}
+
+// A refusal's number and place.
+fn stop(n: u8, place: usize) {
+    number(b"stop ", n as u64);
+    number(b" ", place as u64);
+    word(b"\n");
+}
+
+// The longest packet of a class, where it is a leaf.
+fn longest_of(tree: Tree, i: usize)
+    requires { ⌜ i < 64 ⌝ }
+{
+    if sets::has(tree.leaves, i) {
+        number(b", longest ", tree.longest[i] as u64);
+    }
+}
+
+// One class of a tree.
+fn class_line(tree: Tree, i: usize)
+    requires { ⌜ i < 64 ⌝ }
+{
+    if tree.count < i {
+        return;
+    }
+    number(b"class ", i as u64);
+    if sets::has(tree.leaves, i) {
+        word(b": leaf");
+    } else {
+        word(b": inner");
+    }
+    let weight = tree.weight[i];
+    number(b", parent ", tree.parent[i] as u64);
+    number(b", weight ", weight.0 as u64);
+    longest_of(tree, i);
+    word(b"\n");
+}
+
+// Each class of a tree.
+fn class_lines(tree: Tree) {
+    for i in 1..64 {
+        class_line(tree, i);
+    }
+}
+
+// The round size Q; 0 where the tree breaks the plan rules.
+fn round_size(tree: Tree) -> u64 {
+    if tree::is_plan(tree) {
+        return tree::round_size(tree).0;
+    }
+    0
+}
+
+// An accepted plan.
+fn accepted(tree: Tree, used: usize) {
+    number(b"plan ", tree.count as u64);
+    number(b" classes, Q ", round_size(tree));
+    number(b", ", used as u64);
+    word(b" bytes used\n");
+    class_lines(tree);
+}
+
+// What the reader says of the input.
+fn answer(input: &[u8]) {
+    let read = plan::read_plan(input);
+    let verdict = read.verdict;
+    let tree = read.tree;
+    match verdict {
+        Verdict::Passed => accepted(tree, read.used),
+        Verdict::Refused(n, place) => stop(n, place),
+    }
+}
+
+// The program's input exceeds 65,536 bytes: number 10, before all else.
+const MOST: usize = 65_536;
+
+fn main() {
+    let mut input = [0u8; MOST + 1];
+    let n = io::read_full(STDIN_FILENO, &mut input);
+    if MOST < n {
+        stop(checks::TOO_LONG, MOST);
+        return;
+    }
+    answer(&input[..n]);
+}

@@ -1,0 +1,4 @@
+pub mod Flags
+pub mod Active
+pub mod Totals
+pub mod Views

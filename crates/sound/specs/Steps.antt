@@ -1,0 +1,66 @@
+-- What the inner functions of the decision say, in numbers; no rule of its own.
+use mathlib.Core.Bool.{true, false, cond}
+use mathlib.Core.List.{List}
+use mathlib.Core.Path.{_≡_}
+use Prim.Native.Nat.{ℕ, zero, suc, _+_, _*_, _%_, _≤_, _<_}
+use lib.ListN.{getD}
+use Rattle.sets.specs.Set.{has, with}
+use Rattle.units.specs.Cost.{costOf}
+use Rattle.tree.specs.declared.Tree.{Tree}
+use Rattle.tree.specs.Class.{parentOf, longestOf, isLeaf}
+use Rattle.state.specs.declared.Account.{Account}
+use Rattle.state.specs.declared.Link.{Link}
+use Rattle.state.specs.Account.{accountOf, balanceOf, residualOf}
+use Rattle.state.specs.Queue.{startOf, heldOf}
+use Rattle.sound.specs.declared.View.{View}
+
+-- the parents of the active classes from 1 to n, as a set
+unfoldable pub parentsTo : Tree → ℕ → ℕ → ℕ
+parentsTo t active zero = 0
+parentsTo t active (suc n) = cond (has active (suc n)) (with (parentsTo t active n) (parentOf t (suc n))) (parentsTo t active n)
+
+-- the numbers of class i that its clauses speak of; parents is the set of the active classes' parents
+unfoldable pub viewOf : Link → ℕ → ℕ → View
+viewOf l parents i = record {
+  class = i;
+  count = l .tree .count;
+  place = l .place;
+  leaf = isLeaf (l .tree) i;
+  active = has (l .active) i;
+  parent = has parents i;
+  start = startOf l i;
+  held = heldOf l i;
+  first = getD (l .lengths) (i * 32 + startOf l i % 32) 0;
+  account = accountOf (l .accounts) i;
+}
+
+-- the clauses of soundness at one class, in its numbers
+pub record ViewRight (v : View) : Type 0 where
+  pub start : v .start ≤ 31
+  pub few : v .leaf ≡ true → v .held ≤ 32
+  pub other : v .leaf ≡ false → v .held ≡ 0
+  pub waits : v .leaf ≡ true → v .active ≡ true → 1 ≤ v .held
+  pub past : v .count < v .class → v .active ≡ false
+  pub above : v .class ≤ v .count → v .leaf ≡ false → v .active ≡ v .parent
+  pub balance : 1 ≤ v .class → v .active ≡ false → v .account .balance .0 ≡ 0
+  pub residual : 1 ≤ v .class → v .active ≡ false → v .account .residual .0 ≡ 0
+  pub leaf : v .leaf ≡ true → v .account .residual .0 ≡ 0
+  pub lacks : v .leaf ≡ true → v .active ≡ true → v .class < v .place → v .account .balance .0 < costOf (v .first)
+
+-- the waiting packets of a class are within its range
+pub record LengthsRight (lengths : List ℕ) (class start held longest : ℕ) : Type 0 where
+  pub low : (j : ℕ) → j < held → 1 ≤ getD lengths (class * 32 + (start + j) % 32) 0
+  pub high : (j : ℕ) → j < held → getD lengths (class * 32 + (start + j) % 32) 0 ≤ longest
+
+-- class i of a link is right in its numbers and its packets
+pub record ClassRight (l : Link) (parents i : ℕ) : Type 0 where
+  pub view : ViewRight (viewOf l parents i)
+  pub lengths : LengthsRight (l .lengths) i (startOf l i) (heldOf l i) (longestOf (l .tree) i)
+
+pub record ClassesRight (l : Link) (parents : ℕ) : Type 0 where
+  pub at : (i : ℕ) → i < 64 → ClassRight l parents i
+
+-- no balance and no residual is above a number
+pub record Small (accounts : List Account) (size : ℕ) : Type 0 where
+  pub balance : (i : ℕ) → i < 64 → balanceOf accounts i ≤ size
+  pub residual : (i : ℕ) → i < 64 → residualOf accounts i ≤ size

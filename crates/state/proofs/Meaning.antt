@@ -1,0 +1,166 @@
+-- What a link record means, what the steps on a queue do to that, and that the meaning leaves out no more than document 01 says. Demand 2.
+use mathlib.Core.List.{List, [], _∷_, _++_}
+use mathlib.Core.Path.{_≡_, sym, ap, _∙_}
+use Prim.Native.Nat.{ℕ, _+_, _-_, _/_, _%_, _≤_, _<_}
+use native.Mathlib.Decide.{decLt}
+use native.Mathlib.Omega.{arith}
+use lib.ListN.{length, getD, drop, replicate, length-set, length-replicate, getD-replicate, List·getD-eq-default}
+use lib.Seq.{ext-getD}
+use Rattle.units.specs.declared.Bytes.{Bytes}
+use Rattle.tree.specs.declared.Tree.{Tree}
+use Rattle.state.specs.declared.Link.{Link}
+use Rattle.state.specs.declared.Packet.{Packet}
+use Rattle.state.specs.Account.{account, noAccount}
+use Rattle.state.specs.Queue.{noPacket, startOf, heldOf, slotOf, packetAt, queueOf, putLast, takenFirst, Shaped}
+use Rattle.state.specs.State.{State, meaning, queueAt, withQueues, withQueue, freshLink, noLink}
+use Rattle.state.proofs.Tables.{table-at, table-past, table-same, table-set}
+use Rattle.state.proofs.Queues.{queue-length, queue-at, queue-none, queue-put-same, queue-put-other, queue-take-same, queue-take-other}
+
+-- the queues of a meaning are the link's, and past the last class number there is none
+pub meaning-queue : (l : Link) (i : ℕ) → i < 64 → queueAt (meaning l) i ≡ queueOf l i
+meaning-queue l i h = table-at (queueOf l) [] 64 i h
+
+-- how many packets wait in class i
+pub meaning-held : (l : Link) (i : ℕ) → i < 64 → length (queueAt (meaning l) i) ≡ heldOf l i
+meaning-held l i h = ap length (meaning-queue l i h) ∙ queue-length l i
+
+pub meaning-past : (l : Link) (i : ℕ) → 64 ≤ i → queueAt (meaning l) i ≡ []
+meaning-past l i h = table-past (queueOf l) [] 64 i h
+
+-- a packet put last changes the meaning of its class's queue alone
+pub meaning-put : (l : Link) (i : ℕ) (p : Packet) → Shaped l → i < 64 → heldOf l i < 32
+    → meaning (putLast l i p) ≡ withQueue (meaning l) i (queueAt (meaning l) i ++ (p ∷ []))
+meaning-put l i p s h room =
+    ap (withQueues (meaning l))
+    (table-set (queueOf l) (queueOf (putLast l i p)) 64 i (queueAt (meaning l) i ++ (p ∷ [])) h
+    (queue-put-same l i p s h room ∙ ap (λ (q : List Packet). q ++ (p ∷ [])) (sym (meaning-queue l i h)))
+    (queue-put-other l i p))
+
+-- the first packet taken changes the meaning of its class's queue alone
+pub meaning-take : (l : Link) (i : ℕ) → Shaped l → i < 64 → 1 ≤ heldOf l i
+    → meaning (takenFirst l i) ≡ withQueue (meaning l) i (drop 1 (queueAt (meaning l) i))
+meaning-take l i s h some =
+    ap (withQueues (meaning l))
+    (table-set (queueOf l) (queueOf (takenFirst l i)) 64 i (drop 1 (queueAt (meaning l) i)) h
+    (sym (ap (drop 1) (meaning-queue l i h ∙ queue-take-same l i s h some)))
+    (queue-take-other l i))
+
+-- the packet that leaves is the first of its queue
+pub meaning-first : (l : Link) (i : ℕ) → i < 64 → 1 ≤ heldOf l i → getD (queueAt (meaning l) i) 0 noPacket ≡ packetAt l i 0
+meaning-first l i h some = ap (λ (q : List Packet). getD q 0 noPacket) (meaning-queue l i h) ∙ queue-at l i 0 some
+
+-- a fresh link, and the link without classes, hold no packet
+none-held : (i : ℕ) → heldOf noLink i ≡ 0
+none-held i = go (decLt i 64)
+  where
+    go : Dec (i < 64) → heldOf noLink i ≡ 0
+    go (yes h) = getD-replicate {A = ℕ} 64 i 0 0 h
+    go (no h) = List·getD-eq-default (noLink .held) 0 {n = i} (omega arith)
+
+pub fresh-queues : (t : Tree) (q : Bytes) (i : ℕ) → queueOf (freshLink t q) i ≡ []
+fresh-queues t q i = queue-none (freshLink t q) i (none-held i)
+
+pub none-queues : (i : ℕ) → queueOf noLink i ≡ []
+none-queues i = queue-none noLink i (none-held i)
+
+pub shaped-fresh : (t : Tree) (q : Bytes) → Shaped (freshLink t q)
+shaped-fresh t q = record {
+  accounts = length-set (replicate 64 noAccount) 0 (account (q .0) 0) ∙ length-replicate 64 noAccount;
+  start = length-replicate {A = ℕ} 64 0;
+  held = length-replicate {A = ℕ} 64 0;
+  lengths = length-replicate {A = ℕ} 2_048 0;
+  tags = length-replicate {A = ℕ} 2_048 0;
+}
+
+pub shaped-none : Shaped noLink
+shaped-none = record {
+  accounts = length-replicate 64 noAccount;
+  start = length-replicate {A = ℕ} 64 0;
+  held = length-replicate {A = ℕ} 64 0;
+  lengths = length-replicate {A = ℕ} 2_048 0;
+  tags = length-replicate {A = ℕ} 2_048 0;
+}
+
+-- two links of one meaning
+module _ (l l′ : Link) (same : meaning l ≡ meaning l′) where
+  pub same-queue : (i : ℕ) → i < 64 → queueOf l i ≡ queueOf l′ i
+  same-queue i h =
+      sym (meaning-queue l i h) ∙ ap (λ (m : State). queueAt m i) same ∙ meaning-queue l′ i h
+
+  pub same-held : (i : ℕ) → i < 64 → heldOf l i ≡ heldOf l′ i
+  same-held i h = sym (queue-length l i) ∙ ap length (same-queue i h) ∙ queue-length l′ i
+
+  same-waiting : (i j : ℕ) → i < 64 → j < heldOf l i → packetAt l i j ≡ packetAt l′ i j
+  same-waiting i j h m =
+      sym (queue-at l i j m)
+      ∙ ap (λ (q : List Packet). getD q j noPacket) (same-queue i h)
+      ∙ queue-at l′ i j (omega (arith, same-held i h))
+
+  -- with the same starts and the same free places
+  module _ (s : Shaped l) (s′ : Shaped l′) (starts : (i : ℕ) → i < 64 → startOf l i ≡ startOf l′ i)
+      (free : (i j : ℕ) → i < 64 → heldOf l i ≤ j → j < 32 → packetAt l i j ≡ packetAt l′ i j) where
+    same-packets : (i j : ℕ) → i < 64 → j < 32 → packetAt l i j ≡ packetAt l′ i j
+    same-packets i j h u = go (decLt j (heldOf l i))
+      where
+        go : Dec (j < heldOf l i) → packetAt l i j ≡ packetAt l′ i j
+        go (yes m) = same-waiting i j h m
+        go (no m) = free i j h (omega arith) u
+
+    -- each of the 2,048 places is some packet's, or free
+    same-place : (p : ℕ) → p < 2_048
+        → (getD (l .lengths) p 0 ≡ getD (l′ .lengths) p 0) × (getD (l .tags) p 0 ≡ getD (l′ .tags) p 0)
+    same-place p h =
+        let i : ℕ = p / 32 in
+        let j : ℕ = (p % 32 + 32 - startOf l i % 32) % 32 in
+        let here : slotOf l i j ≡ p = omega arith in
+        let here′ : slotOf l′ i j ≡ p = omega (arith, starts i (omega arith)) in
+        let e : packetAt l i j ≡ packetAt l′ i j = same-packets i j (omega arith) (omega arith) in (
+          ap (λ (k : ℕ). getD (l .lengths) k 0) (sym here) ∙ ap (λ (x : Packet). x .length) e ∙ ap (λ (k : ℕ). getD (l′ .lengths) k 0) here′,
+          ap (λ (k : ℕ). getD (l .tags) k 0) (sym here) ∙ ap (λ (x : Packet). x .tag) e ∙ ap (λ (k : ℕ). getD (l′ .tags) k 0) here′,
+        )
+
+    same-lengths : l .lengths ≡ l′ .lengths
+    same-lengths =
+        ext-getD 0 (l .lengths) (l′ .lengths) (s .lengths ∙ sym (s′ .lengths)) (λ p h. same-place p (omega (arith, s .lengths)) .0)
+
+    same-tags : l .tags ≡ l′ .tags
+    same-tags =
+        ext-getD 0 (l .tags) (l′ .tags) (s .tags ∙ sym (s′ .tags)) (λ p h. same-place p (omega (arith, s .tags)) .1)
+
+    same-start : l .start ≡ l′ .start
+    same-start = ext-getD 0 (l .start) (l′ .start) (s .start ∙ sym (s′ .start)) (λ i h. starts i (omega (arith, s .start)))
+
+    same-helds : l .held ≡ l′ .held
+    same-helds = ext-getD 0 (l .held) (l′ .held) (s .held ∙ sym (s′ .held)) (λ i h. same-held i (omega (arith, s .held)))
+
+    same-link : l ≡ l′
+    same-link = λ i. record {
+      tree = same i .tree;
+      size = record { 0 = same i .size };
+      active = same i .active;
+      place = same i .place;
+      accounts = same i .accounts;
+      start = same-start i;
+      held = same-helds i;
+      lengths = same-lengths i;
+      tags = same-tags i;
+    }
+
+-- the meaning leaves out the starts and the free places, and nothing else
+pub nothing-forgotten : (l l′ : Link) → Shaped l → Shaped l′ → meaning l ≡ meaning l′
+    → ((i : ℕ) → i < 64 → startOf l i ≡ startOf l′ i)
+    → ((i j : ℕ) → i < 64 → heldOf l i ≤ j → j < 32 → packetAt l i j ≡ packetAt l′ i j)
+    → l ≡ l′
+nothing-forgotten l l′ s s′ same starts free = same-link l l′ same s s′ starts free
+
+-- two states are equal when all else agrees and each class's packets agree in order
+pub same-meaning : (l l′ : Link) → l .tree ≡ l′ .tree → l .size ≡ l′ .size → l .active ≡ l′ .active → l .place ≡ l′ .place
+    → l .accounts ≡ l′ .accounts → ((i : ℕ) → i < 64 → queueOf l i ≡ queueOf l′ i) → meaning l ≡ meaning l′
+same-meaning l l′ tree size active place accounts queues = λ i. record {
+  tree = tree i;
+  size = size i .0;
+  active = active i;
+  place = place i;
+  accounts = accounts i;
+  queues = table-same (queueOf l) (queueOf l′) 64 queues i;
+}

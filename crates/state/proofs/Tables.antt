@@ -1,0 +1,65 @@
+-- Laws of a table, the values of a function at 0, 1, .. n - 1. Demand 2.
+use mathlib.Core.List.{List, [], _∷_, _++_}
+use mathlib.Core.Path.{_≡_, refl, sym, ap, ap₂, _∙_}
+use Prim.Native.Nat.{ℕ, zero, suc, _≤_, _<_}
+use native.Mathlib.Decide.{decLt, ℕ-discrete}
+use native.Mathlib.Omega.{arith}
+use lib.ListN.{length, getD, set, length-append, length-set, List·getD-append, List·getD-eq-default}
+use lib.Seq.{getD-at, getD-set-same, getD-set-other, ext-getD}
+use Rattle.state.specs.Queue.{table}
+
+module _ {A : Type 0} where
+  pub table-none : (f : ℕ → A) → table f 0 ≡ []
+  unfolding table
+  table-none f = refl
+
+  pub table-last : (f : ℕ → A) (n : ℕ) → table f (suc n) ≡ table f n ++ (f n ∷ [])
+  unfolding table
+  table-last f n = refl
+
+  pub table-length : (f : ℕ → A) (n : ℕ) → length (table f n) ≡ n
+  unfolding table
+  table-length f zero = refl
+  table-length f (suc n) = length-append (table f n) (f n ∷ []) ∙ omega (arith, table-length f n)
+
+  pub table-at : (f : ℕ → A) (d : A) (n i : ℕ) → i < n → getD (table f n) i d ≡ f i
+  unfolding table
+  table-at f d zero i h = absurd (omega arith)
+  table-at f d (suc n) i h = go (decLt i n) (λ m. table-at f d n i m)
+    where
+      go : Dec (i < n) → (i < n → getD (table f n) i d ≡ f i) → getD (table f n ++ (f n ∷ [])) i d ≡ f i
+      go (yes m) ih = List·getD-append (table f n) (f n ∷ []) d i (rw table-length m) ∙ ih m
+      go (no m) ih =
+          let e : i ≡ n = omega arith in
+          rw e (getD-at (table f n) (f n) [] d n (table-length f n))
+
+  pub table-past : (f : ℕ → A) (d : A) (n i : ℕ) → n ≤ i → getD (table f n) i d ≡ d
+  table-past f d n i h = List·getD-eq-default (table f n) d (rw table-length h)
+
+  -- the same values give the same table
+  pub table-same : (f g : ℕ → A) (n : ℕ) → ((i : ℕ) → i < n → f i ≡ g i) → table f n ≡ table g n
+  unfolding table
+  table-same f g zero h = refl
+  table-same f g (suc n) h =
+      ap₂ (λ (xs : List A) (x : A). xs ++ (x ∷ [])) (table-same f g n (λ i m. h i (omega arith))) (h n (omega arith))
+
+  -- the first value, and the others behind it
+  pub table-first : (f : ℕ → A) (n : ℕ) → table f (suc n) ≡ f 0 ∷ table (λ j. f (suc j)) n
+  unfolding table
+  table-first f zero = refl
+  table-first f (suc n) = ap (λ (xs : List A). xs ++ (f (suc n) ∷ [])) (table-first f n)
+
+  -- one other value is one store
+  pub table-set : (f g : ℕ → A) (n i : ℕ) (x : A) → i < n → g i ≡ x → ((k : ℕ) → (k ≡ i → ⊥) → g k ≡ f k)
+      → table g n ≡ set (table f n) i x
+  table-set f g n i x h same other =
+      ext-getD x (table g n) (set (table f n) i x)
+      (table-length g n ∙ sym (length-set (table f n) i x ∙ table-length f n))
+      (λ k m. at k (rw table-length at m) (ℕ-discrete k i))
+    where
+      at : (k : ℕ) → k < n → Dec (k ≡ i) → getD (table g n) k x ≡ getD (set (table f n) i x) k x
+      at k m (yes e) =
+          rw e
+          (table-at g x n i h ∙ same ∙ sym (getD-set-same (table f n) i x x (rw table-length h)))
+      at k m (no ne) =
+          table-at g x n k m ∙ other k ne ∙ sym (getD-set-other (table f n) i k x x ne ∙ table-at f x n k m)

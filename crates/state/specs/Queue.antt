@@ -1,0 +1,71 @@
+-- Each class's queue, first in first out, in its 32 of the 2,048 waiting places (document 01, "The link's state"). Demand 2.
+use mathlib.Core.List.{List, [], _∷_, _++_}
+use mathlib.Core.Path.{_≡_}
+use Prim.Native.Nat.{ℕ, zero, suc, _+_, _-_, _*_, _%_}
+use lib.ListN.{getD, set, length}
+use Rattle.state.specs.declared.Link.{Link}
+use Rattle.state.specs.declared.Packet.{Packet}
+
+-- f 0, f 1, .. f (n - 1)
+unfoldable pub table : {A : Type 0} → (ℕ → A) → ℕ → List A
+table f zero = []
+table f (suc n) = table f n ++ (f n ∷ [])
+
+-- a packet whose numbers are 0
+abbrev pub noPacket : Packet
+noPacket = record { length = 0; tag = 0 }
+
+-- where in its 32 places the queue of class i starts, and how many packets it holds
+abbrev pub startOf : Link → ℕ → ℕ
+startOf l i = getD (l .start) i 0
+
+abbrev pub heldOf : Link → ℕ → ℕ
+heldOf l i = getD (l .held) i 0
+
+-- the waiting place of the packet with j packets before it: class times 32 plus position
+abbrev pub slotOf : Link → ℕ → ℕ → ℕ
+slotOf l i j = i * 32 + (startOf l i + j) % 32
+
+-- what that place holds
+abbrev pub packetAt : Link → ℕ → ℕ → Packet
+packetAt l i j = record { length = getD (l .lengths) (slotOf l i j) 0; tag = getD (l .tags) (slotOf l i j) 0 }
+
+-- the packets of class i in order
+unfoldable pub queueOf : Link → ℕ → List Packet
+queueOf l i = table (packetAt l i) (heldOf l i)
+
+-- a packet waits last in class i's queue
+abbrev pub putLast : Link → ℕ → Packet → Link
+putLast l i p = record {
+  tree = l .tree;
+  size = l .size;
+  active = l .active;
+  place = l .place;
+  accounts = l .accounts;
+  start = l .start;
+  held = set (l .held) i (heldOf l i + 1);
+  lengths = set (l .lengths) (slotOf l i (heldOf l i)) (p .length);
+  tags = set (l .tags) (slotOf l i (heldOf l i)) (p .tag);
+}
+
+-- the first packet leaves class i's queue
+abbrev pub takenFirst : Link → ℕ → Link
+takenFirst l i = record {
+  tree = l .tree;
+  size = l .size;
+  active = l .active;
+  place = l .place;
+  accounts = l .accounts;
+  start = set (l .start) i ((startOf l i + 1) % 32);
+  held = set (l .held) i (heldOf l i - 1);
+  lengths = l .lengths;
+  tags = l .tags;
+}
+
+-- the lists of a link have the lengths of its arrays
+pub record Shaped (l : Link) : Type 0 where
+  pub accounts : length (l .accounts) ≡ 64
+  pub start : length (l .start) ≡ 64
+  pub held : length (l .held) ≡ 64
+  pub lengths : length (l .lengths) ≡ 2_048
+  pub tags : length (l .tags) ≡ 2_048

@@ -1,0 +1,78 @@
+-- What a link record means, and the links that are made from nothing (document 01, "The link's state"). Demand 2.
+use mathlib.Core.List.{List, []}
+use Prim.Native.Nat.{ℕ}
+use lib.ListN.{getD, set, replicate}
+use Rattle.units.specs.declared.Bytes.{Bytes}
+use Rattle.tree.specs.declared.Tree.{Tree}
+use Rattle.tree.specs.Class.{noTree}
+use Rattle.state.specs.declared.Account.{Account}
+use Rattle.state.specs.declared.Link.{Link}
+use Rattle.state.specs.declared.Packet.{Packet}
+use Rattle.state.specs.Account.{account, noAccount}
+use Rattle.state.specs.Queue.{table, queueOf}
+
+-- the tree, Q, the set of active classes, the place in the round, each class's account and each class's queue
+pub record State : Type 0 where
+  pub tree : Tree
+  pub size : ℕ
+  pub active : ℕ
+  pub place : ℕ
+  pub accounts : List Account
+  pub queues : List (List Packet)
+
+-- What a place without a packet holds, and where in its 32 places a queue starts, are no part of a state's meaning.
+abbrev pub meaning : Link → State
+meaning l = record {
+  tree = l .tree;
+  size = l .size .0;
+  active = l .active;
+  place = l .place;
+  accounts = l .accounts;
+  queues = table (queueOf l) 64;
+}
+
+-- the packets of class i in order
+abbrev pub queueAt : State → ℕ → List Packet
+queueAt s i = getD (s .queues) i []
+
+-- the state with other queues, or with another queue for class i alone
+abbrev pub withQueues : State → List (List Packet) → State
+withQueues s queues = record {
+  tree = s .tree;
+  size = s .size;
+  active = s .active;
+  place = s .place;
+  accounts = s .accounts;
+  queues = queues;
+}
+
+abbrev pub withQueue : State → ℕ → List Packet → State
+withQueue s i q = withQueues s (set (s .queues) i q)
+
+-- a fresh link: root balance Q, every other B and R zero, queues empty, nothing active, place 64
+abbrev pub freshLink : Tree → Bytes → Link
+freshLink t size = record {
+  tree = t;
+  size = size;
+  active = 0;
+  place = 64;
+  accounts = set (replicate 64 noAccount) 0 (account (size .0) 0);
+  start = replicate 64 0;
+  held = replicate 64 0;
+  lengths = replicate 2_048 0;
+  tags = replicate 2_048 0;
+}
+
+-- the link without classes, all its numbers 0
+abbrev pub noLink : Link
+noLink = record {
+  tree = noTree;
+  size = record { 0 = 0 };
+  active = 0;
+  place = 0;
+  accounts = replicate 64 noAccount;
+  start = replicate 64 0;
+  held = replicate 64 0;
+  lengths = replicate 2_048 0;
+  tags = replicate 2_048 0;
+}
