@@ -1,0 +1,223 @@
+// Commands on one link record, a line for each answer: fresh links, arrivals and soundness of any record of numbers (demands 1 and 2); it runs, and is compared with the written-down answers.
+mod bytes;
+mod fields;
+mod lines;
+mod same;
+
+ghost use Prim.Native.Nat.{_<_, _≤_};
+use bytes::number_8;
+use bytes::number_16;
+use bytes::number_32;
+use bytes::number_64;
+use libc::STDIN_FILENO;
+use lines::number;
+use lines::word;
+use state::Link;
+use state::Packet;
+use tree::Tree;
+
+// Commands by their first bytes, each with its body. A name: length 1, text.
+const NAME: u64 = 1;
+
+// A plan: length 2, its bytes.
+const PLAN: u64 = 2;
+
+// A fresh link of the tree at hand.
+const FRESH: u64 = 3;
+
+// An arrival: class 8, length 2, tag 4.
+const ARRIVE: u64 = 4;
+
+// The first packet of a class leaves: class 8.
+const TAKE: u64 = 5;
+
+// A value stored into one number of the record: field 1, index 2, value 8.
+const STORE: u64 = 6;
+
+// The record is kept.
+const KEEP: u64 = 7;
+
+// Back to the kept record.
+const BACK: u64 = 8;
+
+// Whether the record is sound.
+const SOUND: u64 = 9;
+
+// Whether the record is the very same as the kept one.
+const COMPARE: u64 = 10;
+
+// The name of a case.
+fn name(command: &[u8]) {
+    word(b"# ");
+    word(bytes::part(command, 2, 2 + number_8(command, 1) as usize));
+    word(b"\n");
+}
+
+// A fresh link of a tree.
+fn fresh(tree: Tree) -> Link {
+    let got = link::fresh(tree);
+    let verdict = got.verdict;
+    let after = got.link;
+    lines::verdict(b"fresh ", verdict);
+    number(b" size ", after.size.0);
+    word(b"\n");
+    after
+}
+
+// A fresh link of a plan's tree.
+fn plan(command: &[u8]) -> Link {
+    let read = plan::read_plan(bytes::part(command, 3, 3 + number_16(command, 1) as usize));
+    fresh(read.tree)
+}
+
+// How many packets a class holds; none where there is no such class number.
+fn held(link: Link, class: usize) -> u64 {
+    if 63 < class {
+        return 0;
+    }
+    link.held[class] as u64
+}
+
+// An arrival, and whether the record came back the very same.
+fn arrive(before: Link, command: &[u8]) -> Link {
+    let class = number_64(command, 1) as usize;
+    let length = number_16(command, 9) as u16;
+    let tag = number_32(command, 11) as u32;
+    let packet = Packet { length, tag };
+    let got = link::arrive(before, class, packet);
+    let verdict = got.verdict;
+    let after = got.link;
+    lines::verdict(b"in ", verdict);
+    number(b" held ", held(after, class));
+    lines::either(same::same_link(before, after), b" same\n", b" changed\n");
+    after
+}
+
+// A packet that left.
+fn took(packet: Packet) {
+    number(b"took ", packet.length as u64);
+    number(b" ", packet.tag as u64);
+    word(b"\n");
+}
+
+// No packet left.
+fn untaken(link: Link) -> Link {
+    word(b"took nothing\n");
+    link
+}
+
+// The first packet of a class leaves, where there is one.
+fn take(before: Link, command: &[u8]) -> Link {
+    let class = number_64(command, 1) as usize;
+    if 63 < class {
+        return untaken(before);
+    }
+    if before.held[class] < 1 {
+        return untaken(before);
+    }
+    if 31 < before.start[class] {
+        return untaken(before);
+    }
+    took(before.first(class));
+    before.take(class)
+}
+
+// A value stored into one number of the record.
+fn store(before: Link, command: &[u8]) -> Link {
+    let field = number_8(command, 1);
+    let index = number_16(command, 2) as usize;
+    fields::stored(before, field, index, number_64(command, 4))
+}
+
+// Whether the record is sound.
+fn sound(link: Link) -> Link {
+    lines::either(sound::is_sound(link), b"sound yes\n", b"sound no\n");
+    link
+}
+
+// Whether the record is the very same as the kept one.
+fn compare(link: Link, kept: Link) -> Link {
+    lines::either(
+        same::same_link(link, kept),
+        b"kept same\n",
+        b"kept changed\n",
+    );
+    link
+}
+
+// The record after a command.
+fn after(link: Link, kept: Link, command: &[u8]) -> Link {
+    match number_8(command, 0) {
+        NAME => {
+            name(command);
+            link
+        }
+        PLAN => plan(command),
+        FRESH => fresh(link.tree),
+        ARRIVE => arrive(link, command),
+        TAKE => take(link, command),
+        STORE => store(link, command),
+        BACK => kept,
+        SOUND => sound(link),
+        COMPARE => compare(link, kept),
+        _ => link,
+    }
+}
+
+// The kept record after a command.
+fn kept_after(link: Link, kept: Link, command: &[u8]) -> Link {
+    if number_8(command, 0) == KEEP {
+        return link;
+    }
+    kept
+}
+
+// The bytes of a command.
+fn size(command: &[u8]) -> usize
+    ensures { λ r. ⌜ 1 ≤ r ⌝ }
+{
+    match number_8(command, 0) {
+        NAME => 2 + number_8(command, 1) as usize,
+        PLAN => 3 + number_16(command, 1) as usize,
+        ARRIVE => 15,
+        TAKE => 9,
+        STORE => 12,
+        _ => 1,
+    }
+}
+
+// The place of the next command, at most the input's end.
+fn next(at: usize, size: usize, end: usize) -> usize
+    requires { ⌜ (1 ≤ size) × (at < end) ⌝ }
+    ensures { λ r. ⌜ (at < r) × (r ≤ end) ⌝ }
+{
+    if end - at <= size {
+        return end;
+    }
+    at + size
+}
+
+// Every command, one after the other, on one link record and a kept one.
+fn run(input: &[u8]) {
+    let mut link = Link::none();
+    let mut kept = Link::none();
+    let mut at: usize = 0;
+    while at < input.len() {
+        link = after(link, kept, &input[at..]);
+        kept = kept_after(link, kept, &input[at..]);
+        at = next(at, size(&input[at..]), input.len());
+    }
+}
+
+// The most bytes of commands.
+const MOST: usize = 65_536;
+
+fn main() {
+    let mut input = [0u8; MOST + 1];
+    let n = io::read_full(STDIN_FILENO, &mut input);
+    if MOST < n {
+        word(b"too long\n");
+        return;
+    }
+    run(&input[..n]);
+}

@@ -1,0 +1,47 @@
+-- Who is active, and what the active children of a class weigh (document 01, "Sending", steps 3 and 4). Demand 2.
+use mathlib.Core.Bool.{Bool, cond, _&&_, _||_}
+use Prim.Native.Nat.{ℕ, zero, suc}
+use lib.Dec.{eqb, leb}
+use lib.ListN.{length}
+use Rattle.sets.specs.Set.{has, with}
+use Rattle.tree.specs.declared.Tree.{Tree}
+use Rattle.tree.specs.Class.{parentOf, weightOf, isLeaf, isChild}
+use Rattle.tree.specs.Sum.{sumTo, someTo}
+use Rattle.state.specs.State.{State, queueAt}
+
+-- class j is class i, or below it; n is as many steps up as there can be
+unfoldable pub climbs : ℕ → Tree → ℕ → ℕ → Bool
+climbs zero t i j = eqb i j
+climbs (suc n) t i zero = eqb i 0
+climbs (suc n) t i (suc j) = eqb i (suc j) || climbs n t i (parentOf t (suc j))
+
+unfoldable pub atOrBelow : Tree → ℕ → ℕ → Bool
+atOrBelow t i j = climbs 63 t i j
+
+-- class i is a leaf that holds a packet
+unfoldable pub waits : State → ℕ → Bool
+waits s i = isLeaf (s .tree) i && leb 1 (length (queueAt s i))
+
+-- a packet waits in class i or below it
+unfoldable pub waitsBelow : State → ℕ → Bool
+waitsBelow s i = someTo (λ j. waits s j && atOrBelow (s .tree) i j) (s .tree .count)
+
+-- the set of the classes 0 to n for which f holds
+unfoldable pub setOf : (ℕ → Bool) → ℕ → ℕ
+setOf f zero = cond (f 0) (with 0 0) 0
+setOf f (suc n) = cond (f (suc n)) (with (setOf f n) (suc n)) (setOf f n)
+
+-- the active classes of a round: the leaves that hold a packet, and every class above one
+unfoldable pub roundActive : State → ℕ
+roundActive s = setOf (waitsBelow s) (s .tree .count)
+
+-- class i is an active child of class p, and what it adds to its weight sum
+unfoldable pub activeChild : Tree → ℕ → ℕ → ℕ → Bool
+activeChild t active p i = isChild t p i && has active i
+
+unfoldable pub activeWeight : Tree → ℕ → ℕ → ℕ → ℕ
+activeWeight t active p i = cond (activeChild t active p i) (weightOf t i) 0
+
+-- the weight sum of the active children of class p
+unfoldable pub weightSum : Tree → ℕ → ℕ → ℕ
+weightSum t active p = sumTo (activeWeight t active p) (t .count)

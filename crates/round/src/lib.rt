@@ -1,0 +1,129 @@
+// The rules of sending over what a state means, and the functions that follow them: the weight sums and the quotas of an opening.
+// Serves demand 2.
+ghost use mathlib.Core.Path.{_≡_};
+ghost use Prim.Native.Nat.{_<_, _≤_};
+ghost use lib.ListN.{getD};
+ghost use Rattle.tree.specs.Class.{parentOf};
+ghost use Rattle.tree.specs.Rules.{Light};
+ghost use Rattle.state.specs.Account.{heldBy};
+ghost use Rattle.state.specs.Queue.{table};
+ghost use Rattle.round.specs.Active.{activeWeight, weightSum};
+ghost use Rattle.round.specs.Opening.{kindIs, rootShare, rootOpened, quota, openedAccounts};
+ghost use Rattle.round.specs.Steps.{CanOpen, Fitting, openedBy};
+use state::Account;
+use tree::Tree;
+use units::Bytes;
+use units::Weight;
+
+// What class i adds to the weight sum of class p's active children.
+fn active_weight(tree: Tree, active: u64, p: usize, i: usize) -> Weight
+    requires { ⌜ i < 64 ⌝ }
+    ensures { λ r. ⌜ r .0 ≡ activeWeight tree active p i ⌝ }
+{
+    if tree.parent[i] as usize != p {
+        return Weight(0);
+    }
+    if !sets::has(active, i) {
+        return Weight(0);
+    }
+    tree.weight[i]
+}
+
+// The weight sum of the active children of class p.
+pub fn weight_sum(tree: Tree, active: u64, p: usize) -> Weight
+    requires { ⌜ Light tree ⌝ }
+    ensures { λ r. ⌜ r .0 ≡ weightSum tree active p ⌝ }
+{
+    let last = tree.count;
+    let mut sum = Weight(0);
+    let mut i: usize = 1;
+    while i <= last {
+        sum = sum.plus(active_weight(tree, active, p, i));
+        i += 1;
+    }
+    sum
+}
+
+// The root's fair quota: in a surplus round it shares out nothing.
+fn root_quota(tree: Tree, active: u64, surplus: bool, root: Account) -> u64
+    requires { ⌜ Light tree × (heldBy root ≤ 63_580_608) ⌝ }
+    ensures { λ r. ⌜ r ≡ rootShare (kindIs surplus) tree active root ⌝ }
+{
+    if surplus {
+        return 0;
+    }
+    units::quota(root.held(), weight_sum(tree, active, 0))
+}
+
+// The fair quotas of an opening, for every class number.
+pub fn quotas(tree: Tree, active: u64, surplus: bool, accounts: [Account; 64]) -> [u64; 64]
+    requires { ⌜ CanOpen tree active accounts ⌝ }
+    ensures { λ r. ⌜ r ≡ table (quota (kindIs surplus) tree active accounts) 64 ⌝ }
+{
+    let mut quotas = [0u64; 64];
+    let root = accounts[0];
+    quotas[0] = root_quota(tree, active, surplus, root);
+    let mut i: usize = 1;
+    while i < 64 {
+        let p = tree.parent[i] as usize;
+        let w = tree.weight[i];
+        let a = accounts[i];
+        let has = a.held().plus(units::due(w, quotas[p]));
+        quotas[i] = units::quota(has, weight_sum(tree, active, i));
+        i += 1;
+    }
+    quotas
+}
+
+// The root when a round opens: in a surplus round its account stays.
+fn open_root(tree: Tree, active: u64, surplus: bool, root: Account, quota: u64) -> Account
+    requires { ⌜ Light tree × (heldBy root ≤ 63_580_608) × (quota ≡ rootShare (kindIs surplus) tree active root) ⌝ }
+    ensures { λ r. ⌜ r ≡ rootOpened (kindIs surplus) tree active root ⌝ }
+{
+    if surplus {
+        return root;
+    }
+    let down = units::due(weight_sum(tree, active, 0), quota);
+    let taken = root.take_quota(Bytes(0));
+    taken.hand_down(down)
+}
+
+// A class other than the root when a round opens: an active one takes its due, and an inner one hands down its own quota.
+fn open_class(tree: Tree, active: u64, i: usize, account: Account, quotas: [u64; 64]) -> Account
+    requires { ⌜ Light tree × (i < 64) × (parentOf tree i < 64) × Fitting tree active (λ k. getD quotas k 0) i account ⌝ }
+    ensures { λ r. ⌜ r ≡ openedBy tree active (λ k. getD quotas k 0) i account ⌝ }
+{
+    if !sets::has(active, i) {
+        return account;
+    }
+    let p = tree.parent[i] as usize;
+    let w = tree.weight[i];
+    let taken = account.take_quota(units::due(w, quotas[p]));
+    if sets::has(tree.leaves, i) {
+        return taken;
+    }
+    taken.hand_down(units::due(weight_sum(tree, active, i), quotas[i]))
+}
+
+// The accounts when a round opens.
+pub fn open_accounts(
+    tree: Tree,
+    active: u64,
+    surplus: bool,
+    accounts: [Account; 64],
+) -> [Account; 64]
+    requires { ⌜ CanOpen tree active accounts ⌝ }
+    ensures { λ r. ⌜ r ≡ openedAccounts (kindIs surplus) tree active accounts ⌝ }
+{
+    let quotas = quotas(tree, active, surplus, accounts);
+    let mut opened = accounts;
+    let root = accounts[0];
+    opened[0] = open_root(tree, active, surplus, root, quotas[0]);
+    let mut i: usize = 1;
+    while i < 64 {
+        let a = opened[i];
+        opened[i] = open_class(tree, active, i, a, quotas);
+        i += 1;
+    }
+    opened
+}
