@@ -25,8 +25,11 @@ kindIs true = surplus
 kindIs false = main
 
 -- class i is inner and active, and has B + R at or above the weight sum of its active children
+unfoldable pub surplusAt : Tree → ℕ → Account → ℕ → Bool
+surplusAt t active account i = isInner t i && has active i && surplusOf (heldBy account) (weightSum t active i)
+
 unfoldable pub hasSurplus : Tree → ℕ → List Account → ℕ → Bool
-hasSurplus t active accounts i = isInner t i && has active i && surplusOf (heldBy (accountOf accounts i)) (weightSum t active i)
+hasSurplus t active accounts i = surplusAt t active (accountOf accounts i) i
 
 -- a surplus round if some active inner class has a surplus; otherwise a main round
 unfoldable pub kindOf : Tree → ℕ → List Account → Kind

@@ -1,14 +1,15 @@
 // The rules of sending over what a state means, and the functions that follow them: the weight sums and the quotas of an opening.
 // Serves demand 2.
 ghost use mathlib.Core.Path.{_≡_};
+ghost use mathlib.Core.Bool.{true};
 ghost use Prim.Native.Nat.{_<_, _≤_};
 ghost use lib.ListN.{getD};
-ghost use Rattle.tree.specs.Class.{parentOf};
+ghost use Rattle.tree.specs.Class.{parentOf, isClass};
 ghost use Rattle.tree.specs.Rules.{Light};
 ghost use Rattle.state.specs.Account.{heldBy};
 ghost use Rattle.state.specs.Queue.{table};
 ghost use Rattle.round.specs.Active.{activeWeight, weightSum};
-ghost use Rattle.round.specs.Opening.{kindIs, rootShare, rootOpened, quota, openedAccounts};
+ghost use Rattle.round.specs.Opening.{kindIs, kindOf, surplusAt, rootShare, rootOpened, quota, openedAccounts};
 ghost use Rattle.round.specs.Steps.{CanOpen, Fitting, openedBy};
 use state::Account;
 use tree::Tree;
@@ -126,4 +127,35 @@ pub fn open_accounts(
         i += 1;
     }
     opened
+}
+
+// Whether class i is inner and active and has a surplus: its account is at or above the weight sum of its active children.
+fn class_surplus(tree: Tree, active: u64, i: usize, account: Account) -> bool
+    requires { ⌜ Light tree × (isClass tree i ≡ true) × (i < 64) × (heldBy account ≤ 63_580_608) ⌝ }
+    ensures { λ r. ⌜ r ≡ surplusAt tree active account i ⌝ }
+{
+    if sets::has(tree.leaves, i) {
+        return false;
+    }
+    if !sets::has(active, i) {
+        return false;
+    }
+    units::surplus(account.held(), weight_sum(tree, active, i))
+}
+
+// Whether the round that opens is a surplus round: some active inner class has a surplus.
+pub fn is_surplus(tree: Tree, active: u64, accounts: [Account; 64]) -> bool
+    requires { ⌜ CanOpen tree active accounts ⌝ }
+    ensures { λ r. ⌜ kindIs r ≡ kindOf tree active accounts ⌝ }
+{
+    let last = tree.count;
+    let mut i: usize = 1;
+    while i <= last {
+        let account = accounts[i];
+        if class_surplus(tree, active, i, account) {
+            return true;
+        }
+        i += 1;
+    }
+    false
 }
