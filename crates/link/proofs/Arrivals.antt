@@ -194,3 +194,11 @@ arrival-sound l i p shape u sound e =
 pub arrival-one-answer : (l : Link) (i : ℕ) (p : Packet) (a b : Answered) → Arrives l i p a → Arrives l i p b → a ≡ b
 arrival-one-answer l i p a b x y =
     x .answer ∙ ap (λ (s : Bool). arrivalOf s l i p) (exactly-unique (x .exactly) (y .exactly)) ∙ sym (y .answer)
+
+-- on a record that is not sound every arrival gives 11 at 0, and the very record
+pub unsound-refused : (l : Link) (i : ℕ) (p : Packet) (r : Answered) → (SoundLink l → ⊥) → Arrives l i p r → r ≡ record { verdict = Refused 11 0; link = l }
+unsound-refused l i p r not-sound x = x .answer ∙ go (x .sound) refl
+  where
+    go : (b : Bool) → x .sound ≡ b → arrivalOf (x .sound) l i p ≡ record { verdict = Refused 11 0; link = l }
+    go true e = absurd (not-sound (x .exactly .sound e))
+    go false e = rw e (arrival-refused false l i p (decides _ _ refl))

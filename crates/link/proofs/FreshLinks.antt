@@ -6,6 +6,7 @@ use native.Mathlib.Decide.{ℕ-discrete}
 use native.Mathlib.Omega.{arith}
 use lib.ListN.{length, replicate, length-replicate, getD-replicate}
 use lib.Seq.{getD-set-same, getD-set-other}
+use Rattle.checks.specs.declared.Verdict.the-variants.{Refused}
 use Rattle.checks.proofs.Laws.{not-true-and-false, exactly-unique}
 use Rattle.sets.proofs.Laws.{has-empty}
 use Rattle.tree.specs.declared.Tree.{Tree}
@@ -13,13 +14,16 @@ use Rattle.tree.specs.Rules.{noClass, PlanRules}
 use Rattle.tree.specs.Size.{roundSize}
 use Rattle.tree.proofs.Sums.{sum-zero}
 use Rattle.state.specs.declared.Account.{Account}
+use Rattle.state.specs.declared.Packet.{Packet}
 use Rattle.state.specs.Account.{account, noAccount, accountOf, heldBy}
 use Rattle.state.specs.State.{meaning, queueAt, freshLink, noLink}
 use Rattle.state.proofs.Meaning.{meaning-held, fresh-queues}
 use Rattle.state.proofs.Queues.{queue-length}
 use Rattle.sound.specs.Sound.{total, SoundLink}
 use Rattle.link.specs.declared.Answered.{Answered}
+use Rattle.link.specs.Arrival.{Arrives}
 use Rattle.link.specs.Fresh.{freshOf, MakesFresh}
+use Rattle.link.proofs.Arrivals.{unsound-refused}
 
 -- the accounts of a fresh link: the root's has Q, every other nothing
 module _ (t : Tree) (q : ℕ) where
@@ -83,3 +87,7 @@ none-not-sound s = not-true-and-false refl (s .state .fits .tree .closing .class
 pub fresh-one-answer : (t : Tree) (a b : Answered) → MakesFresh t a → MakesFresh t b → a ≡ b
 fresh-one-answer t a b x y =
     x .answer ∙ ap (λ (o : Bool). freshOf o t) (exactly-unique (x .exactly) (y .exactly)) ∙ sym (y .answer)
+
+-- so every arrival on it gives 11 at 0
+pub none-refuses : (i : ℕ) (p : Packet) (r : Answered) → Arrives noLink i p r → r ≡ record { verdict = Refused 11 0; link = noLink }
+none-refuses i p r = unsound-refused noLink i p r none-not-sound
