@@ -1,3 +1,5 @@
 pub mod Sums
 pub mod Shares
+pub mod Waiting
+pub mod Searching
 pub mod TreeP

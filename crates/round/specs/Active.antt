@@ -22,18 +22,22 @@ atOrBelow t i j = climbs 63 t i j
 unfoldable pub waits : State → ℕ → Bool
 waits s i = isLeaf (s .tree) i && leb 1 (length (queueAt s i))
 
--- a packet waits in class i or below it
-unfoldable pub waitsBelow : State → ℕ → Bool
-waitsBelow s i = someTo (λ j. waits s j && atOrBelow (s .tree) i j) (s .tree .count)
+-- some class at or below class i is one of those that w tells
+unfoldable pub someBelow : Tree → (ℕ → Bool) → ℕ → Bool
+someBelow t w i = someTo (λ j. w j && atOrBelow t i j) (t .count)
 
 -- the set of the classes 0 to n for which f holds
 unfoldable pub setOf : (ℕ → Bool) → ℕ → ℕ
 setOf f zero = cond (f 0) (with 0 0) 0
 setOf f (suc n) = cond (f (suc n)) (with (setOf f n) (suc n)) (setOf f n)
 
+-- those classes, and every class above one
+unfoldable pub upward : Tree → (ℕ → Bool) → ℕ
+upward t w = setOf (someBelow t w) (t .count)
+
 -- the active classes of a round: the leaves that hold a packet, and every class above one
 unfoldable pub roundActive : State → ℕ
-roundActive s = setOf (waitsBelow s) (s .tree .count)
+roundActive s = upward (s .tree) (waits s)
 
 -- class i is an active child of class p, and what it adds to its weight sum
 unfoldable pub activeChild : Tree → ℕ → ℕ → ℕ → Bool

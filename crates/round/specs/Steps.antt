@@ -1,9 +1,9 @@
 -- What the inner functions of an opening ask; no rule of its own.
-use mathlib.Core.Bool.{true, cond}
+use mathlib.Core.Bool.{Bool, true, cond, _&&_}
 use mathlib.Core.List.{List}
 use mathlib.Core.Path.{_≡_}
 use Prim.Native.Nat.{ℕ, _+_, _*_, _≤_, _<_}
-use lib.Dec.{eqb}
+use lib.Dec.{eqb, leb}
 use lib.ListN.{length, getD}
 use Rattle.sets.specs.Set.{has}
 use Rattle.tree.specs.declared.Tree.{Tree}
@@ -40,3 +40,7 @@ pub record Fitting (t : Tree) (active : ℕ) (q : ℕ → ℕ) (i : ℕ) (a : Ac
 abbrev pub openedFrom : Tree → ℕ → List ℕ → List Account → ℕ → Account
 openedFrom t active quotas accounts i =
     cond (eqb i 0) (accountOf accounts 0) (openedBy t active (λ k. getD quotas k 0) i (accountOf accounts i))
+
+-- class i is a leaf that holds a packet, in the numbers of the record
+unfoldable pub holdsSome : Tree → List ℕ → ℕ → Bool
+holdsSome t held i = isLeaf t i && leb 1 (getD held i 0)

@@ -1,16 +1,19 @@
-// The rules of sending over what a state means, and the functions that follow them: the weight sums and the quotas of an opening.
+// The rules of sending over what a state means, and the functions that follow them: who is active in a round, its kind, its quotas and accounts.
 // Serves demand 2.
+pub mod search;
+
 ghost use mathlib.Core.Path.{_≡_};
-ghost use mathlib.Core.Bool.{true};
+ghost use mathlib.Core.Bool.{true, _||_};
 ghost use Prim.Native.Nat.{_<_, _≤_};
 ghost use lib.ListN.{getD};
 ghost use Rattle.tree.specs.Class.{parentOf, isClass};
-ghost use Rattle.tree.specs.Rules.{Light};
+ghost use Rattle.sets.specs.Set.{has};
+ghost use Rattle.tree.specs.Rules.{Light, PlanRules};
 ghost use Rattle.state.specs.Account.{heldBy};
 ghost use Rattle.state.specs.Queue.{table};
-ghost use Rattle.round.specs.Active.{activeWeight, weightSum};
+ghost use Rattle.round.specs.Active.{activeWeight, weightSum, upward};
 ghost use Rattle.round.specs.Opening.{kindIs, kindOf, surplusAt, rootShare, rootOpened, quota, openedAccounts};
-ghost use Rattle.round.specs.Steps.{CanOpen, Fitting, openedBy};
+ghost use Rattle.round.specs.Steps.{CanOpen, Fitting, openedBy, holdsSome};
 use state::Account;
 use tree::Tree;
 use units::Bytes;
@@ -158,4 +161,42 @@ pub fn is_surplus(tree: Tree, active: u64, accounts: [Account; 64]) -> bool
         i += 1;
     }
     false
+}
+
+// Whether class i is a leaf that holds a packet.
+fn holds_some(tree: Tree, held: [u8; 64], i: usize) -> bool
+    requires { ⌜ i < 64 ⌝ }
+    ensures { λ r. ⌜ r ≡ holdsSome tree held i ⌝ }
+{
+    if !sets::has(tree.leaves, i) {
+        return false;
+    }
+    1 <= held[i]
+}
+
+// Whether class i is taken into a round, when the classes above it are: a class below it is, or it holds a packet.
+fn is_taken(tree: Tree, held: [u8; 64], active: u64, i: usize) -> bool
+    requires { ⌜ i < 64 ⌝ }
+    ensures { λ r. ⌜ r ≡ (has active i || holdsSome tree held i) ⌝ }
+{
+    if sets::has(active, i) {
+        return true;
+    }
+    holds_some(tree, held, i)
+}
+
+// The active classes of a round: the leaves that hold a packet, and every class above one.
+pub fn round_active(tree: Tree, held: [u8; 64]) -> u64
+    requires { ⌜ PlanRules tree ⌝ }
+    ensures { λ r. ⌜ r ≡ upward tree (holdsSome tree held) ⌝ }
+{
+    let mut active: u64 = 0;
+    let mut i: usize = tree.count;
+    while 0 < i {
+        let p = tree.parent[i] as usize;
+        let on = is_taken(tree, held, active, i);
+        active = sets::with_if(sets::with_if(active, i, on), p, on);
+        i -= 1;
+    }
+    active
 }

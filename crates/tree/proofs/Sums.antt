@@ -64,3 +64,15 @@ some-found f (suc n) i l u e = go (decLe i n) (λ m. some-found f n i l m e)
     go (no m) ih =
         let s : suc n ≡ i = omega arith in
         rw (s, e) (or-true (someTo f n))
+
+-- and one that holds was found
+pub some-which : (f : ℕ → Bool) (n : ℕ) → someTo f n ≡ true → (i : ℕ) × (1 ≤ i) × (i ≤ n) × (f i ≡ true)
+unfolding someTo
+some-which f zero e = absurd (let z : _≡_ {A = ℕ} 0 1 = cc in omega arith)
+some-which f (suc n) e = go (someTo f n) refl (λ h. some-which f n h)
+  where
+    go : (b : Bool) → someTo f n ≡ b → (someTo f n ≡ true → (i : ℕ) × (1 ≤ i) × (i ≤ n) × (f i ≡ true)) → (i : ℕ) × (1 ≤ i) × (i ≤ suc n) × (f i ≡ true)
+    go true h ih =
+        let w = ih h in
+        (w .0, w .1, omega arith, w .3)
+    go false h ih = (suc n, omega arith, omega arith, rw h at e)
