@@ -111,7 +111,7 @@ module _ (l : Link) (rules : PlanRules (l .tree)) where
                         rw (packet-is i j u h′) (record { low = right .at i u .lengths .low j h′; high = right .at i u .lengths .high j h′ });
                     other = λ f. rw (meaning-held l i u) (view i u .other f);
                   };
-              waiting = λ i u. record { waits = λ f a. rw (meaning-held l i u) (view i u .waits f a) };
+              waiting = λ i u. record { waits = λ f a. omega (arith, meaning-held l i u, view i u .waits f a) };
               past = record { word = word; past = λ i h. none i h (decLt i 64) };
               above = λ i u. record { leaf-below = by .has-leaf i; active = by .from-leaf i };
               zero = λ i u. record { balance = view i u .balance; residual = view i u .residual; leaf = view i u .leaf };
