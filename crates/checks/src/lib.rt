@@ -37,6 +37,8 @@ pub const NO_LEAF: u8 = 12;
 pub const LENGTH: u8 = 13;
 // That leaf already holds 32 packets.
 pub const FULL: u8 = 14;
+// Send, and no packet waits.
+pub const NOTHING_WAITS: u8 = 15;
 
 // The number of a verdict: 0 where all passed.
 pub fn number(v: Verdict) -> u8

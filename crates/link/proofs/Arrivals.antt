@@ -2,7 +2,7 @@
 use mathlib.Core.Bool.{Bool, true, false, not, _||_}
 use mathlib.Core.List.{List, [], _∷_, _++_}
 use mathlib.Core.Logic.{_⊎_, inl, inr}
-use mathlib.Core.Path.{_≡_, refl, sym, ap, _∙_}
+use mathlib.Core.Path.{_≡_, refl, sym, ap, subst, _∙_}
 use Prim.Native.Nat.{ℕ, _+_, _≤_, _<_}
 use native.Mathlib.Decide.{decLt, ℕ-discrete}
 use native.Mathlib.Omega.{arith}
@@ -12,7 +12,7 @@ use lib.Seq.{getD-set-same, getD-set-other, getD-at}
 use borrow.Author.Tests.{leb-false, ltb-false, not-false}
 use Rattle.checks.specs.declared.Verdict.{Verdict}
 use Rattle.checks.specs.declared.Verdict.the-variants.{Passed, Refused}
-use Rattle.checks.specs.Check.{check, firstBroken}
+use Rattle.checks.specs.Check.{check, firstBroken, Exactly}
 use Rattle.checks.proofs.Laws.{not-true-and-false, refused-or-passed, decides, pass-over, passed-parts, exactly-unique}
 use Rattle.units.specs.Cost.{costOf}
 use Rattle.tree.specs.Class.{longestOf, isLeaf}
@@ -202,3 +202,22 @@ unsound-refused l i p r not-sound x = x .answer ∙ go (x .sound) refl
     go : (b : Bool) → x .sound ≡ b → arrivalOf (x .sound) l i p ≡ record { verdict = Refused 11 0; link = l }
     go true e = absurd (not-sound (x .exactly .sound e))
     go false e = rw e (arrival-refused false l i p (decides _ _ refl))
+
+-- ---- what the contract says of an exact flag and its answer
+
+pub arrives-by : (l : Link) (i : ℕ) (p : Packet) (flag : Bool) (r : Answered) → Shaped l → (isLeaf (l .tree) i ≡ true → i < 64) → Exactly flag (SoundLink l)
+    → r ≡ arrivalOf flag l i p → Arrives l i p r
+arrives-by l i p flag r shape leaf exactly e = record {
+  sound = flag;
+  exactly = exactly;
+  answer = e;
+  keeps = λ sound. subst (λ (a : Answered). SoundLink (a .link)) (sym (e ∙ ap (λ (b : Bool). arrivalOf b l i p) (exactly .complete sound))) (go sound (refused-or-passed (firstBroken (arrivalChecks true (meaning l) i p))));
+}
+  where
+    go : SoundLink l → (firstBroken (arrivalChecks true (meaning l) i p) ≡ Passed)
+        ⊎ ((n : ℕ) × (q : ℕ) × (firstBroken (arrivalChecks true (meaning l) i p) ≡ Refused n q))
+        → SoundLink (arrivalOf true l i p .link)
+    go sound (inl passed) =
+        subst (λ (a : Answered). SoundLink (a .link)) (sym (arrival-taken true l i p passed))
+        (arrival-sound l i p shape (leaf (taken true (meaning l) i p passed .leaf)) sound passed)
+    go sound (inr w) = subst (λ (a : Answered). SoundLink (a .link)) (sym (arrival-refused true l i p (w .2))) sound

@@ -1,2 +1,3 @@
 pub mod Arrivals
+pub mod Departures
 pub mod FreshLinks

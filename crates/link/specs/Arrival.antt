@@ -45,8 +45,9 @@ arrivalGives (Refused n q) l class p = record { verdict = Refused n q; link = l 
 unfoldable pub arrivalOf : Bool → Link → ℕ → Packet → Answered
 arrivalOf sound l class p = arrivalGives (firstBroken (arrivalChecks sound (meaning l) class p)) l class p
 
--- what an arrival on any record gives
+-- what an arrival on any record gives; on a sound one it gives a sound one
 pub record Arrives (l : Link) (class : ℕ) (p : Packet) (r : Answered) : Type 0 where
   pub sound : Bool
   pub exactly : Exactly sound (SoundLink l)
   pub answer : r ≡ arrivalOf sound l class p
+  pub keeps : SoundLink l → SoundLink (r .link)

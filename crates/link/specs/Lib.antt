@@ -1,4 +1,5 @@
--- The calls of the library: a fresh link and an arrival.
+-- The calls of the library: a fresh link, an arrival and a send.
 pub mod Fresh
 pub mod Arrival
+pub mod Send
 pub mod Steps

@@ -1,9 +1,11 @@
-// The calls of the library: a fresh link from a plan's tree, and an arrival. Entries for callers outside: they ask nothing.
-// Serves demand 1 (numbers 11 to 14, a refused call hands the record back unaltered) and demand 2.
+// The calls of the library: a fresh link from a plan's tree, an arrival and a send. Entries for callers outside: they ask nothing.
+// Serves demand 1 (numbers 11 to 15, a refused call hands the record back unaltered) and demand 2.
 ghost use mathlib.Core.Path.{_≡_};
 ghost use Rattle.checks.specs.Check.{firstBroken};
 ghost use Rattle.link.specs.Fresh.{MakesFresh};
 ghost use Rattle.link.specs.Arrival.{Arrives};
+ghost use Rattle.checks.specs.declared.Verdict.the-variants.{Refused};
+ghost use Rattle.link.specs.Send.{sendGives, Sends};
 ghost use Rattle.link.specs.Steps.{judgeChecks};
 use checks::Verdict;
 use state::Link;
@@ -13,6 +15,16 @@ use tree::Tree;
 // What a call on a link gives: a verdict and the link after it.
 pub struct Answered {
     pub verdict: Verdict,
+    pub link: Link,
+}
+
+// What a send gives: a verdict, the packet that goes with its class, the rounds opened in the call, and the link after it. All numbers of a refused one are 0.
+pub struct Departure {
+    pub verdict: Verdict,
+    pub class: usize,
+    pub length: u16,
+    pub tag: u32,
+    pub rounds: usize,
     pub link: Link,
 }
 
@@ -71,6 +83,45 @@ pub fn arrive(link: Link, class: usize, packet: Packet) -> Answered
     let after = link.put(class, packet);
     Answered {
         verdict,
+        link: after,
+    }
+}
+
+// A refused send: the very same record, and all other numbers 0.
+fn no_departure(number: u8, link: Link) -> Departure
+    ensures { λ r. ⌜ r ≡ sendGives (Refused number 0) link ⌝ }
+{
+    let verdict = Verdict::Refused(number, 0);
+    Departure {
+        verdict,
+        class: 0,
+        length: 0,
+        tag: 0,
+        rounds: 0,
+        link,
+    }
+}
+
+// A send.
+pub fn send(link: Link) -> Departure
+    ensures { λ r. ⌜ Sends link r ⌝ }
+{
+    if !sound::is_sound(link) {
+        return no_departure(checks::NOT_SOUND, link);
+    }
+    if !sending::some_waits(link) {
+        return no_departure(checks::NOTHING_WAITS, link);
+    }
+    let sent = sending::send(link);
+    let packet = sent.packet;
+    let verdict = Verdict::Passed;
+    let after = sent.link;
+    Departure {
+        verdict,
+        class: sent.class,
+        length: packet.length,
+        tag: packet.tag,
+        rounds: sent.rounds,
         link: after,
     }
 }

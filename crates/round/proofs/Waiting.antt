@@ -204,14 +204,14 @@ module _ (t : Tree) (rules : PlanRules t) where
   -- ---- the classes at or above those that w tells
 
   module _ (w : ℕ → Bool) where
-    some-self : (i : ℕ) → isClass t i ≡ true → w i ≡ true → someBelow t w i ≡ true
+    pub some-self : (i : ℕ) → isClass t i ≡ true → w i ≡ true → someBelow t w i ≡ true
     unfolding someBelow
     some-self i is e =
         let r = class-range t i is in
         let u : i < 64 = omega (arith, r .1, few-classes t rules) in
         some-found (λ j. w j && atOrBelow t i j) (t .count) i (r .0) (r .1) (rw (e, below-self i u))
 
-    some-parent : (c : ℕ) → isClass t c ≡ true → someBelow t w c ≡ true → someBelow t w (parentOf t c) ≡ true
+    pub some-parent : (c : ℕ) → isClass t c ≡ true → someBelow t w c ≡ true → someBelow t w (parentOf t c) ≡ true
     unfolding someBelow
     some-parent c is e =
         let f = some-which (λ j. w j && atOrBelow t c j) (t .count) e in
@@ -219,10 +219,10 @@ module _ (t : Tree) (rules : PlanRules t) where
         let u : f .0 < 64 = omega (arith, f .2, few-classes t rules) in
         some-found (λ j. w j && atOrBelow t (parentOf t c) j) (t .count) (f .0) (f .1) (f .2) (rw (h .0, below-up c (f .0) is u (h .1)))
 
-    Parts : ℕ → Type 0
+    unfoldable pub Parts : ℕ → Type 0
     Parts i = ((isClass t i ≡ true) × (w i ≡ true)) ⊎ ((c : ℕ) × (isClass t c ≡ true) × (parentOf t c ≡ i) × (someBelow t w c ≡ true))
 
-    some-parts : (i : ℕ) → someBelow t w i ≡ true → Parts i
+    pub some-parts : (i : ℕ) → someBelow t w i ≡ true → Parts i
     unfolding someBelow Parts
     some-parts i e =
         let f = some-which (λ j. w j && atOrBelow t i j) (t .count) e in
@@ -403,7 +403,7 @@ module _ (t : Tree) (rules : PlanRules t) where
 
 -- ---- what the record's counts say is what its meaning says
 
-some-same : (f g : ℕ → Bool) (n : ℕ) → ((i : ℕ) → 1 ≤ i → i ≤ n → f i ≡ g i) → someTo f n ≡ someTo g n
+pub some-same : (f g : ℕ → Bool) (n : ℕ) → ((i : ℕ) → 1 ≤ i → i ≤ n → f i ≡ g i) → someTo f n ≡ someTo g n
 unfolding someTo
 some-same f g zero h = refl
 some-same f g (suc n) h = ap₂ _||_ (some-same f g n (λ i l u. h i l (omega arith))) (h (suc n) (omega arith) (omega arith))

@@ -22,6 +22,10 @@ atOrBelow t i j = climbs 63 t i j
 unfoldable pub waits : State → ℕ → Bool
 waits s i = isLeaf (s .tree) i && leb 1 (length (queueAt s i))
 
+-- a packet waits
+unfoldable pub someWaits : State → Bool
+someWaits s = someTo (waits s) (s .tree .count)
+
 -- some class at or below class i is one of those that w tells
 unfoldable pub someBelow : Tree → (ℕ → Bool) → ℕ → Bool
 someBelow t w i = someTo (λ j. w j && atOrBelow t i j) (t .count)

@@ -14,6 +14,7 @@ use Rattle.state.specs.declared.Packet.{Packet}
 use Rattle.state.specs.Account.{accountOf, balanceOf, heldBy, sentFrom, gained, returned, received}
 use Rattle.state.specs.Queue.{noPacket}
 use Rattle.state.specs.State.{State, queueAt}
+use Rattle.round.specs.declared.Books.{Books}
 use Rattle.round.specs.Active.{activeChild, roundActive}
 use Rattle.round.specs.Opening.{Kind, nextKind, quota, opened}
 
@@ -33,11 +34,6 @@ firstFrom f (suc n) p = elim (f p) [ true ↦ p | false ↦ firstFrom f n (suc p
 -- step 1: the lowest-numbered active leaf not below the place whose balance covers its first packet; 64 where the round has closed
 unfoldable pub nextLeaf : State → ℕ
 nextLeaf s = firstFrom (ready s) (64 - s .place) (s .place)
-
--- who is active, and the accounts
-pub record Books : Type 0 where
-  pub active : ℕ
-  pub accounts : List Account
 
 -- class i turns inactive and gives what it holds to its parent's residual
 unfoldable pub givenUp : Tree → ℕ → Books → Books
@@ -62,12 +58,15 @@ turnsOff (suc n) t i b =
       | false ↦ elim (eqb p 0) [ true ↦ rootOff after | false ↦ turnsOff n t p after ]
     ]
 
--- the leaf loses what its first packet costs, the root's balance gains it
-unfoldable pub paid : State → ℕ → List Account
-paid s i =
-    let cost = costOf (firstOf s i .length) in
-    let less = set (s .accounts) i (sentFrom (accountOf (s .accounts) i) cost) in
+-- leaf i loses what a packet costs, the root's balance gains it
+abbrev pub paidBy : List Account → ℕ → ℕ → List Account
+paidBy accounts i cost =
+    let less = set accounts i (sentFrom (accountOf accounts i) cost) in
     set less 0 (gained (accountOf less 0) cost)
+
+-- it pays for its first packet
+unfoldable pub paid : State → ℕ → List Account
+paid s i = paidBy (s .accounts) i (costOf (firstOf s i .length))
 
 -- the books when leaf i has sent its first packet: if that was its last, the leaf turns inactive at once
 unfoldable pub booksAfter : State → ℕ → Books
@@ -110,7 +109,7 @@ pub record Trace : Type 0 where
   pub packet : Packet
   pub state : State
 
--- a leaf sends, or the round has closed and a new one is opened in the same call; n is as many openings as there can be
+-- a leaf sends, or the round has closed and a new one is opened in the same call; n is more openings than there can be
 unfoldable pub sends : ℕ → List Turn → State → Trace
 sends zero turns s = record { turns = turns; class = nextLeaf s; packet = firstOf s (nextLeaf s); state = sentState s (nextLeaf s) }
 sends (suc n) turns s =
@@ -119,3 +118,7 @@ sends (suc n) turns s =
       | true ↦ record { turns = turns; class = i; packet = firstOf s i; state = sentState s i }
       | false ↦ sends n (turns ++ (turnOf s ∷ [])) (opened s)
     ]
+
+-- the trace of a whole send
+unfoldable pub traceOf : State → Trace
+traceOf s = sends 64 [] s

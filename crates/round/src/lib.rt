@@ -19,6 +19,12 @@ use tree::Tree;
 use units::Bytes;
 use units::Weight;
 
+// What a send changes beside the queues and the place: who is active, and the accounts.
+pub struct Books {
+    pub active: u64,
+    pub accounts: [Account; 64],
+}
+
 // What class i adds to the weight sum of class p's active children.
 fn active_weight(tree: Tree, active: u64, p: usize, i: usize) -> Weight
     requires { ⌜ i < 64 ⌝ }
@@ -164,7 +170,7 @@ pub fn is_surplus(tree: Tree, active: u64, accounts: [Account; 64]) -> bool
 }
 
 // Whether class i is a leaf that holds a packet.
-fn holds_some(tree: Tree, held: [u8; 64], i: usize) -> bool
+pub fn holds_some(tree: Tree, held: [u8; 64], i: usize) -> bool
     requires { ⌜ i < 64 ⌝ }
     ensures { λ r. ⌜ r ≡ holdsSome tree held i ⌝ }
 {

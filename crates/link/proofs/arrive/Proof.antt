@@ -7,12 +7,14 @@ use Rattle.checks.specs.declared.Verdict.the-variants.{Passed}
 use Rattle.checks.specs.Check.{firstBroken}
 use Rattle.tree.specs.Class.{longestOf, isLeaf}
 use Rattle.state.specs.declared.Link.{Link}
-use Rattle.state.specs.Queue.{heldOf}
+use lib.ListN.{length-map}
+use Prim.Native.Nat.{_<_}
+use Rattle.state.specs.Queue.{Shaped, heldOf}
 use Rattle.state.specs.State.{meaning}
 use Rattle.state.proofs.Meaning.{meaning-held}
 use Rattle.link.specs.Arrival.{arrivalChecks}
 use Rattle.link.specs.Steps.{judgeChecks}
-use Rattle.link.proofs.Arrivals.{same-checks, no-leaf-checks, no-leaf-refused, arrival-refused, arrival-taken, taken}
+use Rattle.link.proofs.Arrivals.{same-checks, no-leaf-checks, no-leaf-refused, arrival-refused, arrival-taken, taken, arrives-by}
 use borrow.Author.Needs.{needs}
 use Rattle.link.proofs.arrive.Statement.{statement}
 use Rattle.link.proofs.arrive.Tie as tie
@@ -42,6 +44,21 @@ said c =
     (h .holds .ensures .0)
     ∙ ap firstBroken (same-checks (s .is-sound .result) (a .t1) (a .class) (a .packet) (c .before .before .before .if1 .left))
 
+-- the lists of the link have the lengths of its arrays
+shaped : (c : tie.Start) → Shaped (c .args .t1)
+shaped c = record {
+  accounts = sym (length-map (c .args .t1 .accounts) _) ∙ c .good .0 .1 .1 .1 .1 .1 .1 .0 .1 .0 .1;
+  start = search needs;
+  held = search needs;
+  lengths = search needs;
+  tags = search needs;
+}
+
+-- a class whose leaf's flag is on is below 64
+leaf-below : (c : tie.After-holds) → isLeaf (c .before .before .before .args .t1 .tree) (c .before .before .before .args .class) ≡ true → c .before .before .before .args .class < 64
+unfolding isLeaf
+leaf-below c on = c .holds .ensures .1 (c .holds .ensures .0 ∙ on)
+
 is-sound-requires : tie.Need-is-sound-requires
 is-sound-requires c κs = search needs
 
@@ -59,14 +76,10 @@ returns c =
     let a = s .before .args in
     let leaf = h .holds .ensures in
     let off : h .holds .result ≡ false = no-leaf (h .holds .result) (λ e. omega (arith, leaf .1 e, c .before .if1 .taken)) in
-    record {
-      sound = s .is-sound .result;
-      exactly = s .is-sound .ensures;
-      answer =
-          ap (λ (v : Verdict). record { verdict = v; link = a .t1 })
-          (c .judge .ensures ∙ no-leaf-checks (s .is-sound .result) (h .holds .result) (a .t1) (a .class) 0 0 (a .packet) (leaf .0) off)
-          ∙ sym (no-leaf-refused (s .is-sound .result) (a .t1) (a .class) (a .packet) (sym (leaf .0) ∙ off));
-    }
+    arrives-by (a .t1) (a .class) (a .packet) (s .is-sound .result) _ (shaped (s .before)) (leaf-below h) (s .is-sound .ensures)
+    (ap (λ (v : Verdict). record { verdict = v; link = a .t1 })
+    (c .judge .ensures ∙ no-leaf-checks (s .is-sound .result) (h .holds .result) (a .t1) (a .class) 0 0 (a .packet) (leaf .0) off)
+    ∙ sym (no-leaf-refused (s .is-sound .result) (a .t1) (a .class) (a .packet) (sym (leaf .0) ∙ off)))
 
 element-copy-out-held : tie.Need-element-copy-out-held
 element-copy-out-held c = search needs
@@ -89,13 +102,9 @@ returns-2 c =
     let s = j .before .before .before .before .before .before in
     let a = s .before .args in
     let refused = c .enum-told .given .1 in
-    record {
-      sound = s .is-sound .result;
-      exactly = s .is-sound .ensures;
-      answer =
-          ap (λ (v : Verdict). record { verdict = v; link = a .t1 }) refused
-          ∙ sym (arrival-refused (s .is-sound .result) (a .t1) (a .class) (a .packet) (sym (said j) ∙ refused));
-    }
+    arrives-by (a .t1) (a .class) (a .packet) (s .is-sound .result) _ (shaped (s .before)) (leaf-below (j .before .before .before .before)) (s .is-sound .ensures)
+    (ap (λ (v : Verdict). record { verdict = v; link = a .t1 }) refused
+    ∙ sym (arrival-refused (s .is-sound .result) (a .t1) (a .class) (a .packet) (sym (said j) ∙ refused)))
 
 enum-told-2 : tie.Need-enum-told-2
 enum-told-2 c = search needs
@@ -116,14 +125,10 @@ returns-3 c =
     let s = j .before .before .before .before .before .before in
     let a = s .before .args in
     let passed = c .before .enum-told2 .given .1 in
-    record {
-      sound = s .is-sound .result;
-      exactly = s .is-sound .ensures;
-      answer =
-          ap (λ (v : Verdict). record { verdict = v; link = c .put .result }) passed
-          ∙ ap (λ (l : Link). record { verdict = Passed; link = l }) (c .put .ensures)
-          ∙ sym (arrival-taken (s .is-sound .result) (a .t1) (a .class) (a .packet) (sym (said j) ∙ passed));
-    }
+    arrives-by (a .t1) (a .class) (a .packet) (s .is-sound .result) _ (shaped (s .before)) (leaf-below (j .before .before .before .before)) (s .is-sound .ensures)
+    (ap (λ (v : Verdict). record { verdict = v; link = c .put .result }) passed
+    ∙ ap (λ (l : Link). record { verdict = Passed; link = l }) (c .put .ensures)
+    ∙ sym (arrival-taken (s .is-sound .result) (a .t1) (a .class) (a .packet) (sym (said j) ∙ passed)))
 
 pub arrive-spec : {M : Type 1} → statement M
 arrive-spec =

@@ -1,0 +1,15 @@
+pub mod Sums
+pub mod Stores
+pub mod Searches
+pub mod GivenUp
+pub mod TurnedOff
+pub mod Sender
+pub mod SentBooks
+pub mod Sent
+pub mod ByParent
+pub mod Taken
+pub mod Opened
+pub mod Closing
+pub mod Gains
+pub mod Rounds
+pub mod Within

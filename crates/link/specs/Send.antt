@@ -1,0 +1,45 @@
+-- A send on any link record (document 01, "Numbers a crew can act on" and "Sending"). Demands 1 and 2.
+use mathlib.Core.Bool.{Bool, not}
+use mathlib.Core.List.{List, [], _∷_}
+use mathlib.Core.Path.{_≡_}
+use lib.ListN.{length}
+use Rattle.checks.specs.declared.Verdict.{Verdict}
+use Rattle.checks.specs.declared.Verdict.the-variants.{Passed, Refused}
+use Rattle.checks.specs.Check.{Check, check, firstBroken, Exactly}
+use Rattle.state.specs.declared.Link.{Link}
+use Rattle.state.specs.State.{State, meaning}
+use Rattle.sound.specs.Sound.{SoundLink}
+use Rattle.round.specs.Active.{someWaits}
+use Rattle.round.specs.Sending.{Trace, traceOf}
+use Rattle.sending.specs.After.{linkAfter}
+use Rattle.link.specs.declared.Departure.{Departure}
+
+-- a send is checked in the order 11, 15, both at 0; 15: no packet waits
+abbrev pub sendChecks : Bool → State → List Check
+sendChecks sound s = check 11 (not sound) 0 ∷ check 15 (not (someWaits s)) 0 ∷ []
+
+-- the answer: class, length, tag and the number of rounds opened in the call, read off the trace; the link after it is in the trace's state
+abbrev pub departs : Link → Trace → Departure
+departs l trace = record {
+  verdict = Passed;
+  class = trace .class;
+  length = trace .packet .length;
+  tag = trace .packet .tag;
+  rounds = length (trace .turns);
+  link = linkAfter l trace;
+}
+
+-- a refused send gives the very same record, and all its other numbers are 0
+abbrev pub sendGives : Verdict → Link → Departure
+sendGives Passed l = departs l (traceOf (meaning l))
+sendGives (Refused n q) l = record { verdict = Refused n q; class = 0; length = 0; tag = 0; rounds = 0; link = l }
+
+unfoldable pub sendOf : Bool → Link → Departure
+sendOf sound l = sendGives (firstBroken (sendChecks sound (meaning l))) l
+
+-- what a send on any record gives; on a sound one it gives a sound one
+pub record Sends (l : Link) (r : Departure) : Type 0 where
+  pub sound : Bool
+  pub exactly : Exactly sound (SoundLink l)
+  pub answer : r ≡ sendOf sound l
+  pub keeps : SoundLink l → SoundLink (r .link)

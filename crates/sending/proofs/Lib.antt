@@ -1,0 +1,4 @@
+pub mod Fitting
+pub mod Meanings
+pub mod OnTheWay
+pub mod Traces

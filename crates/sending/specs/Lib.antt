@@ -1,0 +1,3 @@
+-- What the record of a link is after the steps of a send.
+pub mod After
+pub mod Steps

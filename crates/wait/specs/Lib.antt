@@ -1,0 +1,2 @@
+-- What the bounded wait is stated with.
+pub mod Calls
