@@ -195,6 +195,10 @@ pub arrival-one-answer : (l : Link) (i : ℕ) (p : Packet) (a b : Answered) → 
 arrival-one-answer l i p a b x y =
     x .answer ∙ ap (λ (s : Bool). arrivalOf s l i p) (exactly-unique (x .exactly) (y .exactly)) ∙ sym (y .answer)
 
+-- on a sound record it is what the rules say
+pub arrives-as : (l : Link) (i : ℕ) (p : Packet) (r : Answered) → SoundLink l → Arrives l i p r → r ≡ arrivalOf true l i p
+arrives-as l i p r sound x = x .answer ∙ ap (λ (s : Bool). arrivalOf s l i p) (x .exactly .complete sound)
+
 -- on a record that is not sound every arrival gives 11 at 0, and the very record
 pub unsound-refused : (l : Link) (i : ℕ) (p : Packet) (r : Answered) → (SoundLink l → ⊥) → Arrives l i p r → r ≡ record { verdict = Refused 11 0; link = l }
 unsound-refused l i p r not-sound x = x .answer ∙ go (x .sound) refl

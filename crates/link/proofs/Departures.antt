@@ -68,6 +68,10 @@ module _ (l : Link) (shape : Shaped l) (sound : SoundLink l) where
 pub send-one-answer : (l : Link) (a b : Departure) → Sends l a → Sends l b → a ≡ b
 send-one-answer l a b x y = x .answer ∙ ap (λ (s : Bool). sendOf s l) (exactly-unique (x .exactly) (y .exactly)) ∙ sym (y .answer)
 
+-- on a sound link it is what the rules say
+pub sends-as : (l : Link) (r : Departure) → SoundLink l → Sends l r → r ≡ sendOf true l
+sends-as l r sound x = x .answer ∙ ap (λ (s : Bool). sendOf s l) (x .exactly .complete sound)
+
 -- an exact flag and its answer
 pub sends-by : (l : Link) (flag : Bool) (r : Departure) → Shaped l → Exactly flag (SoundLink l) → r ≡ sendOf flag l → Sends l r
 sends-by l flag r shape exactly e = record {

@@ -1,5 +1,5 @@
 // The numbers and the texts of a command, big-endian; what lies past the input's end reads as 0. They run, and the answers are compared with the written-down ones.
-ghost use Prim.Native.Nat.{_<_, _^_};
+ghost use Prim.Native.Nat.{_<_};
 
 // A byte, wide.
 fn wide(x: u8) -> u64

@@ -1,4 +1,5 @@
-// Commands on one link record, a line for each answer: fresh links, arrivals and soundness of any record of numbers (demands 1 and 2); it runs, and is compared with the written-down answers.
+// Commands on one link record, a line for each answer: fresh links, arrivals, sends and soundness of any record of numbers (demands 1 and 2); it runs, and is compared with the written-down answers.
+mod books;
 mod bytes;
 mod fields;
 mod lines;
@@ -45,6 +46,12 @@ const SOUND: u64 = 9;
 
 // Whether the record is the very same as the kept one.
 const COMPARE: u64 = 10;
+
+// A send.
+const SEND: u64 = 11;
+
+// The books of the record.
+const BOOKS: u64 = 12;
 
 // The name of a case.
 fn name(command: &[u8]) {
@@ -145,6 +152,20 @@ fn compare(link: Link, kept: Link) -> Link {
     link
 }
 
+// A send, and whether the record came back the very same.
+fn send(before: Link) -> Link {
+    let got = link::send(before);
+    let verdict = got.verdict;
+    let after = got.link;
+    lines::verdict(b"out ", verdict);
+    number(b" class ", got.class as u64);
+    number(b" length ", got.length as u64);
+    number(b" tag ", got.tag as u64);
+    number(b" rounds ", got.rounds as u64);
+    lines::either(same::same_link(before, after), b" same\n", b" changed\n");
+    after
+}
+
 // The record after a command.
 fn after(link: Link, kept: Link, command: &[u8]) -> Link {
     match number_8(command, 0) {
@@ -160,6 +181,8 @@ fn after(link: Link, kept: Link, command: &[u8]) -> Link {
         BACK => kept,
         SOUND => sound(link),
         COMPARE => compare(link, kept),
+        SEND => send(link),
+        BOOKS => books::show(link),
         _ => link,
     }
 }
@@ -210,7 +233,7 @@ fn run(input: &[u8]) {
 }
 
 // The most bytes of commands.
-const MOST: usize = 65_536;
+const MOST: usize = 131_072;
 
 fn main() {
     let mut input = [0u8; MOST + 1];

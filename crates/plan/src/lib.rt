@@ -382,9 +382,10 @@ pub fn read_plan(input: &[u8]) -> PlanRead
     }
 }
 
-// The events after a plan: the part of the input that starts where the reader stopped.
+// The events after a plan: the part of the input that starts where the reader stopped. No place in it is past what a place can be.
 pub fn events_after(input: &[u8], used: usize) -> &[u8]
     ensures { λ r. ⌜ now r ≡ drop used (now (input .entry)) ⌝ }
+    ensures { λ r. ⌜ used + length (now r) < 2 ^ 64 ⌝ }
 {
     if input.len() < used {
         return &input[input.len()..];

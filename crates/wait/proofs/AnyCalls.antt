@@ -1,7 +1,7 @@
 -- Any calls while a packet waits: what is sent stays within the number that falls, and so do the sends. Demand 3.
-use mathlib.Core.Bool.{Bool, true, false}
+use mathlib.Core.Bool.{Bool, true, false, cond}
 use mathlib.Core.List.{List, [], _∷_}
-use mathlib.Core.Path.{_≡_, refl, sym, subst}
+use mathlib.Core.Path.{_≡_, refl, sym, ap, subst, _∙_}
 use Prim.Native.Nat.{ℕ, zero, suc, _+_, _≤_, _<_, zero-le}
 use native.Mathlib.Omega.{arith}
 use lib.Dec.{eqb}
@@ -12,7 +12,7 @@ use Rattle.state.specs.declared.Packet.{Packet}
 use Rattle.state.specs.State.{State}
 use Rattle.round.specs.Active.{someWaits}
 use Rattle.round.specs.Sending.{traceOf}
-use Rattle.wait.specs.Calls.{Call, arrival, send, afterArrival, Followed, more, follow, sendsIn}
+use Rattle.wait.specs.Calls.{Call, arrival, send, afterArrival, afterSend, Followed, wentAs, more, oneSend, follow, sendsIn}
 use Rattle.wait.proofs.Credit.{Holds, falling, falling-some}
 use Rattle.wait.proofs.OneCall.{send-falls, holds-waits, any-arrival}
 
@@ -25,22 +25,26 @@ pub record Within (f : Followed) (sends number : ℕ) : Type 0 where
 more-within : (c n less number : ℕ) (f : Followed) → 1 ≤ c → less + c ≤ number → Within f n less → Within (more c f) (suc n) number
 more-within c n less number f some fall w = record { sent = omega (arith, fall, w .sent); waits = λ g. omega (arith, some, fall, w .waits g) }
 
--- the run through a send: of another class, of a packet before the one that is followed, or of that one
+-- the run through a send, while a packet waits
+pub run-sends : (i k : ℕ) (calls : List Call) (s : State) → someWaits s ≡ true
+    → follow i k (send ∷ calls) s ≡ oneSend true (eqb (traceOf s .class) i) (traceOf s .packet) k (λ m. follow i m calls (traceOf s .state))
+unfolding follow afterSend
+run-sends i k calls s w =
+    ap (λ (b : Bool). oneSend b (eqb (traceOf s .class) i) (traceOf s .packet) k (λ m. follow i m calls (cond b (traceOf s .state) s))) w
+
+-- of another class, of a packet before the one that is followed, or of that one
 module _ (i : ℕ) (calls : List Call) (s : State) (w : someWaits s ≡ true) where
-  run-other : (k : ℕ) → eqb (traceOf s .class) i ≡ false
+  pub run-other : (k : ℕ) → eqb (traceOf s .class) i ≡ false
       → follow i k (send ∷ calls) s ≡ more (costOf (traceOf s .packet .length)) (follow i k calls (traceOf s .state))
-  unfolding follow
-  run-other k e = rw (w, follow) (rw (e, follow))
+  run-other k e = run-sends i k calls s w ∙ rw e
 
-  run-own : (j : ℕ) → eqb (traceOf s .class) i ≡ true
+  pub run-own : (j : ℕ) → eqb (traceOf s .class) i ≡ true
       → follow i (suc j) (send ∷ calls) s ≡ more (costOf (traceOf s .packet .length)) (follow i j calls (traceOf s .state))
-  unfolding follow
-  run-own j e = rw (w, follow) (rw (e, follow))
+  run-own j e = run-sends i (suc j) calls s w ∙ rw e
 
-  run-itself : eqb (traceOf s .class) i ≡ true
-      → follow i 0 (send ∷ calls) s ≡ more (costOf (traceOf s .packet .length)) (record { sent = 0; gone = true })
-  unfolding follow
-  run-itself e = rw (w, follow) (rw (e, follow))
+  pub run-itself : eqb (traceOf s .class) i ≡ true
+      → follow i 0 (send ∷ calls) s ≡ more (costOf (traceOf s .packet .length)) (wentAs (traceOf s .packet))
+  run-itself e = run-sends i 0 calls s w ∙ rw e
 
 -- no call
 nothing-sent : (s : State) (i k : ℕ) → Holds s i k → Within (follow i k [] s) 0 (falling s i k)

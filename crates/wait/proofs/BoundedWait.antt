@@ -26,6 +26,8 @@ use Rattle.link.proofs.Arrivals.{taken, length-arrived, arrival-keeps}
 use Rattle.wait.specs.Calls.{Call, bytesIn, follow, sendsIn, overRoundedUp, bound}
 use Rattle.wait.proofs.AnyCalls.{wait-within}
 use Rattle.wait.proofs.Credit.{Holds, bytesUpTo, lacking, mains, falling, credit-most, holds-weight}
+use Rattle.wait.proofs.InOrder.{accepted-last}
+use Rattle.wait.proofs.WhatGoes.{goes-as}
 use Rattle.wait.proofs.RoundedUp.{up-grows, up-most}
 
 -- a queue of packets that cost at most m each
@@ -108,6 +110,11 @@ module _ (s : State) (i : ℕ) (p : Packet) (sound : Sound s) (wide : Wide s) (u
       go : (b : Bool) → follow i (length (queueAt s i)) calls (arrived s i p) .gone ≡ b → b ≡ true
       go true e = refl
       go false e = absurd (omega (arith, many, starts-within, wait-within calls (arrived s i p) i (length (queueAt s i)) accepted-holds .waits e))
+
+  -- what goes as it is this packet
+  pub it-is-this : (calls : List Call) → follow i (length (queueAt s i)) calls (arrived s i p) .gone ≡ true
+      → follow i (length (queueAt s i)) calls (arrived s i p) .packet ≡ p
+  it-is-this calls g = goes-as calls (arrived s i p) i (length (queueAt s i)) accepted-holds g ∙ accepted-last s i p wide u
 
   -- the bound is a number of the link: it fits 64 bits
   pub bound-small : bound (bytesIn (queueAt (arrived s i p) i)) (weightOf (s .tree) i) (s .size) < 2 ^ 64

@@ -1,2 +1,3 @@
 -- What the bounded wait is stated with.
 pub mod Calls
+pub mod Library

@@ -1,9 +1,9 @@
 -- `plan::events_after` meets its contract.
-use mathlib.Core.Path.{sym, _∙_}
+use mathlib.Core.Path.{_≡_, sym, ap, _∙_}
 use Prim.Native.Nat.{_-_, _≤_}
 use native.Mathlib.Omega.{arith}
 use denote.Ref.{now}
-use lib.ListN.{length, drop, drop-of-length-le, length-drop}
+use lib.ListN.{length, take, drop, drop-of-length-le, length-drop}
 use lib.Seq.{take-all, take-nil, drop-length}
 use borrow.Author.Needs.{needs}
 use Rattle.plan.proofs.events_after.Statement.{statement}
@@ -23,7 +23,10 @@ returns c =
     let st = c .before .before in
     let s = now (st .args .input) in
     let past : length s ≤ st .args .used = omega arith in
+    let same : take (length s - length s) (drop (length s) s) ≡ drop (st .args .used) s =
     rw (drop-length s) (take-nil (length s - length s) ∙ sym (drop-of-length-le s past))
+    in
+    (same, omega (arith, ap length same, length-drop (st .args .used) s, st .fits .used))
 
 sub-result-2 : tie.Need-sub-result-2
 sub-result-2 c = search needs
@@ -38,7 +41,8 @@ returns-2 : tie.Need-returns-2
 returns-2 c =
     let st = c .before .before in
     let s = now (st .args .input) in
-    take-all (length s - st .args .used) (drop (st .args .used) s) (omega (arith, length-drop (st .args .used) s))
+    let same = take-all (length s - st .args .used) (drop (st .args .used) s) (omega (arith, length-drop (st .args .used) s)) in
+    (same, omega (arith, ap length same, length-drop (st .args .used) s, st .fits .used))
 
 pub events-after-spec : {M : Type 1} → statement M
 events-after-spec =

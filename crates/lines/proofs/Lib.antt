@@ -1,0 +1,4 @@
+pub mod Decimals
+pub mod Laying
+pub mod Outcomes
+pub mod Listing

@@ -1,0 +1,68 @@
+-- The listing of document 01, "A whole run", byte by byte, and lines that it lacks: a refused arrival, a stop, the largest number.
+use mathlib.Core.List.{List, [], _∷_, map}
+use mathlib.Core.Path.{_≡_, refl}
+use Prim.Native.Nat.{ℕ}
+use Rattle.lines.specs.Decimal.{digitsIn, decimal}
+use Rattle.lines.specs.declared.Line.{Line}
+use Rattle.lines.specs.declared.Line.the-variants.{Link, In, No, Out, Nothing, End, Stop}
+use Rattle.lines.specs.Line.{bytesOf}
+
+abbrev run : List Line
+run =
+    Link 4 40
+    ∷ In 2 2 1
+    ∷ In 3 10 2
+    ∷ In 3 10 3
+    ∷ In 4 10 4
+    ∷ Out 2 2 1 1
+    ∷ Out 3 10 2 0
+    ∷ Out 4 10 4 0
+    ∷ Out 3 10 3 2
+    ∷ Nothing
+    ∷ End 0
+    ∷ []
+
+abbrev run-bytes : List (List ℕ)
+run-bytes =
+    -- link 4 40
+    (108 ∷ 105 ∷ 110 ∷ 107 ∷ 32 ∷ 52 ∷ 32 ∷ 52 ∷ 48 ∷ 10 ∷ [])
+    -- in 2 2 1
+    ∷ (105 ∷ 110 ∷ 32 ∷ 50 ∷ 32 ∷ 50 ∷ 32 ∷ 49 ∷ 10 ∷ [])
+    -- in 3 10 2
+    ∷ (105 ∷ 110 ∷ 32 ∷ 51 ∷ 32 ∷ 49 ∷ 48 ∷ 32 ∷ 50 ∷ 10 ∷ [])
+    -- in 3 10 3
+    ∷ (105 ∷ 110 ∷ 32 ∷ 51 ∷ 32 ∷ 49 ∷ 48 ∷ 32 ∷ 51 ∷ 10 ∷ [])
+    -- in 4 10 4
+    ∷ (105 ∷ 110 ∷ 32 ∷ 52 ∷ 32 ∷ 49 ∷ 48 ∷ 32 ∷ 52 ∷ 10 ∷ [])
+    -- out 2 2 1 1
+    ∷ (111 ∷ 117 ∷ 116 ∷ 32 ∷ 50 ∷ 32 ∷ 50 ∷ 32 ∷ 49 ∷ 32 ∷ 49 ∷ 10 ∷ [])
+    -- out 3 10 2 0
+    ∷ (111 ∷ 117 ∷ 116 ∷ 32 ∷ 51 ∷ 32 ∷ 49 ∷ 48 ∷ 32 ∷ 50 ∷ 32 ∷ 48 ∷ 10 ∷ [])
+    -- out 4 10 4 0
+    ∷ (111 ∷ 117 ∷ 116 ∷ 32 ∷ 52 ∷ 32 ∷ 49 ∷ 48 ∷ 32 ∷ 52 ∷ 32 ∷ 48 ∷ 10 ∷ [])
+    -- out 3 10 3 2
+    ∷ (111 ∷ 117 ∷ 116 ∷ 32 ∷ 51 ∷ 32 ∷ 49 ∷ 48 ∷ 32 ∷ 51 ∷ 32 ∷ 50 ∷ 10 ∷ [])
+    -- none
+    ∷ (110 ∷ 111 ∷ 110 ∷ 101 ∷ 10 ∷ [])
+    -- end 0
+    ∷ (101 ∷ 110 ∷ 100 ∷ 32 ∷ 48 ∷ 10 ∷ [])
+    ∷ []
+
+listing : map bytesOf run ≡ run-bytes
+unfolding bytesOf decimal digitsIn
+listing = refl
+
+-- a refused arrival: `no 4 11 4294967295 13`
+refused-arrival : bytesOf (No 4 11 4294967295 13) ≡ 110 ∷ 111 ∷ 32 ∷ 52 ∷ 32 ∷ 49 ∷ 49 ∷ 32 ∷ 52 ∷ 50 ∷ 57 ∷ 52 ∷ 57 ∷ 54 ∷ 55 ∷ 50 ∷ 57 ∷ 53 ∷ 32 ∷ 49 ∷ 51 ∷ 10 ∷ []
+unfolding bytesOf decimal digitsIn
+refused-arrival = refl
+
+-- a stop: `stop 10 65536`
+stopped : bytesOf (Stop 10 65536) ≡ 115 ∷ 116 ∷ 111 ∷ 112 ∷ 32 ∷ 49 ∷ 48 ∷ 32 ∷ 54 ∷ 53 ∷ 53 ∷ 51 ∷ 54 ∷ 10 ∷ []
+unfolding bytesOf decimal digitsIn
+stopped = refl
+
+-- the largest 64-bit number: `end 18446744073709551615`
+largest-number : bytesOf (End 18446744073709551615) ≡ 101 ∷ 110 ∷ 100 ∷ 32 ∷ 49 ∷ 56 ∷ 52 ∷ 52 ∷ 54 ∷ 55 ∷ 52 ∷ 52 ∷ 48 ∷ 55 ∷ 51 ∷ 55 ∷ 48 ∷ 57 ∷ 53 ∷ 53 ∷ 49 ∷ 54 ∷ 49 ∷ 53 ∷ 10 ∷ []
+unfolding bytesOf decimal digitsIn
+largest-number = refl

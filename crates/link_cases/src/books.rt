@@ -1,0 +1,34 @@
+// The books of a link record on a line: its place, active set and round size, and B and R of each class; they run, and are compared with the written-down ones.
+use crate::lines::number;
+use crate::lines::word;
+use state::Account;
+use state::Link;
+
+// B and R of a class.
+fn account(held: Account) {
+    number(b" ", held.balance.0);
+    number(b"+", held.residual.0);
+}
+
+// B and R of every class, from the root to the last.
+fn accounts(held: [Account; 64], last: usize) {
+    for i in 0..64 {
+        if last < i {
+            return;
+        }
+        account(held[i]);
+    }
+}
+
+// The books of a link record.
+pub(crate) fn show(link: Link) -> Link {
+    let tree = link.tree;
+    let held = link.accounts;
+    number(b"books place ", link.place as u64);
+    number(b" active ", link.active);
+    number(b" size ", link.size.0);
+    word(b" accounts");
+    accounts(held, tree.count);
+    word(b"\n");
+    link
+}

@@ -1,0 +1,34 @@
+-- M1 to M12 and the listing of document 01, "A whole run": what the definitions give is what the table has. Demands 1 and 2.
+use mathlib.Core.List.{map}
+use mathlib.Core.Path.{_≡_, refl}
+use Rattle.checks.specs.Check.{firstBroken, classByClass}
+use Rattle.sets.specs.Set.{has, with, without}
+use Rattle.units.specs.Cost.{costOf}
+use Rattle.tree.specs.Class.{isClass, isLeaf, isInner, isChild, childWeight, childrenWeight, hasChild}
+use Rattle.tree.specs.Sum.{sumTo, someTo}
+use Rattle.tree.specs.Rules.{tooMany, badParent, badWeight, badLongest, tooHeavy, childless, noClass}
+use Rattle.tree.specs.Size.{allWeights, longestCost, allLongest, roundSize}
+use Rattle.plan.specs.Kind
+use Rattle.plan.specs.Record.{kindAt, missing, unknown, cut, bodyOf, classAt}
+use Rattle.plan.specs.Reader.{recordChecks, after, treeOf, passes, inRow, passedOver, decidingChecks, planOf}
+use Rattle.state.specs.Queue.{table, queueOf}
+use Rattle.round.specs.Active.{climbs, atOrBelow, waits, someWaits, someBelow, setOf, upward, roundActive, activeChild, activeWeight, weightSum}
+use Rattle.round.specs.Opening.{surplusAt, hasSurplus, kindOf, quotaIn, quota, due, handsDown, openedLeaf, openedInner, openedAccount, openedAccounts, nextKind, opened}
+use Rattle.round.specs.Sending.{ready, firstFrom, nextLeaf, givenUp, turnsOff, paid, booksAfter, sentState, turnOf, sends, traceOf}
+use Rattle.link.specs.Arrival.{noLeaf, badLength, full, arrivalOf}
+use Rattle.link.specs.Send.{sendOf}
+use Rattle.marked.specs.Run.{readOf, accountsOf, openingOf, openingsOf, classesIn, waitingIn, answersOf, callsOn, runOf}
+use Rattle.marked.specs.Table.{found, expected, markedCases}
+
+-- by computing all the definitions named here
+pub marked : map found markedCases ≡ map expected markedCases
+unfolding markedCases found expected readOf accountsOf openingOf openingsOf classesIn waitingIn answersOf callsOn runOf
+    firstBroken classByClass has with without costOf
+    isClass isLeaf isInner isChild childWeight childrenWeight hasChild sumTo someTo allWeights longestCost allLongest roundSize
+    tooMany badParent badWeight badLongest tooHeavy childless noClass
+    Rattle.plan.specs.Kind.kindOf kindAt missing unknown cut bodyOf classAt recordChecks after treeOf passes inRow passedOver decidingChecks planOf
+    table queueOf climbs atOrBelow waits someWaits someBelow setOf upward roundActive activeChild activeWeight weightSum
+    surplusAt hasSurplus kindOf quotaIn quota due handsDown openedLeaf openedInner openedAccount openedAccounts nextKind opened
+    ready firstFrom nextLeaf givenUp turnsOff paid booksAfter sentState turnOf sends traceOf
+    noLeaf badLength full arrivalOf sendOf
+marked = refl

@@ -1,0 +1,125 @@
+// Recorded runs: inputs one after the other, each after its length plus 1 in three bytes; prints for each how many lines its run has and a sum over their bytes.
+// The expected sums are those of the second program's lines (bin/record writes both files). Serves demands 1 and 2.
+ghost use Prim.Native.Nat.{_<_};
+use libc::STDIN_FILENO;
+use libc::STDOUT_FILENO;
+use lines::Line;
+use run::Step;
+
+// What was printed of a run so far: its lines, and a sum in which each byte counts by its place.
+struct Tally {
+    lines: u64,
+    sum: u64,
+}
+
+// One byte more.
+fn counted(sum: u64, byte: u8) -> u64
+    ensures { λ r. ⌜ r < 4_294_967_291 ⌝ }
+{
+    ((sum % 4_294_967_291) * 257 + byte as u64 + 1) % 4_294_967_291
+}
+
+// The bytes of a text more.
+fn with_text(sum: u64, text: &[u8]) -> u64 {
+    let mut total = sum;
+    for i in 0..text.len() {
+        total = counted(total, text[i]);
+    }
+    total
+}
+
+// One line more.
+fn with_line(tally: Tally, line: Line) -> Tally {
+    let mut text = [0u8; 96];
+    let n = lines::lay(line, &mut text);
+    Tally {
+        lines: (tally.lines % 1_000_000) + 1,
+        sum: with_text(tally.sum, &text[..n]),
+    }
+}
+
+// The line of a step more.
+fn with_step(tally: Tally, step: Step) -> Tally {
+    let line = step.line;
+    with_line(tally, line)
+}
+
+// All lines of a run.
+fn whole(input: &[u8]) -> Tally {
+    let none = Tally { lines: 0, sum: 0 };
+    if MOST < input.len() {
+        return with_line(none, Line::Stop(checks::TOO_LONG as u64, MOST as u64));
+    }
+    let mut step = run::begin(input);
+    let mut tally = with_step(none, step);
+    while step.more {
+        step = run::next(step.link, input, step.place);
+        tally = with_step(tally, step);
+    }
+    tally
+}
+
+// A word and a number.
+fn number(text: &[u8], n: u64) {
+    io::write_all(STDOUT_FILENO, text);
+    io::print_decimal(STDOUT_FILENO, n);
+}
+
+// The line of a run.
+fn show(k: usize, tally: Tally) {
+    number(b"run ", k as u64);
+    number(b" lines ", tally.lines);
+    number(b" sum ", tally.sum);
+    io::write_all(STDOUT_FILENO, b"\n");
+}
+
+// The longest input that runs, and the most inputs.
+const MOST: usize = 65_536;
+
+const RUNS: usize = 10_000;
+
+// A byte, wide.
+fn wide(byte: u8) -> usize
+    ensures { λ r. ⌜ r < 256 ⌝ }
+{
+    byte as usize
+}
+
+// The length of the next input plus 1, at most what is refused as too long; 0 where there is none.
+fn next_length() -> usize
+    ensures { λ r. ⌜ r < 65_539 ⌝ }
+{
+    let mut head = [0u8; 3];
+    if io::read_full(STDIN_FILENO, &mut head) < 3 {
+        return 0;
+    }
+    let n = wide(head[0]) * 65_536 + wide(head[1]) * 256 + wide(head[2]);
+    if MOST + 2 < n {
+        return MOST + 2;
+    }
+    n
+}
+
+// Reads an input into a part of the buffer, and runs it.
+fn read_and_run(part: &mut [u8]) -> Tally {
+    let n = io::read_full(STDIN_FILENO, part);
+    whole(&part[..n])
+}
+
+// One run of an input of n bytes.
+fn one(k: usize, n: usize)
+    requires { ⌜ n < 65_538 ⌝ }
+{
+    let mut input = [0u8; MOST + 1];
+    show(k, read_and_run(&mut input[..n]));
+}
+
+fn main() {
+    for k in 0..RUNS {
+        let n = next_length();
+        if n == 0 {
+            return;
+        }
+        one(k, n - 1);
+    }
+}

@@ -1,0 +1,186 @@
+-- Laws of a run's lines: each step gives the next line, there are steps enough, and two answers are one. Demands 1 and 2.
+use mathlib.Core.Bool.{Bool, true, false, cond}
+use mathlib.Core.List.{List, [], _∷_}
+use mathlib.Core.Path.{_≡_, refl, sym, ap, subst, _∙_}
+use Prim.Native.Nat.{ℕ, zero, suc, _+_, _-_, _≤_, _<_}
+use native.Mathlib.Omega.{arith}
+use lib.ListN.{length, drop, length-drop}
+use Rattle.checks.specs.declared.Verdict.{Verdict}
+use Rattle.checks.specs.declared.Verdict.the-variants.{Passed, Refused}
+use Rattle.checks.proofs.Laws.{not-true-and-false, exactly-unique}
+use Rattle.plan.specs.declared.EventRead.{EventRead}
+use Rattle.plan.specs.declared.EventRead.the-variants.{NoMore, Arrive, SendNext, Fault}
+use Rattle.plan.specs.Reader.{planOf}
+use Rattle.plan.specs.Event.{eventAt}
+use Rattle.state.specs.declared.Link.{Link}
+use Rattle.sound.specs.Sound.{SoundLink}
+use Rattle.link.proofs.FreshLinks.{fresh-sound}
+use Rattle.lines.specs.declared.Line.{Line}
+use Rattle.run.specs.declared.Step.{Step}
+use Rattle.run.specs.Event.{eventGives, stepOf, Gives, GoesOn}
+use Rattle.run.specs.Run.{planGives, beginOf, eventLines, linesOf}
+use Rattle.run.proofs.Events.{used-fits, plan-rules}
+
+-- where the run goes on, the place has moved on, and is within the input
+module _ (l : Link) (input : List ℕ) (place : ℕ) where
+  on-by : (sound : Bool) (e : EventRead) → eventAt (drop place input) place ≡ e → eventGives sound l place e .more ≡ true
+      → (place < eventGives sound l place e .place) × (eventGives sound l place e .place ≤ length input)
+  on-by sound NoMore same m = absurd (not-true-and-false m refl)
+  on-by sound (Arrive a) same m =
+      (omega arith, omega (arith, used-fits input place (Arrive a) same, length-drop place input))
+  on-by sound SendNext same m = (omega arith, omega (arith, used-fits input place SendNext same, length-drop place input))
+  on-by sound (Fault n p) same m = absurd (not-true-and-false m refl)
+
+  pub step-on : (sound : Bool) → stepOf sound l input place .more ≡ true
+      → (place < stepOf sound l input place .place) × (stepOf sound l input place .place ≤ length input)
+  unfolding stepOf
+  step-on sound m = on-by sound (eventAt (drop place input) place) refl m
+
+  -- on a sound link an event gives what the definition says, and a sound link
+  gives-sound : (e : EventRead) (r : Step) → SoundLink l → Gives l place e r → r ≡ eventGives true l place e
+  gives-sound NoMore r sound g = g
+  gives-sound (Arrive a) r sound g = g .answer ∙ ap (λ (b : Bool). eventGives b l place (Arrive a)) (g .exactly .complete sound)
+  gives-sound SendNext r sound g = g .answer ∙ ap (λ (b : Bool). eventGives b l place SendNext) (g .exactly .complete sound)
+  gives-sound (Fault n p) r sound g = g
+
+  gives-keeps : (e : EventRead) (r : Step) → SoundLink l → Gives l place e r → SoundLink (r .link)
+  gives-keeps NoMore r sound g = subst (λ (s : Step). SoundLink (s .link)) (sym g) sound
+  gives-keeps (Arrive a) r sound g = g .keeps sound
+  gives-keeps SendNext r sound g = g .keeps sound
+  gives-keeps (Fault n p) r sound g = subst (λ (s : Step). SoundLink (s .link)) (sym g) sound
+
+  gives-on : (e : EventRead) (r : Step) → eventAt (drop place input) place ≡ e → Gives l place e r → r .more ≡ true → (place < r .place) × (r .place ≤ length input)
+  gives-on NoMore r same g m = absurd (not-true-and-false m (ap (λ (s : Step). s .more) g))
+  gives-on (Arrive a) r same g m =
+      subst (λ (s : Step). (place < s .place) × (s .place ≤ length input)) (sym (g .answer)) (on-by (g .sound) (Arrive a) same refl)
+  gives-on SendNext r same g m =
+      subst (λ (s : Step). (place < s .place) × (s .place ≤ length input)) (sym (g .answer)) (on-by (g .sound) SendNext same refl)
+  gives-on (Fault n p) r same g m = absurd (not-true-and-false m (ap (λ (s : Step). s .more) g))
+
+  gives-one : (e : EventRead) (r r′ : Step) → Gives l place e r → Gives l place e r′ → r ≡ r′
+  gives-one NoMore r r′ x y = x ∙ sym y
+  gives-one (Arrive a) r r′ x y =
+      x .answer ∙ ap (λ (b : Bool). eventGives b l place (Arrive a)) (exactly-unique (x .exactly) (y .exactly)) ∙ sym (y .answer)
+  gives-one SendNext r r′ x y =
+      x .answer ∙ ap (λ (b : Bool). eventGives b l place SendNext) (exactly-unique (x .exactly) (y .exactly)) ∙ sym (y .answer)
+  gives-one (Fault n p) r r′ x y = x ∙ sym y
+
+  pub next-is : (r : Step) → SoundLink l → GoesOn l input place r → r ≡ stepOf true l input place
+  unfolding stepOf
+  next-is r sound g = gives-sound (eventAt (drop place input) place) r sound g
+
+  pub next-keeps : (r : Step) → SoundLink l → GoesOn l input place r → SoundLink (r .link)
+  next-keeps r sound g = gives-keeps (eventAt (drop place input) place) r sound g
+
+  pub next-on : (r : Step) → GoesOn l input place r → r .more ≡ true → (place < r .place) × (r .place ≤ length input)
+  next-on r g m = gives-on (eventAt (drop place input) place) r refl g m
+
+  pub next-one-answer : (r r′ : Step) → GoesOn l input place r → GoesOn l input place r′ → r ≡ r′
+  next-one-answer r r′ x y = gives-one (eventAt (drop place input) place) r r′ x y
+
+pub begin-one-answer : (input : List ℕ) (r r′ : Step) → r ≡ beginOf input → r′ ≡ beginOf input → r ≡ r′
+begin-one-answer input r r′ x y = x ∙ sym y
+
+-- a run that goes on begins with a sound link
+pub begin-sound : (input : List ℕ) → beginOf input .more ≡ true → SoundLink (beginOf input .link)
+unfolding beginOf
+begin-sound input m = go (planOf input .verdict) refl m
+  where
+    go : (v : Verdict) → planOf input .verdict ≡ v → planGives v (planOf input) .more ≡ true → SoundLink (planGives v (planOf input) .link)
+    go Passed e m = fresh-sound (planOf input .tree) (plan-rules input (planOf input) refl e)
+    go (Refused n p) e m = absurd (not-true-and-false m refl)
+
+-- ---- the lines, without a count of steps
+
+-- one step more
+lines-suc : (n : ℕ) (l : Link) (input : List ℕ) (place : ℕ) → eventLines (suc n) l input place
+    ≡ stepOf true l input place .line
+    ∷ elim (stepOf true l input place .more) [ true ↦ eventLines n (stepOf true l input place .link) input (stepOf true l input place .place) | false ↦ [] ]
+unfolding eventLines
+lines-suc n l input place = refl
+
+-- the lines after a step, as the run goes on or not
+rest-of : Step → List ℕ → ℕ → Bool → List Line
+rest-of s input n true = eventLines n (s .link) input (s .place)
+rest-of s input n false = []
+
+lines-one : (n : ℕ) (l : Link) (input : List ℕ) (place : ℕ)
+    → eventLines (suc n) l input place ≡ stepOf true l input place .line ∷ rest-of (stepOf true l input place) input n (stepOf true l input place .more)
+unfolding rest-of
+lines-one n l input place = lines-suc n l input place ∙ ap (λ (rest : List Line). stepOf true l input place .line ∷ rest) (go (stepOf true l input place .more))
+  where
+    go : (b : Bool)
+        → _≡_ {A = List Line} (elim b [ true ↦ eventLines n (stepOf true l input place .link) input (stepOf true l input place .place) | false ↦ [] ]) (rest-of (stepOf true l input place) input n b)
+    go true = refl
+    go false = refl
+
+-- enough steps are enough
+lines-enough : (n m : ℕ) (l : Link) (input : List ℕ) (place : ℕ) → length input ≤ place + n → length input ≤ place + m
+    → eventLines (suc n) l input place ≡ eventLines (suc m) l input place
+unfolding rest-of
+lines-enough zero m l input place a b = lines-one zero l input place ∙ ap (λ (rest : List Line). stepOf true l input place .line ∷ rest) (go (stepOf true l input place .more) refl) ∙ sym (lines-one m l input place)
+  where
+    go : (more : Bool) → stepOf true l input place .more ≡ more → rest-of (stepOf true l input place) input zero more ≡ rest-of (stepOf true l input place) input m more
+    go false e = refl
+    go true e = absurd (let w = step-on l input place true e in omega (arith, w .0, w .1))
+lines-enough (suc n) m l input place a b =
+    lines-one (suc n) l input place
+    ∙ ap (λ (rest : List Line). stepOf true l input place .line ∷ rest)
+    (go m b (stepOf true l input place .more) refl (λ k x y. lines-enough n k (stepOf true l input place .link) input (stepOf true l input place .place) x y))
+    ∙ sym (lines-one m l input place)
+  where
+    go : (m : ℕ) → length input ≤ place + m → (more : Bool) → stepOf true l input place .more ≡ more
+        → ((k : ℕ) → length input ≤ stepOf true l input place .place + n → length input ≤ stepOf true l input place .place + k
+        → eventLines (suc n) (stepOf true l input place .link) input (stepOf true l input place .place)
+        ≡ eventLines (suc k) (stepOf true l input place .link) input (stepOf true l input place .place))
+        → rest-of (stepOf true l input place) input (suc n) more ≡ rest-of (stepOf true l input place) input m more
+    go m b false e ih = refl
+    go zero b true e ih = absurd (let w = step-on l input place true e in omega (arith, w .0, w .1))
+    go (suc m) b true e ih =
+        let w = step-on l input place true e in
+        ih m (omega (arith, w .0)) (omega (arith, w .0))
+
+-- the lines of the events from a place on
+pub linesFrom : Link → List ℕ → ℕ → List Line
+linesFrom l input place = eventLines (suc (length input)) l input place
+
+-- what follows a step
+pub following : Step → List ℕ → Bool → List Line
+following s input true = linesFrom (s .link) input (s .place)
+following s input false = []
+
+pub lines-next : (l : Link) (input : List ℕ) (place : ℕ)
+    → linesFrom l input place ≡ stepOf true l input place .line ∷ following (stepOf true l input place) input (stepOf true l input place .more)
+unfolding linesFrom following rest-of
+lines-next l input place =
+    lines-one (length input) l input place
+    ∙ ap (λ (rest : List Line). stepOf true l input place .line ∷ rest) (go (length input) refl (stepOf true l input place .more) refl)
+  where
+    go : (n : ℕ) → length input ≡ n → (more : Bool) → stepOf true l input place .more ≡ more
+        → rest-of (stepOf true l input place) input n more ≡ following (stepOf true l input place) input more
+    go n h false e = refl
+    go zero h true e = absurd (let w = step-on l input place true e in omega (arith, w .0, w .1, h))
+    go (suc n) h true e =
+        let w = step-on l input place true e in
+        lines-enough n (length input) (stepOf true l input place .link) input (stepOf true l input place .place) (omega (arith, w .0, h)) (omega arith)
+
+pub lines-begin : (input : List ℕ) → linesOf input ≡ beginOf input .line ∷ following (beginOf input) input (beginOf input .more)
+unfolding linesOf linesFrom following
+lines-begin input = ap (λ (rest : List Line). beginOf input .line ∷ rest) (go (beginOf input .more))
+  where
+    go : (b : Bool)
+        → _≡_ {A = List Line} (elim b [ true ↦ eventLines (suc (length input)) (beginOf input .link) input (beginOf input .place) | false ↦ [] ]) (following (beginOf input) input b)
+    go true = refl
+    go false = refl
+
+-- how many steps a run has left at most: a loop over them ends
+pub stepsLeft : List ℕ → Step → ℕ
+stepsLeft input s = cond (s .more) (suc (length input - s .place)) 0
+
+pub steps-less : (input : List ℕ) (s r : Step) → s .more ≡ true → GoesOn (s .link) input (s .place) r → stepsLeft input r < stepsLeft input s
+unfolding stepsLeft
+steps-less input s r m g = rw m (go (r .more) refl)
+  where
+    go : (b : Bool) → r .more ≡ b → cond b (suc (length input - r .place)) 0 < suc (length input - s .place)
+    go true e = let w = next-on (s .link) input (s .place) r g e in omega (arith, w .0, w .1)
+    go false e = omega arith

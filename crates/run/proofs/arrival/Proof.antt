@@ -1,0 +1,41 @@
+-- `run::arrival` meets its contract.
+use mathlib.Core.Bool.{true}
+use mathlib.Core.Path.{ap, _∙_}
+use Prim.Native.Nat.{_+_}
+use Rattle.lines.specs.declared.Line.{Line}
+use Rattle.link.specs.declared.Answered.{Answered}
+use Rattle.run.specs.Event.{arrivalLine}
+use borrow.Author.Needs.{needs}
+use Rattle.run.proofs.arrival.Statement.{statement}
+use Rattle.run.proofs.arrival.Tie as tie
+
+cast-arrive : tie.Need-cast-arrive
+cast-arrive c = search needs
+
+arrive-requires : tie.Need-arrive-requires
+arrive-requires c κs = search needs
+
+arrival-line-requires : tie.Need-arrival-line-requires
+arrival-line-requires c κs = search needs
+
+add-t10 : tie.Need-add-t10
+add-t10 c = search needs
+
+returns : tie.Need-returns
+returns c =
+    let g = c .before .before in
+    let st = g .before .before in
+    let a = st .args .a in
+    let did = g .arrive .ensures in
+    record {
+      sound = did .sound;
+      exactly = did .exactly;
+      answer =
+          ap (λ (line : Line). record { line = line; more = true; link = g .arrive .result .link; place = st .args .place + 8 }) (c .before .arrival-line .ensures)
+          ∙ ap (λ (r : Answered). record { line = arrivalLine (r .verdict) a; more = true; link = r .link; place = st .args .place + 8 }) (did .answer);
+      keeps = did .keeps;
+    }
+
+pub arrival-spec : {M : Type 1} → statement M
+arrival-spec =
+    tie.close (tie.spec cast-arrive arrive-requires arrival-line-requires add-t10 returns)

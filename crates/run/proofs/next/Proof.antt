@@ -1,0 +1,104 @@
+-- `run::next` meets its contract.
+use mathlib.Core.Path.{_≡_, sym, ap, _∙_}
+use Prim.Native.Nat.{ℕ}
+use mathlib.Core.List.{List}
+use native.Mathlib.Omega.{arith}
+use denote.Ref.{now}
+use lib.ListN.{length, drop}
+use Rattle.plan.specs.declared.EventRead.{EventRead}
+use Rattle.plan.specs.declared.EventRead.the-variants.{NoMore, Arrive, SendNext, Fault}
+use Rattle.plan.specs.Event.{eventAt}
+use Rattle.run.proofs.Events.{gives-by, used-fits}
+use borrow.Author.Needs.{needs}
+use Rattle.run.proofs.next.Statement.{statement}
+use Rattle.run.proofs.next.Tie as tie
+
+-- the event that was read stands at the place
+read-at : (c : tie.After-read-event) {e : EventRead} → c .read-event .result ≡ e
+    → eventAt (drop (c .before .before .before .args .place) (now (c .before .before .before .args .input))) (c .before .before .before .args .place) ≡ e
+read-at c told =
+    ap (λ (s : List ℕ). eventAt s (c .before .before .before .args .place)) (sym (c .before .events-after .ensures .0)) ∙ sym (c .read-event .ensures) ∙ told
+
+events-after-requires : tie.Need-events-after-requires
+events-after-requires c κs = search needs
+
+read-event-requires : tie.Need-read-event-requires
+read-event-requires c κs = search needs
+
+enum-told : tie.Need-enum-told
+enum-told c = search needs
+
+end-requires : tie.Need-end-requires
+end-requires c κs = search needs
+
+enum-known-event : tie.Need-enum-known-event
+enum-known-event c = search needs
+
+arrival-requires : tie.Need-arrival-requires
+arrival-requires c κs =
+    let v = c .before in
+    let g = v .before .before in
+    let st = g .before .before .before in
+    omega (arith, used-fits (now (st .args .input)) (st .args .place) (Arrive (v .event .given .0 .0)) (read-at g (v .event .given .1)), ap length (g .before .events-after .ensures .0), g .before .events-after .ensures .1)
+
+enum-told-2 : tie.Need-enum-told-2
+enum-told-2 c = search needs
+
+send-requires : tie.Need-send-requires
+send-requires c κs =
+    let g = c .before .before in
+    let st = g .before .before .before in
+    omega (arith, used-fits (now (st .args .input)) (st .args .place) SendNext (read-at g (c .enum-told2 .given .1)), ap length (g .before .events-after .ensures .0), g .before .events-after .ensures .1)
+
+enum-known-event-2 : tie.Need-enum-known-event-2
+enum-known-event-2 c = search needs
+
+stop-requires : tie.Need-stop-requires
+stop-requires c κs = search needs
+
+returns : tie.Need-returns
+returns c =
+    let e = c .before in
+    let g = e .before .before in
+    let a = g .before .before .before .args in
+    gives-by (a .link) (now (a .input)) (a .place) NoMore (c .end .result) (read-at g (e .enum-told .given .1)) (c .end .ensures)
+
+returns-2 : tie.Need-returns-2
+returns-2 c =
+    let v = c .before .before in
+    let g = v .before .before in
+    let a = g .before .before .before .args in
+    gives-by (a .link) (now (a .input)) (a .place) (Arrive (v .event .given .0 .0)) (c .arrival .result) (read-at g (v .event .given .1)) (c .arrival .ensures)
+
+returns-3 : tie.Need-returns-3
+returns-3 c =
+    let e = c .before in
+    let g = e .before .before in
+    let a = g .before .before .before .args in
+    gives-by (a .link) (now (a .input)) (a .place) SendNext (c .send .result) (read-at g (e .enum-told2 .given .1)) (c .send .ensures)
+
+returns-4 : tie.Need-returns-4
+returns-4 c =
+    let v = c .before .before in
+    let g = v .before .before in
+    let a = g .before .before .before .args in
+    gives-by (a .link) (now (a .input)) (a .place) (Fault (v .event2 .given .0 .0) (v .event2 .given .0 .1 .0)) (c .stop .result) (read-at g (v .event2 .given .1)) (c .stop .ensures)
+
+pub next-spec : {M : Type 1} → statement M
+next-spec =
+    tie.close
+    (tie.spec
+    events-after-requires
+    read-event-requires
+    enum-told
+    end-requires
+    enum-known-event
+    arrival-requires
+    enum-told-2
+    send-requires
+    enum-known-event-2
+    stop-requires
+    returns
+    returns-2
+    returns-3
+    returns-4)

@@ -1,0 +1,3 @@
+-- The lines of a whole run.
+pub mod Event
+pub mod Run

@@ -1,0 +1,179 @@
+// A whole run, line by line: the plan's line, then each event's. Entries for callers outside: they ask nothing.
+// Serves demands 1 and 2: the lines are document 01's, from the input's bytes.
+ghost use mathlib.Core.Path.{_≡_};
+ghost use mathlib.Core.Bool.{true};
+ghost use Prim.Native.Nat.{_+_, _^_, _<_};
+ghost use lib.ListN.{getD};
+ghost use Rattle.checks.specs.declared.Verdict.the-variants.{Passed};
+ghost use Rattle.tree.specs.Rules.{PlanRules};
+ghost use Rattle.tree.specs.Sum.{sumTo};
+ghost use Rattle.plan.specs.declared.EventRead.the-variants.{NoMore, Arrive, SendNext, Fault};
+ghost use Rattle.sound.specs.Sound.{SoundLink};
+ghost use Rattle.run.specs.Event.{arrivalLine, sendLine, eventGives, Gives, GoesOn};
+ghost use Rattle.run.specs.Run.{planGives, beginOf};
+use checks::Verdict;
+use lines::Line;
+use link::Departure;
+use plan::Arrived;
+use plan::EventRead;
+use plan::PlanRead;
+use state::Link;
+use state::Packet;
+
+// What the plan or an event gives: a line, and whether the run goes on, with which link and at which place.
+pub struct Step {
+    pub line: Line,
+    pub more: bool,
+    pub link: Link,
+    pub place: usize,
+}
+
+// A count, wide.
+fn wide(n: u8) -> u64
+    ensures { λ r. ⌜ (r ≡ n) × (r < 256) ⌝ }
+{
+    n as u64
+}
+
+// The packets still waiting.
+fn waiting(held: [u8; 64]) -> u64
+    ensures { λ r. ⌜ r ≡ sumTo (λ i. getD held i 0) 63 ⌝ }
+{
+    let mut sum: u64 = 0;
+    let mut i: usize = 1;
+    while i < 64 {
+        sum += wide(held[i]);
+        i += 1;
+    }
+    sum
+}
+
+// The line of an arrival.
+fn arrival_line(verdict: Verdict, a: Arrived) -> Line
+    ensures { λ r. ⌜ r ≡ arrivalLine verdict a ⌝ }
+{
+    let class = a.class as u64;
+    let length = a.length as u64;
+    let tag = a.tag as u64;
+    match verdict {
+        Verdict::Passed => Line::In(class, length, tag),
+        Verdict::Refused(n, _) => Line::No(class, length, tag, n as u64),
+    }
+}
+
+// The line of a send.
+fn send_line(verdict: Verdict, class: usize, length: u16, tag: u32, rounds: usize) -> Line
+    ensures { λ r. ⌜ r ≡ sendLine verdict class length tag rounds ⌝ }
+{
+    match verdict {
+        Verdict::Passed => Line::Out(class as u64, length as u64, tag as u64, rounds as u64),
+        Verdict::Refused(_, _) => Line::Nothing,
+    }
+}
+
+// The normal end.
+fn end(link: Link, place: usize) -> Step
+    ensures { λ r. ⌜ r ≡ eventGives true link place NoMore ⌝ }
+{
+    let held = link.held;
+    let line = Line::End(waiting(held));
+    Step {
+        line,
+        more: false,
+        link,
+        place,
+    }
+}
+
+// A refused record, or a refused plan.
+fn stop(link: Link, place: usize, n: u8, p: usize) -> Step
+    ensures { λ r. ⌜ r ≡ eventGives true link place (Fault n p) ⌝ }
+{
+    let line = Line::Stop(n as u64, p as u64);
+    Step {
+        line,
+        more: false,
+        link,
+        place,
+    }
+}
+
+// An arrival.
+fn arrival(link: Link, a: Arrived, place: usize) -> Step
+    requires { ⌜ place + 8 < 2 ^ 64 ⌝ }
+    ensures { λ r. ⌜ Gives link place (Arrive a) r ⌝ }
+{
+    let length = a.length;
+    let tag = a.tag;
+    let answered = link::arrive(link, a.class as usize, Packet { length, tag });
+    let verdict = answered.verdict;
+    let line = arrival_line(verdict, a);
+    let after = answered.link;
+    Step {
+        line,
+        more: true,
+        link: after,
+        place: place + 8,
+    }
+}
+
+// A send.
+fn send(link: Link, place: usize) -> Step
+    requires { ⌜ place + 1 < 2 ^ 64 ⌝ }
+    ensures { λ r. ⌜ Gives link place SendNext r ⌝ }
+{
+    let d = link::send(link);
+    let verdict = d.verdict;
+    let line = send_line(verdict, d.class, d.length, d.tag, d.rounds);
+    let after = d.link;
+    Step {
+        line,
+        more: true,
+        link: after,
+        place: place + 1,
+    }
+}
+
+// A fresh link of an accepted plan.
+fn linked(read: PlanRead) -> Step
+    requires { ⌜ PlanRules (read .tree) ⌝ }
+    ensures { λ r. ⌜ r ≡ planGives Passed read ⌝ }
+{
+    let tree = read.tree;
+    let made = link::fresh(tree);
+    let link = made.link;
+    let size = link.size;
+    let line = Line::Link(tree.count as u64, size.0);
+    Step {
+        line,
+        more: true,
+        link,
+        place: read.used,
+    }
+}
+
+// A run begins with its plan's line.
+pub fn begin(input: &[u8]) -> Step
+    ensures { λ r. ⌜ r ≡ beginOf (now (input .entry)) ⌝ }
+{
+    let read = plan::read_plan(input);
+    let verdict = read.verdict;
+    match verdict {
+        Verdict::Passed => linked(read),
+        Verdict::Refused(n, p) => stop(Link::none(), 0, n, p),
+    }
+}
+
+// And goes on with the event at a place of its input.
+pub fn next(link: Link, input: &[u8], place: usize) -> Step
+    ensures { λ r. ⌜ GoesOn link (now (input .entry)) place r ⌝ }
+{
+    let rest = plan::events_after(input, place);
+    let event = plan::read_event(rest, place);
+    match event {
+        EventRead::NoMore => end(link, place),
+        EventRead::Arrive(a) => arrival(link, a, place),
+        EventRead::SendNext => send(link, place),
+        EventRead::Fault(n, p) => stop(link, place, n, p),
+    }
+}

@@ -1,0 +1,159 @@
+-- Stand-ins that the contracts reject (document 01, "How tight the contracts must be"): for each, a call of tree P that shows it. Demand 2.
+use mathlib.Core.Bool.{true}
+use mathlib.Core.Path.{_≡_, refl, sym, ap, _∙_}
+use Prim.Native.Nat.{ℕ}
+use native.Mathlib.Omega.{arith}
+use lib.ListN.{length}
+use Rattle.checks.specs.declared.Verdict.the-variants.{Refused}
+use Rattle.checks.specs.Check.{firstBroken}
+use Rattle.checks.proofs.Laws.{not-both, not-true-and-false, exactly-yes}
+use Rattle.tree.specs.Size.{roundSize}
+use Rattle.state.specs.declared.Link.{Link}
+use Rattle.state.specs.declared.Packet.{Packet}
+use Rattle.state.specs.Queue.{Shaped}
+use Rattle.state.specs.State.{State, meaning}
+use Rattle.state.proofs.Meaning.{shaped-fresh}
+use Rattle.sound.specs.Sound.{SoundLink}
+use Rattle.round.specs.Active.{waits, someWaits}
+use Rattle.round.specs.Sending.{traceOf}
+use Rattle.link.specs.declared.Answered.{Answered}
+use Rattle.link.specs.declared.Departure.{Departure}
+use Rattle.link.specs.Arrival.{arrivalChecks, arrivalOf, Arrives}
+use Rattle.link.specs.Send.{departs, sendOf, Sends}
+use Rattle.link.proofs.Arrivals.{arrives-as}
+use Rattle.link.proofs.Departures.{send-goes, sends-as, sends-by}
+use Rattle.link.proofs.FreshLinks.{fresh-sound}
+use Rattle.wait.specs.Calls.{afterArrival}
+use Rattle.wait.proofs.OverCalls.{Gives, arrival-verdict, arrival-gives, send-gives}
+use Rattle.wait.proofs.OnTreeP.{treeP, rules, fresh, first, second, withFirst, withBoth, sentOnce, arrivals-pass, arrivals-wait, two-sends}
+
+-- an arrival and a send that meet their contracts on every sound link whose lists have the lengths of its arrays
+pub record Meets (arrive : Link → ℕ → Packet → Answered) (send : Link → Departure) : Type 0 where
+  pub arrivals : (l : Link) (i : ℕ) (p : Packet) → Shaped l → SoundLink l → Arrives l i p (arrive l i p)
+  pub sends : (l : Link) → Shaped l → SoundLink l → Sends l (send l)
+
+-- the rules' own calls do
+pub rules-meet : Meets (arrivalOf true) (sendOf true)
+rules-meet = record {
+  arrivals = λ l i p shape sound.
+      record { sound = true; exactly = exactly-yes sound; answer = refl; keeps = λ s. arrival-gives l i p shape sound .sound };
+  sends = λ l shape sound. sends-by l true (sendOf true l) shape (exactly-yes sound) refl;
+}
+
+module _ (arrive : Link → ℕ → Packet → Answered) (send : Link → Departure) (meets : Meets arrive send) where
+  -- ---- what such calls give on a sound link
+
+  arrive-verdict : (l : Link) (s : State) (i : ℕ) (p : Packet) → Gives l s → arrive l i p .verdict ≡ firstBroken (arrivalChecks true s i p)
+  arrive-verdict l s i p g =
+      ap (λ (a : Answered). a .verdict) (arrives-as l i p (arrive l i p) (g .sound) (meets .arrivals l i p (g .shape) (g .sound)))
+      ∙ arrival-verdict l i p
+      ∙ ap (λ (t : State). firstBroken (arrivalChecks true t i p)) (g .means)
+
+  arrive-after : (l : Link) (s : State) (i : ℕ) (p : Packet) → Gives l s → Gives (arrive l i p .link) (afterArrival s i p)
+  arrive-after l s i p g =
+      rw (arrives-as l i p (arrive l i p) (g .sound) (meets .arrivals l i p (g .shape) (g .sound)), ← g .means)
+      (arrival-gives l i p (g .shape) (g .sound))
+
+  send-is : (l : Link) (s : State) → Gives l s → someWaits s ≡ true → send l ≡ departs l (traceOf s)
+  send-is l s g w =
+      sends-as l (send l) (g .sound) (meets .sends l (g .shape) (g .sound))
+      ∙ send-goes l (ap someWaits (g .means) ∙ w)
+      ∙ ap (λ (t : State). departs l (traceOf t)) (g .means)
+
+  send-after : (l : Link) (s : State) → Gives l s → someWaits s ≡ true → Gives (send l .link) (traceOf s .state)
+  send-after l s g w =
+      rw (sends-as l (send l) (g .sound) (meets .sends l (g .shape) (g .sound)), ← g .means)
+      (send-gives l (g .shape) (g .sound) (ap someWaits (g .means) ∙ w))
+
+  -- ---- the calls on tree P
+
+  starts : Gives fresh (meaning fresh)
+  unfolding fresh
+  starts = record { shape = shaped-fresh treeP (record { 0 = roundSize treeP }); sound = fresh-sound treeP rules; means = refl }
+
+  -- the link with the first packet, with both, and after a send
+  abbrev pub one : Link
+  one = arrive fresh 2 first .link
+
+  abbrev pub two : Link
+  two = arrive one 4 second .link
+
+  abbrev pub gone : Link
+  gone = send two .link
+
+  one-gives : Gives one withFirst
+  unfolding withFirst
+  one-gives = arrive-after fresh (meaning fresh) 2 first starts
+
+  two-gives : Gives two withBoth
+  unfolding withBoth
+  two-gives = arrive-after one withFirst 4 second one-gives
+
+  gone-gives : Gives gone sentOnce
+  unfolding sentOnce
+  gone-gives = send-after two withBoth two-gives (two-sends .0 .waits)
+
+  sent-first : send two ≡ departs two (traceOf withBoth)
+  sent-first = send-is two withBoth two-gives (two-sends .0 .waits)
+
+  sent-second : send gone ≡ departs gone (traceOf sentOnce)
+  sent-second = send-is gone sentOnce gone-gives (two-sends .1 .waits)
+
+  first-tag : send two .tag ≡ 1
+  first-tag = ap (λ (d : Departure). d .tag) sent-first ∙ two-sends .0 .tag
+
+  second-tag : send gone .tag ≡ 4
+  second-tag = ap (λ (d : Departure). d .tag) sent-second ∙ two-sends .1 .tag
+
+  -- ---- the stand-ins
+
+  -- a link that refuses everything
+  pub refuses-everything : (n q : ℕ) → arrive fresh 2 first .verdict ≡ Refused n q → ⊥
+  refuses-everything n q e = not-both (arrive-verdict fresh (meaning fresh) 2 first starts ∙ arrivals-pass .0) e
+
+  pub sends-nothing : (n q : ℕ) → send two .verdict ≡ Refused n q → ⊥
+  sends-nothing n q e = not-both (ap (λ (d : Departure). d .verdict) sent-first) e
+
+  -- one with a fixed answer: an arrival to a leaf and one to an inner class differ; no tag is that of every send
+  pub fixed-verdict : arrive fresh 2 first .verdict ≡ arrive fresh 1 first .verdict → ⊥
+  fixed-verdict e =
+      not-both (arrive-verdict fresh (meaning fresh) 2 first starts ∙ arrivals-pass .0)
+      (e ∙ arrive-verdict fresh (meaning fresh) 1 first starts ∙ arrivals-pass .1)
+
+  pub fixed-answer : (tag : ℕ) → ((l : Link) → Shaped l → SoundLink l → send l .tag ≡ tag) → ⊥
+  fixed-answer tag e =
+      let a : send two .tag ≡ tag = e two (two-gives .shape) (two-gives .sound) in
+      let b : send gone .tag ≡ tag = e gone (gone-gives .shape) (gone-gives .sound) in
+      omega (arith, first-tag, second-tag, a, b)
+
+  -- one that returns the state untouched after an arrival, the first or the next
+  pub untouched : meaning one ≡ meaning fresh → ⊥
+  untouched e = not-true-and-false (ap someWaits (one-gives .means) ∙ arrivals-wait .1) (ap someWaits e ∙ arrivals-wait .0)
+
+  pub untouched-next : meaning two ≡ meaning one → ⊥
+  untouched-next e =
+      not-true-and-false (ap (λ (s : State). waits s 4) (two-gives .means) ∙ arrivals-wait .3)
+      (ap (λ (s : State). waits s 4) (e ∙ one-gives .means) ∙ arrivals-wait .2)
+
+  -- one that works on the first call and then repeats
+  pub repeats : send gone .tag ≡ send two .tag → ⊥
+  repeats e = omega (arith, first-tag, second-tag, e)
+
+  -- or idles: it refuses, or leaves the state as it is
+  pub idles : (n q : ℕ) → send gone .verdict ≡ Refused n q → ⊥
+  idles n q e = not-both (ap (λ (d : Departure). d .verdict) sent-second) e
+
+  pub idles-state : meaning (send gone .link) ≡ meaning gone → ⊥
+  idles-state e =
+      not-true-and-false (ap someWaits (gone-gives .means) ∙ two-sends .1 .waits)
+      (ap someWaits (sym e ∙ send-after gone sentOnce gone-gives (two-sends .1 .waits) .means) ∙ two-sends .2)
+
+  -- one with an invented round count: it is that of the openings, and no fixed one
+  pub counts-openings : (l : Link) → Shaped l → SoundLink l → someWaits (meaning l) ≡ true → send l .rounds ≡ length (traceOf (meaning l) .turns)
+  counts-openings l shape sound w = ap (λ (d : Departure). d .rounds) (send-is l (meaning l) (record { shape = shape; sound = sound; means = refl }) w)
+
+  pub fixed-count : send gone .rounds ≡ send two .rounds → ⊥
+  fixed-count e =
+      let a : send two .rounds ≡ 1 = ap (λ (d : Departure). d .rounds) sent-first ∙ two-sends .0 .rounds in
+      let b : send gone .rounds ≡ 0 = ap (λ (d : Departure). d .rounds) sent-second ∙ two-sends .1 .rounds in
+      omega (arith, e, a, b)

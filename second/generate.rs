@@ -1,0 +1,1226 @@
+//! Makes one input for the link programs from a seed: `generate SEED > input`. The same seed always gives the same bytes.
+//! Build: rustc -O --edition 2021 generate.rs
+//!
+//! The mix. Let slot = SEED % 20 and turn = SEED / 20; so 20 seeds in a row meet every slot once.
+//!   slots  0..=9   good plan, one event profile each (see `events_of`): backlogged, sparse, bursty, arrivals only,
+//!                  sends only, steady, hostile arrivals, hot leaves, rejoining leaves, trickle;
+//!                  the tree's shape goes round with the turn, so every profile meets every shape in 13 turns
+//!   slot  10       good plan, shape and profile both random
+//!   slots 11, 12   light siblings: trees and events made so that surplus rounds open that send nothing (rounds = 2)
+//!   slots 13..=15  damaged or cut plan, one of 31 faults in turn (see `damaged_plan`), refusals 1 to 9
+//!   slot  16       good plan, damaged or cut events, one of 10 faults in turn (see `damaged_events`), refusals 1 and 2
+//!   slot  17       inputs at the size limit: 65,535, 65,536, 65,537 bytes and above (see `sized_input`), refusal 10
+//!   slot  18       a good input with bytes changed, taken out, put in or cut off anywhere
+//!   slot  19       tiny trees in the manner of tree P with short random runs
+//! Sizes of a good run: 40% small (10 to 150 events), 40% middle (300 to 1,500), 20% large (2,000 to 6,000).
+//! Weights: tiny, huge, equal, random exact, random with room, heavy inner over light leaves, spread by powers of two.
+//! Longest packets: all 1, all 9,216, random, limits mixed, small, the two usual sizes 64 and 1,500, powers of two.
+//! Lengths within a run: all 1, all at the longest, any, 1 or longest, short; the share of bad arrivals (lengths 0,
+//! longest + 1, 65,535; the root, inner classes, numbers past the last up to 255) is 0, 2, 5, 15 or 60 of 100.
+
+use std::io::Write;
+
+/// "at most 63".
+const MOST_CLASSES: usize = 63;
+/// "a weight from 1 to 1,000,000".
+const MOST_WEIGHT: u64 = 1_000_000;
+/// "1 to 9,216 bytes".
+const MOST_LONGEST: u64 = 9_216;
+/// "the program's input exceeds 65,536 bytes".
+const MOST_INPUT: usize = 65_536;
+/// Good runs stay well below the limit, so that only slot 17 speaks of it.
+const ROOM: usize = 60_000;
+/// How many tree shapes `shape_of` knows.
+const SHAPES: u64 = 13;
+/// How many event profiles `events_of` knows besides the light siblings, whose number this is.
+const PROFILES: u64 = 10;
+/// How many plan faults `damaged_plan` knows.
+const PLAN_FAULTS: u64 = 31;
+/// How many event faults `damaged_events` knows.
+const EVENT_FAULTS: u64 = 10;
+
+// ---------------------------------------------------------------------------------------------
+// Random numbers.
+
+/// splitmix64: small, and good for any seed, 0 too.
+struct Random {
+    state: u64,
+}
+
+impl Random {
+    /// The next 64 random bits.
+    fn next(&mut self) -> u64 {
+        self.state = self.state.wrapping_add(0x9E37_79B9_7F4A_7C15);
+        let mut z = self.state;
+        z = (z ^ (z >> 30)).wrapping_mul(0xBF58_476D_1CE4_E5B9);
+        z = (z ^ (z >> 27)).wrapping_mul(0x94D0_49BB_1331_11EB);
+        z ^ (z >> 31)
+    }
+
+    /// A number from `low` to `high`, both taken in.
+    fn from_to(&mut self, low: u64, high: u64) -> u64 {
+        assert!(low <= high);
+        low + self.next() % (high - low + 1)
+    }
+
+    /// True in so many of 100 cases.
+    fn chance(&mut self, percent: u64) -> bool {
+        self.next() % 100 < percent
+    }
+
+    /// One of a list.
+    fn pick<T: Copy>(&mut self, list: &[T]) -> T {
+        list[(self.next() % list.len() as u64) as usize]
+    }
+}
+
+// ---------------------------------------------------------------------------------------------
+// Trees.
+
+/// One class; position 0 of a tree is the root.
+#[derive(Clone)]
+struct Class {
+    leaf: bool,
+    parent: usize,
+    weight: u64,
+    longest: u64,
+}
+
+type Tree = Vec<Class>;
+
+/// A tree with the root alone.
+fn root_alone() -> Tree {
+    vec![Class { leaf: false, parent: 0, weight: 0, longest: 0 }]
+}
+
+/// Adds a class and gives its number.
+fn grow(tree: &mut Tree, leaf: bool, parent: usize) -> usize {
+    tree.push(Class { leaf, parent, weight: 0, longest: 0 });
+    tree.len() - 1
+}
+
+/// Flat: so many leaves under the root.
+fn flat(leaves: usize) -> Tree {
+    let mut tree = root_alone();
+    for _ in 0..leaves {
+        grow(&mut tree, true, 0);
+    }
+    tree
+}
+
+/// A chain of so many inner classes above one leaf.
+fn chain(inner: usize) -> Tree {
+    let mut tree = root_alone();
+    let mut parent = 0;
+    for _ in 0..inner {
+        parent = grow(&mut tree, false, parent);
+    }
+    grow(&mut tree, true, parent);
+    tree
+}
+
+/// A chain of inner classes with a leaf beside each.
+fn comb(inner: usize) -> Tree {
+    let mut tree = root_alone();
+    let mut parent = 0;
+    for _ in 0..inner {
+        grow(&mut tree, true, parent);
+        parent = grow(&mut tree, false, parent);
+    }
+    grow(&mut tree, true, parent);
+    tree
+}
+
+/// Two levels: inner classes under the root, leaves under each.
+fn two_levels(random: &mut Random) -> Tree {
+    let mut tree = root_alone();
+    let groups = random.from_to(1, 12) as usize;
+    let most = (MOST_CLASSES - groups) / groups;
+    let parents: Vec<usize> = (0..groups).map(|_| grow(&mut tree, false, 0)).collect();
+    for parent in parents {
+        for _ in 0..random.from_to(1, most as u64) {
+            grow(&mut tree, true, parent);
+        }
+    }
+    tree
+}
+
+/// A tree in which each inner class has the same number of children, level by level, as far as 63 classes go.
+fn even(children: usize, levels: usize) -> Tree {
+    let mut tree = root_alone();
+    let mut row = vec![0];
+    for level in 0..levels {
+        let last = level + 1 == levels || tree.len() - 1 + row.len() * children * (1 + children) > MOST_CLASSES;
+        let parents = std::mem::take(&mut row);
+        for parent in parents {
+            for _ in 0..children {
+                if tree.len() <= MOST_CLASSES {
+                    let class = grow(&mut tree, last, parent);
+                    row.push(class);
+                }
+            }
+        }
+        if last {
+            break;
+        }
+    }
+    tree
+}
+
+/// Each class hangs below a random earlier inner class; `near` takes only the last few, which gives deep trees.
+fn random_tree(random: &mut Random, classes: usize, inner_percent: u64, near: usize) -> Tree {
+    let mut tree = root_alone();
+    let mut above = vec![0];
+    for _ in 0..classes {
+        let from = above.len().saturating_sub(near);
+        let parent = random.pick(&above[from..]);
+        let leaf = !random.chance(inner_percent);
+        let class = grow(&mut tree, leaf, parent);
+        if !leaf {
+            above.push(class);
+        }
+    }
+    childless_to_leaves(&mut tree);
+    tree
+}
+
+/// Turns inner classes without a child into leaves, so that the plan is good.
+fn childless_to_leaves(tree: &mut Tree) {
+    for class in 1..tree.len() {
+        if !tree[class].leaf && !tree.iter().skip(1).any(|c| c.parent == class) {
+            tree[class].leaf = true;
+        }
+    }
+}
+
+/// Gives the classes other numbers at random, each parent still before its children.
+fn renumber(random: &mut Random, tree: &Tree) -> Tree {
+    let mut new_number = vec![None; tree.len()];
+    new_number[0] = Some(0);
+    let mut new_tree = root_alone();
+    while new_tree.len() < tree.len() {
+        let ready: Vec<usize> =
+            (1..tree.len()).filter(|&c| new_number[c].is_none() && new_number[tree[c].parent].is_some()).collect();
+        let class = random.pick(&ready);
+        let parent = new_number[tree[class].parent].unwrap();
+        new_number[class] = Some(grow(&mut new_tree, tree[class].leaf, parent));
+    }
+    new_tree
+}
+
+/// The shapes, from flat to deep.
+fn shape_of(random: &mut Random, shape: u64) -> Tree {
+    let tree = match shape {
+        0 => flat(MOST_CLASSES),
+        1 => flat(random.from_to(1, 63) as usize),
+        2 => chain(62),
+        3 => chain(random.from_to(1, 61) as usize),
+        4 => comb(31),
+        5 => comb(random.from_to(1, 30) as usize),
+        6 => two_levels(random),
+        7 => even(random.from_to(2, 4) as usize, random.from_to(2, 5) as usize),
+        8 => {
+            let (classes, percent) = (random.from_to(2, 63), random.pick(&[20, 40, 60]));
+            random_tree(random, classes as usize, percent, 64)
+        }
+        9 => {
+            let (classes, near) = (random.from_to(20, 63), random.pick(&[1, 2, 3]));
+            random_tree(random, classes as usize, 50, near)
+        }
+        10 | 11 => small_tree(random),
+        _ => groups(random),
+    };
+    if random.chance(50) {
+        renumber(random, &tree)
+    } else {
+        tree
+    }
+}
+
+/// A tree of at most 8 classes, in the manner of tree P.
+fn small_tree(random: &mut Random) -> Tree {
+    let (classes, near) = (random.from_to(1, 8), random.pick(&[2, 8]));
+    random_tree(random, classes as usize, 45, near)
+}
+
+/// A few groups below the root or below each other, each with one or two leaves to be heavy and one to be light.
+fn groups(random: &mut Random) -> Tree {
+    let mut tree = root_alone();
+    let mut above = vec![0];
+    for _ in 0..random.from_to(1, 3) {
+        let parent = random.pick(&above);
+        let group = grow(&mut tree, false, parent);
+        above.push(group);
+        for _ in 0..random.from_to(2, 3) {
+            grow(&mut tree, true, group);
+        }
+    }
+    for _ in 0..random.from_to(0, 2) {
+        grow(&mut tree, true, 0);
+    }
+    tree
+}
+
+/// The children of a class.
+fn children(tree: &Tree, parent: usize) -> Vec<usize> {
+    (1..tree.len()).filter(|&c| tree[c].parent == parent).collect()
+}
+
+/// How many leaves each class has below it; with weights of at least 1 that is the least weight it can have.
+fn needs(tree: &Tree) -> Vec<u64> {
+    let mut needs: Vec<u64> = tree.iter().map(|c| c.leaf as u64).collect();
+    for class in (1..tree.len()).rev() {
+        needs[tree[class].parent] += needs[class];
+    }
+    needs
+}
+
+/// Bottom up: leaves have the given weights, an inner class the sum of its children and at times a little more.
+fn weigh_upward(random: &mut Random, tree: &mut Tree, leaf_weights: &mut dyn FnMut(&mut Random) -> u64, more: u64) {
+    for class in (1..tree.len()).rev() {
+        if tree[class].leaf {
+            tree[class].weight = leaf_weights(random);
+        } else {
+            let sum: u64 = children(tree, class).iter().map(|&c| tree[c].weight).sum();
+            tree[class].weight = sum + random.from_to(0, more);
+        }
+    }
+}
+
+/// Top down: a class below the root gets up to 1,000,000; each inner class splits its weight, wholly if `exact`.
+fn weigh_downward(random: &mut Random, tree: &mut Tree, huge: bool, exact: bool) {
+    let needs = needs(tree);
+    for class in children(tree, 0) {
+        tree[class].weight = if huge { MOST_WEIGHT } else { random.from_to(needs[class], MOST_WEIGHT) };
+    }
+    for parent in 1..tree.len() {
+        let below = children(tree, parent);
+        if below.is_empty() {
+            continue;
+        }
+        let mut spare = tree[parent].weight - needs[parent];
+        if !exact {
+            spare = random.from_to(0, spare);
+        }
+        for (position, &class) in below.iter().enumerate() {
+            let last = position + 1 == below.len();
+            let even_part = spare / (below.len() - position) as u64;
+            let part = if last { spare } else { random.from_to(0, spare.min(2 * even_part)) };
+            tree[class].weight = needs[class] + part;
+            spare -= part;
+        }
+    }
+}
+
+/// Heavy inner classes over leaves of weight 1: nearly all of an inner class's weight goes to one inner child.
+fn weigh_heavy_inner(tree: &mut Tree) {
+    let needs = needs(tree);
+    for class in 1..tree.len() {
+        let parent = tree[class].parent;
+        let inner_beside = children(tree, parent).iter().filter(|&&c| !tree[c].leaf).count() as u64;
+        let given = if parent == 0 { MOST_WEIGHT } else { tree[parent].weight };
+        let spare = if parent == 0 { MOST_WEIGHT - needs[class] } else { (given - needs[parent]) / inner_beside.max(1) };
+        tree[class].weight = if tree[class].leaf { 1 } else { needs[class] + spare };
+    }
+}
+
+/// Picks one of the weight mixes.
+fn weigh(random: &mut Random, tree: &mut Tree) {
+    match random.from_to(0, 9) {
+        0 => weigh_upward(random, tree, &mut |_| 1, 0),
+        1 => weigh_upward(random, tree, &mut |_| 1, 2),
+        2 => weigh_downward(random, tree, true, true),
+        3 => weigh_downward(random, tree, true, false),
+        4 => {
+            let exact = random.chance(50);
+            weigh_downward(random, tree, false, exact)
+        }
+        5 => {
+            let equal = random.pick(&[2, 10, 100, 1_500, 15_000]);
+            weigh_upward(random, tree, &mut |_| equal, 0)
+        }
+        6 => weigh_upward(random, tree, &mut |r| r.from_to(1, 10), 0),
+        7 => weigh_upward(random, tree, &mut |r| r.from_to(1, 10_000), 5),
+        8 => weigh_upward(random, tree, &mut |r| 1 << r.from_to(0, 13), 0),
+        _ => weigh_heavy_inner(tree),
+    }
+}
+
+/// Gives each leaf its longest packet, by one of seven mixes.
+fn lengthen(random: &mut Random, tree: &mut Tree) {
+    let mix = random.from_to(0, 6);
+    for class in 1..tree.len() {
+        if tree[class].leaf {
+            tree[class].longest = match mix {
+                0 => 1,
+                1 => MOST_LONGEST,
+                2 => random.from_to(1, MOST_LONGEST),
+                3 => random.pick(&[1, 2, MOST_LONGEST - 1, MOST_LONGEST]),
+                4 => random.from_to(1, 30),
+                5 => random.pick(&[64, 1_500]),
+                _ => 1 << random.from_to(0, 13),
+            };
+        }
+    }
+}
+
+/// A whole good tree of the given shape.
+fn good_tree(random: &mut Random, shape: u64) -> Tree {
+    let mut tree = shape_of(random, shape);
+    weigh(random, &mut tree);
+    lengthen(random, &mut tree);
+    assert_good(&tree);
+    tree
+}
+
+/// Ends the generator if a tree meant to be good breaks a plan rule.
+fn assert_good(tree: &Tree) {
+    assert!(tree.len() >= 2 && tree.len() <= MOST_CLASSES + 1);
+    for class in 1..tree.len() {
+        let Class { leaf, parent, weight, longest } = tree[class];
+        let sum: u64 = children(tree, class).iter().map(|&c| tree[c].weight).sum();
+        assert!(parent < class && !tree[parent].leaf && weight >= 1 && weight <= MOST_WEIGHT);
+        assert!(leaf == (sum == 0) && (leaf || sum <= weight));
+        assert!(if leaf { (1..=MOST_LONGEST).contains(&longest) } else { longest == 0 });
+    }
+}
+
+// ---------------------------------------------------------------------------------------------
+// Bytes.
+
+/// The record of one class as it stands, good or bad.
+fn class_record(class: &Class) -> Vec<u8> {
+    let mut record = vec![if class.leaf { 2 } else { 1 }, class.parent as u8];
+    record.extend((class.weight as u32).to_be_bytes());
+    if class.leaf {
+        record.extend((class.longest as u16).to_be_bytes());
+    }
+    record
+}
+
+/// All class records without the end record.
+fn class_records(tree: &Tree) -> Vec<u8> {
+    tree.iter().skip(1).flat_map(class_record).collect()
+}
+
+/// A whole plan.
+fn plan(tree: &Tree) -> Vec<u8> {
+    [class_records(tree), vec![0]].concat()
+}
+
+/// An arrival record.
+fn arrival_record(class: u64, length: u64, tag: u64) -> Vec<u8> {
+    let mut record = vec![16, class as u8];
+    record.extend((length as u16).to_be_bytes());
+    record.extend((tag as u32).to_be_bytes());
+    record
+}
+
+// ---------------------------------------------------------------------------------------------
+// Events.
+
+/// The way lengths are drawn in one run.
+#[derive(Clone, Copy)]
+enum Lengths {
+    One,
+    Longest,
+    Any,
+    Limits,
+    Short,
+}
+
+/// Writes events and guesses how many packets wait (refusal 14 is not foreseen, so the guess may be too high).
+struct Writer<'a> {
+    random: &'a mut Random,
+    tree: &'a Tree,
+    leaves: Vec<usize>,
+    lengths: Lengths,
+    hostile: u64,
+    bytes: Vec<u8>,
+    room: usize,
+    events: usize,
+    waiting: usize,
+}
+
+impl<'a> Writer<'a> {
+    /// A writer with random lengths and a random share of bad arrivals.
+    fn new(random: &'a mut Random, tree: &'a Tree, room: usize) -> Writer<'a> {
+        let leaves = (1..tree.len()).filter(|&c| tree[c].leaf).collect();
+        let lengths =
+            random.pick(&[Lengths::One, Lengths::Longest, Lengths::Any, Lengths::Any, Lengths::Limits, Lengths::Short]);
+        let hostile = random.pick(&[0, 0, 2, 5, 15]);
+        Writer { random, tree, leaves, lengths, hostile, bytes: Vec::new(), room, events: 0, waiting: 0 }
+    }
+
+    /// Whether another arrival fits.
+    fn has_room(&self) -> bool {
+        self.bytes.len() + 8 <= self.room
+    }
+
+    /// Whether a run of the given size goes on: fewer events than wanted, and room for one more.
+    fn goes_on(&self, size: usize) -> bool {
+        self.events < size && self.has_room()
+    }
+
+    /// A send, if it fits.
+    fn send(&mut self) {
+        if self.bytes.len() < self.room {
+            self.bytes.push(17);
+            self.events += 1;
+            self.waiting = self.waiting.saturating_sub(1);
+        }
+    }
+
+    /// So many sends.
+    fn sends(&mut self, count: usize) {
+        for _ in 0..count {
+            self.send();
+        }
+    }
+
+    /// Any arrival record, if it fits; tags are any 32 bits and now and then at their limits.
+    fn put(&mut self, class: u64, length: u64) {
+        if self.has_room() {
+            let any = self.random.next() & 0xFFFF_FFFF;
+            let tag = if self.random.chance(2) { self.random.pick(&[0, 1, 0xFFFF_FFFF]) } else { any };
+            self.bytes.extend(arrival_record(class, length, tag));
+            self.events += 1;
+        }
+    }
+
+    /// A length within the leaf's range.
+    fn length(&mut self, leaf: usize) -> u64 {
+        let longest = self.tree[leaf].longest;
+        match self.lengths {
+            Lengths::One => 1,
+            Lengths::Longest => longest,
+            Lengths::Any => self.random.from_to(1, longest),
+            Lengths::Limits => self.random.pick(&[1, longest]),
+            Lengths::Short => self.random.from_to(1, (longest / 8).max(1)),
+        }
+    }
+
+    /// A good arrival to this leaf.
+    fn arrive(&mut self, leaf: usize) {
+        let length = self.length(leaf);
+        self.waiting += 1;
+        self.put(leaf as u64, length);
+    }
+
+    /// An arrival to a random leaf of a list, or now and then a bad one.
+    fn arrive_at(&mut self, leaves: &[usize]) {
+        if self.random.chance(self.hostile) {
+            self.arrive_badly();
+        } else {
+            let leaf = self.random.pick(leaves);
+            self.arrive(leaf);
+        }
+    }
+
+    /// An arrival to any leaf.
+    fn arrive_anywhere(&mut self) {
+        let leaves = self.leaves.clone();
+        self.arrive_at(&leaves);
+    }
+
+    /// An arrival that is to be refused with 12 or 13.
+    fn arrive_badly(&mut self) {
+        let leaf = self.random.pick(&self.leaves);
+        let longest = self.tree[leaf].longest;
+        let inner: Vec<usize> = (0..self.tree.len()).filter(|&c| !self.tree[c].leaf).collect();
+        let past = self.random.from_to(self.tree.len() as u64, 255);
+        match self.random.from_to(0, 8) {
+            0 => self.put(leaf as u64, 0),
+            1 => self.put(leaf as u64, longest + 1),
+            2 => self.put(leaf as u64, 65_535),
+            3 => self.put(0, longest),
+            4 => {
+                let class = self.random.pick(&inner);
+                self.put(class as u64, longest)
+            }
+            5 => self.put(past, longest),
+            6 => self.put(self.tree.len() as u64, longest),
+            7 => self.put(255, 0),
+            _ => {
+                let class = self.random.pick(&[0, 63, 64, 65, 127, 128, 254, 255]);
+                let length = self.random.pick(&[0, 1, 9_216, 9_217]);
+                self.put(class, length)
+            }
+        }
+    }
+
+    /// Some of the leaves, at least one.
+    fn some_leaves(&mut self) -> Vec<usize> {
+        let percent = self.random.pick(&[10, 30, 60]);
+        let mut some = Vec::new();
+        for position in 0..self.leaves.len() {
+            if self.random.chance(percent) {
+                some.push(self.leaves[position]);
+            }
+        }
+        if some.is_empty() {
+            some.push(self.random.pick(&self.leaves));
+        }
+        some
+    }
+
+    /// Sends until nothing should wait any more, and a few times beyond: `none`.
+    fn drain(&mut self) {
+        let count = self.waiting + self.random.from_to(0, 3) as usize;
+        self.sends(count);
+    }
+}
+
+/// How many events a good run has; the larger ones are rarer.
+fn run_size(random: &mut Random) -> usize {
+    let class = random.from_to(0, 9);
+    (match class {
+        0..=3 => random.from_to(10, 150),
+        4..=7 => random.from_to(300, 1_500),
+        _ => random.from_to(2_000, 6_000),
+    }) as usize
+}
+
+/// Backlogged: many arrivals first, some queues at 32 and beyond (refusal 14), then sends with a few arrivals.
+fn backlogged(writer: &mut Writer, size: usize) {
+    let some = writer.some_leaves();
+    for leaf in some {
+        for _ in 0..writer.random.from_to(20, 36) {
+            if writer.events < size {
+                writer.arrive(leaf);
+            }
+        }
+    }
+    while writer.goes_on(size / 2) {
+        writer.arrive_anywhere();
+    }
+    while writer.goes_on(size) {
+        writer.sends(5);
+        if writer.random.chance(70) {
+            writer.arrive_anywhere();
+        }
+    }
+}
+
+/// Sparse: arrival, send, arrival, send; now and then one more of either.
+fn sparse(writer: &mut Writer, size: usize) {
+    while writer.goes_on(size) {
+        writer.arrive_anywhere();
+        if writer.random.chance(95) {
+            writer.send();
+        }
+        if writer.random.chance(5) {
+            writer.send();
+        }
+    }
+}
+
+/// Bursty: a burst of arrivals to a few leaves, then a burst of sends.
+fn bursty(writer: &mut Writer, size: usize) {
+    while writer.goes_on(size) {
+        let some = writer.some_leaves();
+        for _ in 0..writer.random.from_to(1, 60) {
+            writer.arrive_at(&some);
+        }
+        let count = writer.random.from_to(1, 60) as usize;
+        writer.sends(count);
+    }
+}
+
+/// Arrivals only: queues fill up and stay full.
+fn arrivals_only(writer: &mut Writer, size: usize) {
+    while writer.goes_on(size.min(2_500)) {
+        writer.arrive_anywhere();
+    }
+}
+
+/// Sends only: every one is refused with 15.
+fn sends_only(writer: &mut Writer, size: usize) {
+    let count = size.min(400);
+    writer.sends(count);
+}
+
+/// Steady: about the same number of packets waits all the time.
+fn steady(writer: &mut Writer, size: usize) {
+    let target = writer.random.pick(&[3, 10, 40, 200]);
+    while writer.goes_on(size) {
+        if writer.waiting < target || writer.random.chance(10) {
+            writer.arrive_anywhere();
+        } else {
+            writer.send();
+        }
+    }
+}
+
+/// Hostile: most arrivals are to be refused.
+fn hostile(writer: &mut Writer, size: usize) {
+    writer.hostile = 60;
+    while writer.goes_on(size) {
+        if writer.random.chance(75) {
+            writer.arrive_anywhere();
+        } else {
+            writer.send();
+        }
+    }
+}
+
+/// Hot leaves: a few always have packets, the others get one now and then and turn inactive again: surplus rounds.
+fn hot_leaves(writer: &mut Writer, size: usize) {
+    let hot = writer.some_leaves();
+    for _ in 0..10 {
+        for &leaf in &hot {
+            writer.arrive(leaf);
+        }
+    }
+    while writer.goes_on(size) {
+        writer.arrive_at(&hot);
+        if writer.random.chance(40) {
+            writer.arrive_anywhere();
+        }
+        let count = writer.random.from_to(0, 3) as usize;
+        writer.sends(count);
+    }
+}
+
+/// Rejoining: long packets wait in a few leaves, single short ones come to the rest between sends, as in M7.
+fn rejoining(writer: &mut Writer, size: usize) {
+    let hot = writer.some_leaves();
+    let most_sends = writer.random.from_to(1, 4);
+    while writer.goes_on(size) {
+        if writer.random.chance(60) {
+            writer.lengths = Lengths::Longest;
+            writer.arrive_at(&hot);
+        }
+        writer.lengths = Lengths::Short;
+        for _ in 0..writer.random.from_to(0, 2) {
+            writer.arrive_anywhere();
+        }
+        let count = writer.random.from_to(0, most_sends) as usize;
+        writer.sends(count);
+    }
+}
+
+/// Trickle: each leaf gets a packet or two, all is sent, and so on; every class turns inactive again and again.
+fn trickle(writer: &mut Writer, size: usize) {
+    while writer.goes_on(size) {
+        let some = writer.some_leaves();
+        for leaf in some {
+            for _ in 0..writer.random.from_to(1, 3) {
+                writer.arrive(leaf);
+            }
+        }
+        if writer.random.chance(80) {
+            writer.drain();
+        } else {
+            let count = writer.waiting / 2;
+            writer.sends(count);
+        }
+    }
+}
+
+/// Light siblings: heavy leaves always wait with long packets, light ones get single bytes now and then and give back
+/// little; so surplus rounds open that cover no packet and a main round follows in the same send.
+fn light_siblings(writer: &mut Writer, size: usize) {
+    let heaviest = writer.leaves.iter().map(|&l| writer.tree[l].weight).max().unwrap_or(1);
+    let (heavy, light): (Vec<usize>, Vec<usize>) =
+        writer.leaves.iter().partition(|&&l| writer.tree[l].weight * 2 > heaviest);
+    let light_percent = writer.random.pick(&[15, 25, 40, 60]);
+    let heavy_lengths = writer.random.pick(&[Lengths::Longest, Lengths::Longest, Lengths::Any, Lengths::Limits]);
+    let filled = writer.random.from_to(3, 33);
+    for _ in 0..filled {
+        for &leaf in &heavy {
+            writer.lengths = Lengths::Longest;
+            writer.arrive(leaf);
+        }
+    }
+    let size = size + writer.events;
+    while writer.goes_on(size) {
+        if writer.random.chance(90) {
+            writer.lengths = heavy_lengths;
+            writer.arrive_at(&heavy);
+        }
+        if !light.is_empty() && writer.random.chance(light_percent) {
+            writer.lengths = Lengths::One;
+            writer.arrive_at(&light);
+        }
+        writer.send();
+    }
+}
+
+/// The events of one profile; half the runs are drained at the end.
+fn events_of(random: &mut Random, tree: &Tree, profile: u64, size: usize, room: usize) -> Vec<u8> {
+    let drained = random.chance(50);
+    let mut writer = Writer::new(random, tree, room);
+    match profile {
+        0 => backlogged(&mut writer, size),
+        1 => sparse(&mut writer, size),
+        2 => bursty(&mut writer, size),
+        3 => arrivals_only(&mut writer, size),
+        4 => sends_only(&mut writer, size),
+        5 => steady(&mut writer, size),
+        6 => hostile(&mut writer, size),
+        7 => hot_leaves(&mut writer, size),
+        8 => rejoining(&mut writer, size),
+        9 => trickle(&mut writer, size),
+        _ => light_siblings(&mut writer, size),
+    }
+    // arrivals only and sends only stay what their names say
+    if drained && profile != 3 && profile != 4 {
+        writer.drain();
+    }
+    writer.bytes
+}
+
+// ---------------------------------------------------------------------------------------------
+// Whole inputs.
+
+/// A good plan and its events.
+fn good_input(random: &mut Random, shape: u64, profile: u64) -> Vec<u8> {
+    let tree = good_tree(random, shape);
+    let size = run_size(random);
+    let events = events_of(random, &tree, profile, size, ROOM);
+    [plan(&tree), events].concat()
+}
+
+/// A good input with random shape and profile.
+fn any_good_input(random: &mut Random) -> Vec<u8> {
+    let (shape, profile) = (random.from_to(0, SHAPES - 1), random.from_to(0, PROFILES - 1));
+    good_input(random, shape, profile)
+}
+
+/// Light siblings over a tree made for them: the leaves weigh 1 or more, and only the heavy ones take long packets, so
+/// that Q is hardly more than one long packet for each heavy leaf; a heavy weight is at most the root of the length, so
+/// that what a light leaf gives back (about length / weight) reaches the weight sum and opens a surplus round.
+fn light_siblings_tree(random: &mut Random) -> Tree {
+    let shape = random.pick(&[5, 6, 7, 8, 10]);
+    let mut tree = if random.chance(75) { groups(random) } else { shape_of(random, shape) };
+    let (longest, most_heavy) = random.pick(&[(100, 7), (1_500, 25), (MOST_LONGEST, 60)]);
+    let heavy = random.from_to(2, most_heavy);
+    let light_percent = random.pick(&[30, 50]);
+    weigh_upward(random, &mut tree, &mut |r| if r.chance(light_percent) { 1 } else { heavy }, 0);
+    for class in 1..tree.len() {
+        if tree[class].leaf {
+            tree[class].longest = if tree[class].weight == heavy { longest } else { random.from_to(1, 4) };
+        }
+    }
+    assert_good(&tree);
+    tree
+}
+
+/// A run of light siblings over such a tree.
+fn light_siblings_input(random: &mut Random) -> Vec<u8> {
+    let tree = light_siblings_tree(random);
+    let size = random.from_to(100, 4_000) as usize;
+    let events = events_of(random, &tree, PROFILES, size, ROOM);
+    [plan(&tree), events].concat()
+}
+
+/// A short run over a tiny tree.
+fn tiny_input(random: &mut Random) -> Vec<u8> {
+    let mut tree = small_tree(random);
+    let equal = random.from_to(1, 4);
+    weigh_upward(random, &mut tree, &mut |r| r.from_to(1, equal), 1);
+    for class in 1..tree.len() {
+        if tree[class].leaf {
+            tree[class].longest = random.from_to(1, 12);
+        }
+    }
+    assert_good(&tree);
+    let (profile, size) = (random.pick(&[0, 1, 2, 5, 7, 8, 9]), random.from_to(5, 600) as usize);
+    let events = events_of(random, &tree, profile, size, ROOM);
+    [plan(&tree), events].concat()
+}
+
+/// A random class of a tree that is not the root.
+fn any_class(random: &mut Random, tree: &Tree) -> usize {
+    random.from_to(1, tree.len() as u64 - 1) as usize
+}
+
+/// A random leaf of a tree.
+fn any_leaf(random: &mut Random, tree: &Tree) -> usize {
+    let leaves: Vec<usize> = (1..tree.len()).filter(|&c| tree[c].leaf).collect();
+    random.pick(&leaves)
+}
+
+/// A good tree that has an inner class.
+fn tree_with_inner(random: &mut Random) -> Tree {
+    loop {
+        let shape = random.pick(&[3, 5, 6, 7, 8, 9, 10]);
+        let tree = good_tree(random, shape);
+        if tree.iter().skip(1).any(|c| !c.leaf) {
+            return tree;
+        }
+    }
+}
+
+/// A random inner class of a tree that has one.
+fn any_inner(random: &mut Random, tree: &Tree) -> usize {
+    let inner: Vec<usize> = (1..tree.len()).filter(|&c| !tree[c].leaf).collect();
+    random.pick(&inner)
+}
+
+/// An unknown kind of plan record.
+fn unknown_plan_kind(random: &mut Random) -> u8 {
+    random.pick(&[3, 4, 15, 16, 17, 18, 127, 128, 254, 255])
+}
+
+/// Class records of a good tree cut inside the body of a random record of the wanted sort.
+fn cut_in_body(random: &mut Random, leaf: bool) -> Vec<u8> {
+    let tree = tree_with_inner(random);
+    let class = if leaf { any_leaf(random, &tree) } else { any_inner(random, &tree) };
+    let mut bytes = class_records(&tree[..class].to_vec());
+    let record = class_record(&tree[class]);
+    let kept = random.from_to(1, record.len() as u64 - 1) as usize;
+    bytes.extend(&record[..kept]);
+    bytes
+}
+
+/// A good tree with 63 classes, more or less deep.
+fn full_tree(random: &mut Random) -> Tree {
+    let shape = random.pick(&[0, 2, 4]);
+    good_tree(random, shape)
+}
+
+/// Changes one class of a good tree and gives the whole plan.
+fn changed_plan(random: &mut Random, change: fn(&mut Random, &mut Tree)) -> Vec<u8> {
+    let mut tree = tree_with_inner(random);
+    change(random, &mut tree);
+    plan(&tree)
+}
+
+/// Makes the children of some inner class exceed it by 1, by a heavier child or a lighter parent.
+fn too_heavy_by_one(random: &mut Random, tree: &mut Tree) {
+    let parent = any_inner(random, tree);
+    let below = children(tree, parent);
+    let sum: u64 = below.iter().map(|&c| tree[c].weight).sum();
+    let child = random.pick(&below);
+    let heavier = tree[child].weight + tree[parent].weight - sum + 1;
+    // either way keeps all weights within 1 to 1,000,000, so that 7 is the only fault
+    if heavier <= MOST_WEIGHT && (sum == 1 || random.chance(50)) {
+        tree[child].weight = heavier;
+    } else {
+        tree[parent].weight = sum - 1;
+    }
+}
+
+/// Gives every class a random weight, so that many children are too heavy.
+fn too_heavy_all_over(random: &mut Random, tree: &mut Tree) {
+    for class in 1..tree.len() {
+        tree[class].weight = random.from_to(1, 1_000);
+    }
+}
+
+/// Turns a random leaf into an inner class without a child.
+fn childless(random: &mut Random, tree: &mut Tree) {
+    let class = any_leaf(random, tree);
+    tree[class].leaf = false;
+    tree[class].longest = 0;
+}
+
+/// Several of the faults at the end of a plan at once: "class by class upward 8 and 7".
+fn childless_and_heavy(random: &mut Random, tree: &mut Tree) {
+    for _ in 0..random.from_to(1, 3) {
+        if tree.iter().skip(1).any(|c| c.leaf) {
+            childless(random, tree);
+        }
+    }
+    too_heavy_by_one_if_any(random, tree);
+}
+
+/// As `too_heavy_by_one`, on an inner class that still has children, if there is one.
+fn too_heavy_by_one_if_any(random: &mut Random, tree: &mut Tree) {
+    let parents: Vec<usize> = (1..tree.len()).filter(|&c| !children(tree, c).is_empty()).collect();
+    if let Some(&parent) = parents.first() {
+        let parent = if random.chance(50) { parent } else { random.pick(&parents) };
+        tree[parent].weight = 1;
+    }
+}
+
+/// Gives one class a weight out of range or at its edge.
+fn bad_weight(random: &mut Random, tree: &mut Tree) {
+    let class = any_class(random, tree);
+    tree[class].weight = random.pick(&[0, 1_000_001, 1_000_002, 16_777_216, 0x8000_0000, 0xFFFF_FFFF]);
+}
+
+/// Gives one leaf a longest packet out of range.
+fn bad_longest(random: &mut Random, tree: &mut Tree) {
+    let class = any_leaf(random, tree);
+    tree[class].longest = random.pick(&[0, 9_217, 9_218, 32_768, 65_535]);
+}
+
+/// Gives one leaf a bad parent and a bad weight, at times a bad longest packet too.
+fn bad_parent_and_more(random: &mut Random, tree: &mut Tree) {
+    let class = any_leaf(random, tree);
+    tree[class].parent = random.pick(&[class, 64, 255]);
+    tree[class].weight = random.pick(&[0, 1_000_001]);
+    if random.chance(50) {
+        tree[class].longest = random.pick(&[0, 9_217]);
+    }
+}
+
+/// Gives one leaf a bad weight and a bad longest packet.
+fn bad_weight_and_longest(random: &mut Random, tree: &mut Tree) {
+    let class = any_leaf(random, tree);
+    tree[class].weight = random.pick(&[0, 1_000_001]);
+    tree[class].longest = random.pick(&[0, 9_217]);
+}
+
+/// A damaged or cut plan; some faults leave the rest of the input whole, so that nothing of it may run.
+fn damaged_plan(random: &mut Random, fault: u64) -> Vec<u8> {
+    let mut bytes = match fault {
+        // 1: empty input, cut before a kind byte, cut inside a body
+        0 => return Vec::new(),
+        1 => return class_records(&tree_with_inner(random)),
+        2 => return cut_in_body(random, false),
+        3 => return cut_in_body(random, true),
+        // 9: no class at all
+        4 => vec![0],
+        5 => return vec![0],
+        // 2: unknown kinds, first, between records, and as the input's last byte
+        6 => vec![unknown_plan_kind(random)],
+        7 => {
+            let tree = tree_with_inner(random);
+            let class = any_class(random, &tree);
+            let kind = unknown_plan_kind(random);
+            [class_records(&tree[..class].to_vec()), vec![kind], class_records(&tree), vec![0]].concat()
+        }
+        8 => {
+            let kind = unknown_plan_kind(random);
+            return [class_records(&tree_with_inner(random)), vec![kind]].concat();
+        }
+        9 => {
+            let kind = random.pick(&[16, 17]);
+            [class_records(&tree_with_inner(random)), vec![kind]].concat()
+        }
+        // 3: a 64th class, good or full of other faults, whole or cut (cut: 1), and an unknown kind in its stead (2)
+        10 => [class_records(&full_tree(random)), class_record(&Class { leaf: true, parent: 0, weight: 1, longest: 1 }), vec![0]].concat(),
+        11 => [class_records(&full_tree(random)), class_record(&Class { leaf: false, parent: 200, weight: 0, longest: 0 }), vec![0]].concat(),
+        12 => {
+            let kept = random.from_to(1, 7) as usize;
+            return [class_records(&full_tree(random)), vec![2; kept]].concat();
+        }
+        13 => [class_records(&full_tree(random)), vec![unknown_plan_kind(random)]].concat(),
+        // 4: a class that names itself, a higher class, a leaf, or 255 as parent
+        14 => changed_plan(random, |r, t| {
+            let class = any_class(r, t);
+            t[class].parent = class;
+        }),
+        15 => changed_plan(random, |r, t| {
+            let class = any_class(r, t);
+            t[class].parent = r.from_to(class as u64 + 1, 255) as usize;
+        }),
+        16 | 17 => changed_plan(random, |r, t| {
+            let leaf = any_leaf(r, t);
+            // the class right behind the leaf, or one further on, is put below it; a new last class if there is none
+            let class = r.from_to(leaf as u64 + 1, t.len() as u64).min(MOST_CLASSES as u64) as usize;
+            if class == t.len() {
+                t.push(Class { leaf: r.chance(50), parent: leaf, weight: 1, longest: 1 });
+            }
+            t[class].parent = if class > leaf { leaf } else { class };
+        }),
+        // 5: weights 0, 1,000,001 and others out of range
+        18 => changed_plan(random, |r, t| {
+            let class = any_class(r, t);
+            t[class].weight = 0;
+        }),
+        19 => changed_plan(random, |r, t| {
+            let class = any_class(r, t);
+            t[class].weight = 1_000_001;
+        }),
+        20 => changed_plan(random, bad_weight),
+        // 6: longest 0, 9,217 and others out of range
+        21 => changed_plan(random, |r, t| {
+            let class = any_leaf(r, t);
+            t[class].longest = 0;
+        }),
+        22 => changed_plan(random, |r, t| {
+            let class = any_leaf(r, t);
+            t[class].longest = 9_217;
+        }),
+        23 => changed_plan(random, bad_longest),
+        // 7: children too heavy
+        24 => changed_plan(random, too_heavy_by_one),
+        25 => changed_plan(random, too_heavy_all_over),
+        // 8: inner classes without a child
+        26 => changed_plan(random, childless),
+        27 => changed_plan(random, childless_and_heavy),
+        // several faults in one record: 4 before 5 before 6, and 1 (cut) before them all
+        28 => changed_plan(random, bad_parent_and_more),
+        29 => changed_plan(random, bad_weight_and_longest),
+        _ => {
+            let record = class_record(&Class { leaf: true, parent: 255, weight: 0, longest: 0 });
+            let kept = random.from_to(2, 7) as usize;
+            return [class_records(&good_tree(random, 10)), record[..kept].to_vec()].concat();
+        }
+    };
+    // events after the fault must not run
+    for _ in 0..random.from_to(0, 20) {
+        bytes.extend(arrival_record(1, 1, 7));
+        bytes.push(17);
+    }
+    bytes
+}
+
+/// Good events in front of and behind a fault.
+fn damaged_events(random: &mut Random, fault: u64) -> Vec<u8> {
+    let shape = random.from_to(0, SHAPES - 1);
+    let tree = good_tree(random, shape);
+    let size = random.from_to(0, 300) as usize;
+    let profile = random.pick(&[0, 1, 2, 5, 7, 8, 9]);
+    let mut bytes = [plan(&tree), events_of(random, &tree, profile, size, ROOM)].concat();
+    let arrival = arrival_record(any_leaf(random, &tree) as u64, 1, 0xFFFF_FFFF);
+    match fault {
+        0 => bytes.push(random.pick(&[3, 4, 15, 18, 19, 32, 127, 128, 240, 255])),
+        1 => bytes.push(0),
+        2 => bytes.extend(class_record(&Class { leaf: false, parent: 0, weight: 1, longest: 0 })),
+        3 => bytes.extend(class_record(&Class { leaf: true, parent: 0, weight: 1, longest: 1 })),
+        4 => {
+            let kept = random.from_to(1, 7) as usize;
+            bytes.extend(&arrival[..kept]);
+            return bytes;
+        }
+        5 => {
+            bytes.push(16);
+            return bytes;
+        }
+        6 => {
+            bytes.push(random.pick(&[0, 1, 2, 3, 15, 18, 255]));
+            return bytes;
+        }
+        7 => {
+            // the fault stands right behind the plan
+            bytes = plan(&tree);
+            bytes.push(random.pick(&[0, 1, 2, 255]));
+        }
+        8 => bytes.extend(plan(&tree)),
+        _ => {
+            for _ in 0..random.from_to(1, 200) {
+                let any = random.next() as u8;
+                bytes.push(random.pick(&[16, 17, 17, any]));
+            }
+        }
+    }
+    bytes.extend(arrival);
+    bytes.push(17);
+    bytes
+}
+
+/// A good plan with events filled up by sends to exactly so many bytes.
+fn filled_to(random: &mut Random, length: usize) -> Vec<u8> {
+    let siblings = random.chance(50);
+    let shape = random.pick(&[0, 4, 6, 7, 8, 9]);
+    let tree = if siblings { light_siblings_tree(random) } else { good_tree(random, shape) };
+    let mut bytes = plan(&tree);
+    let room = length - bytes.len();
+    let profile = if siblings { PROFILES } else { random.pick(&[2, 5, 7, 8, 9]) };
+    let events = events_of(random, &tree, profile, length, room);
+    bytes.extend(events);
+    bytes.resize(length, 17);
+    bytes
+}
+
+/// Inputs at the size limit.
+fn sized_input(random: &mut Random, turn: u64) -> Vec<u8> {
+    match turn % 10 {
+        0 => filled_to(random, MOST_INPUT),
+        1 => filled_to(random, MOST_INPUT + 1),
+        2 => filled_to(random, MOST_INPUT - 1),
+        3 => {
+            let above = random.from_to(2, 70_000) as usize;
+            filled_to(random, MOST_INPUT + above)
+        }
+        // exactly at the limit, and the last arrival is cut by it
+        4 => {
+            let kept = random.from_to(1, 7) as usize;
+            let arrival = arrival_record(1, 1, 1);
+            [filled_to(random, MOST_INPUT - kept), arrival[..kept].to_vec()].concat()
+        }
+        // exactly at the limit, and the last byte is an unknown kind
+        5 => [filled_to(random, MOST_INPUT - 1), vec![18]].concat(),
+        // too long and the plan is bad too: 10 comes first
+        6 => {
+            let mut bytes = damaged_plan(random, turn % PLAN_FAULTS);
+            bytes.resize(MOST_INPUT + 1, 0);
+            bytes
+        }
+        // nothing but zeros, exactly at the limit: 9 at 0
+        7 => vec![0; MOST_INPUT],
+        // a last arrival that ends exactly at the limit
+        8 => [filled_to(random, MOST_INPUT - 8), arrival_record(1, 1, 1)].concat(),
+        // one byte too many, and that byte would have been the end of an arrival
+        _ => [filled_to(random, MOST_INPUT - 7), arrival_record(1, 1, 1)].concat(),
+    }
+}
+
+/// A good input with a few bytes changed, taken out, put in, or with its end cut off.
+fn bruised(random: &mut Random) -> Vec<u8> {
+    let mut bytes = if random.chance(50) { tiny_input(random) } else { any_good_input(random) };
+    for _ in 0..random.from_to(1, 3) {
+        // half the blows fall on the first 200 bytes, where the plan is
+        let last = bytes.len() as u64 - 1;
+        let at = if random.chance(50) { random.from_to(0, last.min(200)) } else { random.from_to(0, last) } as usize;
+        match random.from_to(0, 4) {
+            0 => bytes[at] = random.next() as u8,
+            1 => bytes[at] ^= 1 << random.from_to(0, 7),
+            2 => {
+                bytes.remove(at);
+            }
+            3 => bytes.insert(at, random.pick(&[0, 1, 2, 16, 17, 255])),
+            _ => bytes.truncate(at),
+        }
+        if bytes.is_empty() {
+            return bytes;
+        }
+    }
+    bytes
+}
+
+/// The input of a seed; see the head of this file for the mix.
+fn input_of(seed: u64) -> Vec<u8> {
+    let mut random = Random { state: seed };
+    let random = &mut random;
+    let (slot, turn) = (seed % 20, seed / 20);
+    match slot {
+        0..=9 => good_input(random, (slot + turn) % SHAPES, slot),
+        10 => any_good_input(random),
+        11 | 12 => light_siblings_input(random),
+        13..=15 => damaged_plan(random, (3 * turn + slot - 13) % PLAN_FAULTS),
+        16 => damaged_events(random, turn % EVENT_FAULTS),
+        17 => sized_input(random, turn),
+        18 => bruised(random),
+        _ => tiny_input(random),
+    }
+}
+
+/// Leaves of weights 1,000 and 1, longest 1: leaf 1 is kept backlogged, and a packet to leaf 2 just after the first send waits nearly its bound.
+fn near_bound_input() -> Vec<u8> {
+    let mut input = vec![2, 0, 0, 0, 3, 232, 0, 1, 2, 0, 0, 0, 0, 1, 0, 1, 0];
+    for tag in 0..32 {
+        input.extend(arrival_record(1, 1, tag));
+    }
+    input.push(17);
+    input.extend(arrival_record(2, 1, 999_999));
+    for tag in 32..2_132 {
+        input.extend(arrival_record(1, 1, tag));
+        input.push(17);
+    }
+    input
+}
+
+/// Reads the seed and writes the input; a reader that stops early is no fault.
+fn main() {
+    let word = std::env::args().nth(1).unwrap_or_default();
+    if word == "near-bound" {
+        let _ = std::io::stdout().write_all(&near_bound_input());
+        return;
+    }
+    match word.parse::<u64>().ok() {
+        Some(seed) => {
+            let _ = std::io::stdout().write_all(&input_of(seed));
+        }
+        None => {
+            eprintln!("use: generate SEED > input, or generate near-bound > input");
+            std::process::exit(1);
+        }
+    }
+}

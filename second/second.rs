@@ -1,0 +1,1132 @@
+//! The second, independent program for the class link, written from the words of document 01 only.
+//! It reads a plan and events from standard input and prints the lines of "A whole run".
+//! It is slow and plain on purpose: every sum is scanned again, every call is followed by a full check.
+//! Build: rustc -O --edition 2021 second.rs; test: rustc -O --edition 2021 --test second.rs -o second_test
+
+use std::io::{Read, Write};
+use std::os::fd::AsFd;
+
+/// "Others are numbered 1, 2, .. in plan order, at most 63".
+const MOST_CLASSES: usize = 63;
+/// "a weight from 1 to 1,000,000".
+const MOST_WEIGHT: u64 = 1_000_000;
+/// "A leaf has a longest packet, 1 to 9,216 bytes".
+const MOST_LONGEST: u64 = 9_216;
+/// "that leaf already holds 32 packets".
+const MOST_WAITING: usize = 32;
+/// "the program's input exceeds 65,536 bytes".
+const MOST_INPUT: usize = 65_536;
+/// "the place is 1 to 64", and a fresh link has "place 64".
+const LAST_PLACE: usize = 64;
+/// "Class 0 is the root".
+const ROOT: usize = 0;
+
+// ---------------------------------------------------------------------------------------------
+// Arithmetic that ends the program on a contradiction instead of wrapping round.
+
+/// Adds two numbers; no sum in document 01 may overflow.
+fn add(a: u64, b: u64) -> u64 {
+    a.checked_add(b).expect("a sum overflows")
+}
+
+/// Subtracts; no balance in document 01 may fall below 0.
+fn sub(a: u64, b: u64) -> u64 {
+    a.checked_sub(b).expect("a balance would fall below 0")
+}
+
+/// Multiplies; weight times quota is never more than Q.
+fn mul(a: u64, b: u64) -> u64 {
+    a.checked_mul(b).expect("a product overflows")
+}
+
+/// Divides and rounds down; an active class always has an active child, so the weight sum isn't 0.
+fn div(a: u64, b: u64) -> u64 {
+    a.checked_div(b).expect("a weight sum is 0")
+}
+
+// ---------------------------------------------------------------------------------------------
+// Refusals: "Numbers a crew can act on".
+
+/// A refusal's number and its place, as in the table.
+#[derive(Clone, Copy, PartialEq, Eq, Debug)]
+struct Refusal {
+    number: usize,
+    place: usize,
+}
+
+/// Makes a refusal as an error, to be handed on by `?`.
+fn refuse<T>(number: usize, place: usize) -> Result<T, Refusal> {
+    Err(Refusal { number, place })
+}
+
+// ---------------------------------------------------------------------------------------------
+// The class tree.
+
+/// The three sorts of class that document 01 tells apart.
+#[derive(Clone, Copy, PartialEq, Eq, Debug)]
+enum Sort {
+    Root,
+    Inner,
+    Leaf,
+}
+
+/// One class; "what a plan does not set .. is 0".
+#[derive(Clone, PartialEq, Eq, Debug)]
+struct Class {
+    sort: Sort,
+    parent: usize,
+    weight: u64,
+    longest: u64,
+}
+
+/// The tree: position 0 is the root, position c is class c.
+#[derive(Clone, PartialEq, Eq, Debug)]
+struct Tree {
+    classes: Vec<Class>,
+}
+
+impl Tree {
+    /// A tree without classes: the root alone, "the root has no weight".
+    fn without_classes() -> Tree {
+        Tree { classes: vec![Class { sort: Sort::Root, parent: 0, weight: 0, longest: 0 }] }
+    }
+
+    /// How many classes the plan named; the root is not counted ("link 4 40" for tree P).
+    fn count(&self) -> usize {
+        self.classes.len() - 1
+    }
+
+    /// Whether this number is "a leaf of the plan".
+    fn is_leaf(&self, class: usize) -> bool {
+        class < self.classes.len() && self.classes[class].sort == Sort::Leaf
+    }
+
+    /// Whether this number is an inner class; the root is not one.
+    fn is_inner(&self, class: usize) -> bool {
+        class < self.classes.len() && self.classes[class].sort == Sort::Inner
+    }
+
+    /// All children of a class, found by a scan of all classes.
+    fn children(&self, parent: usize) -> Vec<usize> {
+        (1..self.classes.len()).filter(|&c| self.classes[c].parent == parent).collect()
+    }
+
+    /// "The round size Q is the sum of all weights plus the sum of all leaves' longest packets."
+    fn round_size(&self) -> u64 {
+        let mut size = 0;
+        for class in &self.classes {
+            size = add(size, class.weight);
+            if class.sort == Sort::Leaf {
+                size = add(size, class.longest);
+            }
+        }
+        size
+    }
+
+    /// How many steps the deepest class lies below the root (for the counts only).
+    fn depth(&self) -> usize {
+        let mut depths = vec![0; self.classes.len()];
+        for class in 1..self.classes.len() {
+            depths[class] = depths[self.classes[class].parent] + 1;
+        }
+        depths.into_iter().max().unwrap_or(0)
+    }
+}
+
+/// Refusal 4: "parent not lower than the class, or a leaf".
+fn check_parent(tree: &Tree, class: usize, parent: usize, place: usize) -> Result<(), Refusal> {
+    if parent >= class || tree.is_leaf(parent) {
+        return refuse(4, place);
+    }
+    Ok(())
+}
+
+/// Refusal 5: "weight outside its range", 1 to 1,000,000.
+fn check_weight(weight: u64, place: usize) -> Result<(), Refusal> {
+    if weight < 1 || weight > MOST_WEIGHT {
+        return refuse(5, place);
+    }
+    Ok(())
+}
+
+/// Refusal 6: "longest outside its range", 1 to 9,216; only a leaf has one.
+fn check_longest(longest: u64, place: usize) -> Result<(), Refusal> {
+    if longest < 1 || longest > MOST_LONGEST {
+        return refuse(6, place);
+    }
+    Ok(())
+}
+
+/// "After the end record come 9, then class by class upward 8 and 7."
+fn check_whole_tree(tree: &Tree) -> Result<(), Refusal> {
+    if tree.count() == 0 {
+        return refuse(9, 0);
+    }
+    for class in 1..tree.classes.len() {
+        if !tree.is_inner(class) {
+            continue;
+        }
+        let children = tree.children(class);
+        // 8: "inner class without a child"
+        if children.is_empty() {
+            return refuse(8, class);
+        }
+        // 7: "children's weights exceed their inner parent's"
+        let sum = children.iter().fold(0, |sum, &c| add(sum, tree.classes[c].weight));
+        if sum > tree.classes[class].weight {
+            return refuse(7, class);
+        }
+    }
+    Ok(())
+}
+
+/// Whether a tree, however it was made, obeys the plan rules (part of "A state is sound").
+fn obeys_plan_rules(tree: &Tree) -> bool {
+    let root = &tree.classes[ROOT];
+    // "the root's parent and weight, the longest packet of the root .. is 0"
+    if root.sort != Sort::Root || root.parent != 0 || root.weight != 0 || root.longest != 0 {
+        return false;
+    }
+    if tree.count() > MOST_CLASSES {
+        return false;
+    }
+    for number in 1..tree.classes.len() {
+        let class = &tree.classes[number];
+        let longest_fits = match class.sort {
+            Sort::Root => false,
+            Sort::Inner => class.longest == 0,
+            Sort::Leaf => check_longest(class.longest, 0).is_ok(),
+        };
+        if !longest_fits
+            || check_parent(tree, number, class.parent, 0).is_err()
+            || check_weight(class.weight, 0).is_err()
+        {
+            return false;
+        }
+    }
+    check_whole_tree(tree).is_ok()
+}
+
+// ---------------------------------------------------------------------------------------------
+// The plan's bytes.
+
+/// "Numbers are big-endian."
+fn big_endian(bytes: &[u8]) -> u64 {
+    bytes.iter().fold(0, |number, &byte| add(mul(number, 256), byte as u64))
+}
+
+/// "The body of a record is the part after its kind byte"; cut inside a body: 1 at "the record's first byte".
+fn body_of(input: &[u8], first: usize, length: usize) -> Result<&[u8], Refusal> {
+    match input.get(first + 1..first + 1 + length) {
+        Some(body) => Ok(body),
+        None => refuse(1, first),
+    }
+}
+
+/// Adds the class of one record to the tree; "A record is checked in the order 2, 1, 3, 4, 5, 6".
+fn add_class(tree: &mut Tree, sort: Sort, body: &[u8], first: usize) -> Result<(), Refusal> {
+    // 3: "a 64th class record"
+    if tree.count() == MOST_CLASSES {
+        return refuse(3, first);
+    }
+    let class = tree.count() + 1;
+    let parent = big_endian(&body[0..1]) as usize;
+    let weight = big_endian(&body[1..5]);
+    check_parent(tree, class, parent, first)?;
+    check_weight(weight, first)?;
+    let mut longest = 0;
+    if sort == Sort::Leaf {
+        longest = big_endian(&body[5..7]);
+        check_longest(longest, first)?;
+    }
+    tree.classes.push(Class { sort, parent, weight, longest });
+    Ok(())
+}
+
+/// "A plan is class records and one end record; the reader says how many bytes it used."
+fn read_plan(input: &[u8]) -> Result<(Tree, usize), Refusal> {
+    let mut tree = Tree::without_classes();
+    let mut first = 0;
+    loop {
+        // "before the kind byte: the input's length"
+        if first == input.len() {
+            return refuse(1, input.len());
+        }
+        // "One byte of kind, then a body whose length the kind fixes."
+        let length = match input[first] {
+            0 => 0,
+            1 => 5,
+            2 => 7,
+            _ => return refuse(2, first),
+        };
+        let body = body_of(input, first, length)?;
+        match input[first] {
+            0 => {
+                check_whole_tree(&tree)?;
+                return Ok((tree, first + 1));
+            }
+            1 => add_class(&mut tree, Sort::Inner, body, first)?,
+            _ => add_class(&mut tree, Sort::Leaf, body, first)?,
+        }
+        first = first + 1 + length;
+    }
+}
+
+// ---------------------------------------------------------------------------------------------
+// The link's state.
+
+/// "Each class has an account: a balance B, and for the root and inner classes a residual R."
+#[derive(Clone, Copy, PartialEq, Eq, Debug)]
+struct Account {
+    balance: u64,
+    residual: u64,
+}
+
+/// A waiting packet: "each a length and a tag".
+#[derive(Clone, Copy, PartialEq, Eq, Debug)]
+struct Packet {
+    length: u64,
+    tag: u64,
+}
+
+/// The whole state; the vectors are indexed by class number, and a queue's first packet is at position 0.
+#[derive(Clone, PartialEq, Eq, Debug)]
+struct Link {
+    tree: Tree,
+    size: u64,
+    accounts: Vec<Account>,
+    active: Vec<bool>,
+    place: usize,
+    queues: Vec<Vec<Packet>>,
+}
+
+/// The answer to a send: "class, length, tag and the number of rounds opened in that call".
+#[derive(Clone, PartialEq, Eq, Debug)]
+struct Sent {
+    class: usize,
+    length: u64,
+    tag: u64,
+    rounds: usize,
+    /// Which of the opened rounds were surplus rounds, in order (for the tests and the counts).
+    surplus: Vec<bool>,
+}
+
+/// What an opening did, kept so that the tests can see the quotas of M2, M4 and M5.
+#[derive(Clone, PartialEq, Eq, Debug)]
+struct Opening {
+    surplus: bool,
+    quotas: Vec<u64>,
+}
+
+/// A link "without classes, all its numbers 0, which is not sound".
+fn link_without_classes() -> Link {
+    Link {
+        tree: Tree::without_classes(),
+        size: 0,
+        accounts: vec![Account { balance: 0, residual: 0 }],
+        active: vec![false],
+        place: 0,
+        queues: vec![Vec::new()],
+    }
+}
+
+/// "root balance Q, every other B and R zero, queues empty, nothing active, place 64"; a bad tree: 11 at 0.
+fn fresh_link(tree: &Tree) -> (Link, Option<Refusal>) {
+    if !obeys_plan_rules(tree) {
+        return (link_without_classes(), Some(Refusal { number: 11, place: 0 }));
+    }
+    let all = tree.classes.len();
+    let size = tree.round_size();
+    let mut accounts = vec![Account { balance: 0, residual: 0 }; all];
+    accounts[ROOT].balance = size;
+    let link = Link {
+        tree: tree.clone(),
+        size,
+        accounts,
+        active: vec![false; all],
+        place: LAST_PLACE,
+        queues: vec![Vec::new(); all],
+    };
+    (link, None)
+}
+
+impl Link {
+    /// All class numbers including the root's.
+    fn numbers(&self) -> std::ops::Range<usize> {
+        0..self.tree.classes.len()
+    }
+
+    /// The sum of all B and R; it must stay Q.
+    fn total(&self) -> u64 {
+        self.accounts.iter().fold(0, |sum, a| add(sum, add(a.balance, a.residual)))
+    }
+
+    /// The packets still waiting, in all queues.
+    fn waiting(&self) -> usize {
+        self.queues.iter().map(|queue| queue.len()).sum()
+    }
+
+    /// The active children of a class, by a scan of all classes.
+    fn active_children(&self, parent: usize) -> Vec<usize> {
+        self.tree.children(parent).into_iter().filter(|&c| self.active[c]).collect()
+    }
+
+    /// The weight sum of the active children only ("Summing all children's weights, active or not" is the slip).
+    fn active_weight_sum(&self, parent: usize) -> u64 {
+        self.active_children(parent).iter().fold(0, |sum, &c| add(sum, self.tree.classes[c].weight))
+    }
+
+    /// Whether `above` is the class itself or lies on the way from the class to the root.
+    fn is_above(&self, above: usize, class: usize) -> bool {
+        let mut at = class;
+        while at != above && at != ROOT {
+            at = self.tree.classes[at].parent;
+        }
+        at == above
+    }
+
+    /// Whether an active leaf is below this class.
+    fn has_active_leaf_below(&self, class: usize) -> bool {
+        self.numbers().any(|leaf| self.tree.is_leaf(leaf) && self.active[leaf] && self.is_above(class, leaf))
+    }
+
+    /// Whether a leaf's balance covers its first packet.
+    fn covers_first(&self, leaf: usize) -> bool {
+        self.accounts[leaf].balance >= self.queues[leaf][0].length
+    }
+
+    /// Gives the first rule of "A state is sound when" that is broken, or nothing for a sound state.
+    fn broken_rule(&self) -> Option<&'static str> {
+        if !obeys_plan_rules(&self.tree) {
+            return Some("its tree obeys the plan rules");
+        }
+        if self.size != self.tree.round_size() {
+            return Some("Q fits it");
+        }
+        let all = self.tree.classes.len();
+        if self.active.len() != all || self.accounts.len() != all || self.queues.len() != all {
+            return Some("no number past the last class is active");
+        }
+        for class in self.numbers() {
+            if let Some(rule) = self.broken_rule_of(class) {
+                return Some(rule);
+            }
+        }
+        if self.total() != self.size {
+            return Some("all B and R add to Q");
+        }
+        if self.place < 1 || self.place > LAST_PLACE {
+            return Some("the place is 1 to 64");
+        }
+        None
+    }
+
+    /// The soundness rules that speak of one class.
+    fn broken_rule_of(&self, class: usize) -> Option<&'static str> {
+        let queue = &self.queues[class];
+        let account = self.accounts[class];
+        if self.tree.is_leaf(class) {
+            let longest = self.tree.classes[class].longest;
+            if queue.len() > MOST_WAITING || queue.iter().any(|p| p.length < 1 || p.length > longest) {
+                return Some("each leaf holds 0 to 32 packets, each within its range");
+            }
+            if self.active[class] && queue.is_empty() {
+                return Some("active leaves hold a packet");
+            }
+            if account.residual != 0 {
+                return Some("leaves have R = 0");
+            }
+            if self.active[class] && class < self.place && self.covers_first(class) {
+                return Some("every active leaf numbered below the place has a balance smaller than its first packet");
+            }
+        } else {
+            if !queue.is_empty() {
+                return Some("no other class holds any");
+            }
+            if self.active[class] != self.has_active_leaf_below(class) {
+                return Some("a class above is active exactly when an active leaf is below it");
+            }
+        }
+        if class != ROOT && !self.active[class] && (account.balance != 0 || account.residual != 0) {
+            return Some("every inactive class except the root has B = R = 0");
+        }
+        None
+    }
+
+    /// "Each call on a sound state gives a sound state": ends the program if this one isn't.
+    fn assert_sound(&self, after: &str) {
+        assert_eq!(self.total(), self.size, "after {after}: all B and R add to Q");
+        if let Some(rule) = self.broken_rule() {
+            panic!("after {after}, this rule is broken: {rule}");
+        }
+    }
+}
+
+// ---------------------------------------------------------------------------------------------
+// The two calls.
+
+/// An arrival: "Arrival: 11, 12, 13, 14"; a taken packet joins the end of its leaf's queue and nothing else changes.
+fn arrival(link: &mut Link, class: usize, length: u64, tag: u64) -> Result<(), Refusal> {
+    // 11: "the state is not sound"
+    if link.broken_rule().is_some() {
+        return refuse(11, 0);
+    }
+    // 12: "the class is not a leaf of the plan"
+    if !link.tree.is_leaf(class) {
+        return refuse(12, class);
+    }
+    // 13: "length 0 or above the leaf's longest"
+    if length == 0 || length > link.tree.classes[class].longest {
+        return refuse(13, class);
+    }
+    // 14: "that leaf already holds 32 packets"
+    if link.queues[class].len() >= MOST_WAITING {
+        return refuse(14, class);
+    }
+    // "first in first out"; the leaf isn't made active here: "A new arrival to such a leaf waits for the next round."
+    link.queues[class].push(Packet { length, tag });
+    link.assert_sound("an arrival");
+    Ok(())
+}
+
+/// A send: "Send: 11, 15", then steps 1 to 4 of "Sending" until a packet goes.
+fn send(link: &mut Link) -> Result<Sent, Refusal> {
+    // 11: "the state is not sound"
+    if link.broken_rule().is_some() {
+        return refuse(11, 0);
+    }
+    // 15: "send, and no packet waits"
+    if link.waiting() == 0 {
+        return refuse(15, 0);
+    }
+    let mut surplus = Vec::new();
+    loop {
+        if let Some(leaf) = search(link) {
+            let packet = send_first(link, leaf);
+            link.assert_sound("a send");
+            return Ok(Sent { class: leaf, length: packet.length, tag: packet.tag, rounds: surplus.len(), surplus });
+        }
+        // "a main round always sends", so no other round is opened after one in the same call.
+        assert!(surplus.last() != Some(&false), "a main round sent nothing");
+        let opening = open_round(link);
+        link.assert_sound("an opening");
+        surplus.push(opening.surplus);
+        // "That number is at most 2: a surplus round that sends nothing is followed by a main round"
+        assert!(surplus.len() <= 2, "more than 2 rounds opened in one send");
+        assert!(surplus != [true, true], "a surplus round that sent nothing is followed by another");
+    }
+}
+
+/// Step 1: "Find the lowest-numbered active leaf not below the place" whose balance covers its first packet.
+fn search(link: &mut Link) -> Option<usize> {
+    loop {
+        let place = link.place;
+        let found = link.numbers().find(|&c| c >= place && link.tree.is_leaf(c) && link.active[c]);
+        let leaf = found?;
+        if link.covers_first(leaf) {
+            return Some(leaf);
+        }
+        // "Otherwise the place becomes the leaf plus 1 and the search goes on."
+        link.place = leaf + 1;
+    }
+}
+
+/// Step 1's sending: "the leaf loses the length, the root's balance gains it, the place becomes that leaf".
+fn send_first(link: &mut Link, leaf: usize) -> Packet {
+    let packet = link.queues[leaf].remove(0);
+    link.accounts[leaf].balance = sub(link.accounts[leaf].balance, packet.length);
+    link.accounts[ROOT].balance = add(link.accounts[ROOT].balance, packet.length);
+    link.place = leaf;
+    // Step 2: "If the sent packet was the leaf's last, the leaf turns inactive at once"
+    if link.queues[leaf].is_empty() {
+        turn_leaf_inactive(link, leaf);
+    }
+    packet
+}
+
+/// Step 2: the leaf's "balance goes to its parent's residual", not to its balance, so nobody gains in this round.
+fn turn_leaf_inactive(link: &mut Link, leaf: usize) {
+    let parent = link.tree.classes[leaf].parent;
+    link.active[leaf] = false;
+    link.accounts[parent].residual = add(link.accounts[parent].residual, link.accounts[leaf].balance);
+    link.accounts[leaf].balance = 0;
+    turn_inactive_above(link, parent);
+}
+
+/// Step 2: "An inner class with no active child left turns inactive too and gives B + R to its own parent's residual, and so on up."
+fn turn_inactive_above(link: &mut Link, start: usize) {
+    let mut class = start;
+    while link.active_children(class).is_empty() {
+        link.active[class] = false;
+        // "The root turns inactive with its last active child and keeps its account."
+        if class == ROOT {
+            return;
+        }
+        let parent = link.tree.classes[class].parent;
+        let given = add(link.accounts[class].balance, link.accounts[class].residual);
+        link.accounts[parent].residual = add(link.accounts[parent].residual, given);
+        link.accounts[class] = Account { balance: 0, residual: 0 };
+        class = parent;
+    }
+}
+
+/// Step 3: "the round has closed at that moment, and a new one is opened in the same call".
+fn open_round(link: &mut Link) -> Opening {
+    mark_active(link);
+    let surplus = is_surplus(link);
+    // "The place becomes 1."
+    link.place = 1;
+    let before: Vec<u64> = link.accounts.iter().map(|a| a.balance).collect();
+    let quotas = share_out(link, surplus);
+    if !surplus {
+        assert_gains(link, &before);
+    }
+    Opening { surplus, quotas }
+}
+
+/// Step 3: "The active leaves are those that hold a packet", and a class above is active when an active leaf is below it.
+fn mark_active(link: &mut Link) {
+    for class in link.numbers() {
+        link.active[class] = link.tree.is_leaf(class) && !link.queues[class].is_empty();
+    }
+    for class in link.numbers() {
+        if !link.tree.is_leaf(class) {
+            link.active[class] = link.has_active_leaf_below(class);
+        }
+    }
+}
+
+/// Step 3: "a surplus round if some active inner class has B + R at or above the weight sum of its active children".
+fn is_surplus(link: &Link) -> bool {
+    link.numbers().any(|class| {
+        let account = link.accounts[class];
+        link.tree.is_inner(class)
+            && link.active[class]
+            && add(account.balance, account.residual) >= link.active_weight_sum(class)
+    })
+}
+
+/// Step 4: shares out permits "top down, all before any packet goes"; a parent has a lower number, so upward in number is top down.
+fn share_out(link: &mut Link, surplus: bool) -> Vec<u64> {
+    let mut quotas = vec![0; link.tree.classes.len()];
+    quotas[ROOT] = open_root(link, surplus);
+    for class in 1..link.tree.classes.len() {
+        if !link.active[class] {
+            continue;
+        }
+        let parent_quota = quotas[link.tree.classes[class].parent];
+        hand_down(link, class, parent_quota);
+        if link.tree.is_inner(class) {
+            quotas[class] = open_inner(link, class);
+        }
+    }
+    quotas
+}
+
+/// Step 4: main: "the root's residual joins its balance", quota B over the weight sum; surplus: "quota is 0 and its account stays".
+fn open_root(link: &mut Link, surplus: bool) -> u64 {
+    if surplus {
+        return 0;
+    }
+    let account = link.accounts[ROOT];
+    link.accounts[ROOT] = Account { balance: add(account.balance, account.residual), residual: 0 };
+    fair_quota(link, ROOT)
+}
+
+/// Step 4: an active inner class "takes R .. into B, sets R to 0, and works out its own quota likewise" (its share came by hand_down).
+fn open_inner(link: &mut Link, class: usize) -> u64 {
+    let account = link.accounts[class];
+    link.accounts[class] = Account { balance: add(account.balance, account.residual), residual: 0 };
+    fair_quota(link, class)
+}
+
+/// Step 4: weight times the parent's quota goes to the class; "A parent's balance falls by what it hands down."
+fn hand_down(link: &mut Link, class: usize, parent_quota: u64) {
+    let parent = link.tree.classes[class].parent;
+    let share = mul(link.tree.classes[class].weight, parent_quota);
+    link.accounts[parent].balance = sub(link.accounts[parent].balance, share);
+    link.accounts[class].balance = add(link.accounts[class].balance, share);
+}
+
+/// Step 4: "its fair quota is B over its active children's weight sum, rounded down".
+fn fair_quota(link: &Link, class: usize) -> u64 {
+    div(link.accounts[class].balance, link.active_weight_sum(class))
+}
+
+/// "In each main round every active leaf gains at least its weight."
+fn assert_gains(link: &Link, before: &[u64]) {
+    for leaf in link.numbers() {
+        if link.tree.is_leaf(leaf) && link.active[leaf] {
+            let gain = sub(link.accounts[leaf].balance, before[leaf]);
+            assert!(gain >= link.tree.classes[leaf].weight, "leaf {leaf} gains less than its weight in a main round");
+        }
+    }
+}
+
+// ---------------------------------------------------------------------------------------------
+// A whole run.
+
+/// Counts for the statistics check; they have no part in the lines.
+#[derive(Default)]
+struct Counts {
+    refusals: [u64; 16],
+    rounds: [u64; 3],
+    surplus_sending: u64,
+    surplus_idle: u64,
+    events: u64,
+    event_stops: [u64; 3],
+    depth: usize,
+    classes: usize,
+    /// The largest share of its bound that a packet's wait took, in thousandths.
+    wait_thousandths: u64,
+}
+
+/// A packet whose wait is watched: its bound, and what the link had sent when it was accepted.
+struct Watched {
+    bound: u64,
+    sent_before: u64,
+}
+
+/// The lines of a run and what was counted on the way.
+#[derive(Default)]
+struct Run {
+    lines: Vec<String>,
+    counts: Counts,
+    /// All bytes sent so far, and each class's waiting packets in order, for the bounded wait.
+    sent: u64,
+    watched: std::collections::BTreeMap<usize, std::collections::VecDeque<Watched>>,
+}
+
+impl Run {
+    /// Prints "`stop` number place for 1, 2 or 10 or a refused plan".
+    fn stop(mut self, refusal: Refusal) -> Run {
+        self.counts.refusals[refusal.number] += 1;
+        // a line before this one is there only when the plan was taken, so this stop is one among events
+        if !self.lines.is_empty() {
+            self.counts.event_stops[refusal.number] += 1;
+        }
+        self.lines.push(format!("stop {} {}", refusal.number, refusal.place));
+        self
+    }
+
+    /// Runs one arrival and prints `in` or, "for a refused arrival", `no`.
+    fn arrive(&mut self, link: &mut Link, body: &[u8]) {
+        let class = big_endian(&body[0..1]) as usize;
+        let length = big_endian(&body[1..3]);
+        let tag = big_endian(&body[3..7]);
+        self.counts.events += 1;
+        match arrival(link, class, length, tag) {
+            Ok(()) => {
+                self.watch(link, class);
+                self.lines.push(format!("in {class} {length} {tag}"));
+            }
+            Err(refusal) => {
+                assert!((12..=14).contains(&refusal.number), "an arrival was refused with {refusal:?}");
+                self.counts.refusals[refusal.number] += 1;
+                self.lines.push(format!("no {class} {length} {tag} {}", refusal.number));
+            }
+        }
+    }
+
+    /// Runs one send and prints `out` or, "for refusal 15", `none`.
+    fn send(&mut self, link: &mut Link) {
+        self.counts.events += 1;
+        match send(link) {
+            Ok(sent) => {
+                self.count_rounds(&sent);
+                self.left(sent.class, sent.length);
+                self.lines.push(format!("out {} {} {} {}", sent.class, sent.length, sent.tag, sent.rounds));
+            }
+            Err(refusal) => {
+                assert_eq!(refusal.number, 15, "a send was refused with {refusal:?}");
+                self.counts.refusals[15] += 1;
+                self.lines.push("none".to_string());
+            }
+        }
+    }
+
+    /// Demand 3: the link sends at most "(D/w rounded up, plus 1) times Q bytes" until the accepted packet has gone.
+    fn watch(&mut self, link: &Link, class: usize) {
+        let waiting: u64 = link.queues[class].iter().map(|packet| packet.length).sum();
+        let bound = mul(add(waiting.div_ceil(link.tree.classes[class].weight), 1), link.size);
+        self.watched.entry(class).or_default().push_back(Watched { bound, sent_before: self.sent });
+    }
+
+    /// The first packet of a class has left.
+    fn left(&mut self, class: usize, length: u64) {
+        self.sent = add(self.sent, length);
+        let first = self.watched.get_mut(&class).and_then(|waiting| waiting.pop_front()).expect("a packet left that never came");
+        self.counts.wait_thousandths = self.counts.wait_thousandths.max(waited(&first, self.sent));
+    }
+
+    /// What still waits at the end has not waited past its bound either.
+    fn still_waiting(&mut self) {
+        for watched in self.watched.values().flatten() {
+            self.counts.wait_thousandths = self.counts.wait_thousandths.max(waited(watched, self.sent));
+        }
+    }
+
+    /// Counts the rounds of one send; only the last opened round is the one that sends.
+    fn count_rounds(&mut self, sent: &Sent) {
+        self.counts.rounds[sent.rounds] += 1;
+        for (position, &surplus) in sent.surplus.iter().enumerate() {
+            if surplus && position + 1 == sent.rounds {
+                self.counts.surplus_sending += 1;
+            } else if surplus {
+                self.counts.surplus_idle += 1;
+            }
+        }
+    }
+
+    /// The counts as `name=number` words in one line.
+    fn counts_line(&self) -> String {
+        let counts = &self.counts;
+        let mut words = Vec::new();
+        for number in 1..16 {
+            words.push(format!("refusal_{number}={}", counts.refusals[number]));
+        }
+        for rounds in 0..3 {
+            words.push(format!("rounds_{rounds}={}", counts.rounds[rounds]));
+        }
+        words.push(format!("surplus_sending={}", counts.surplus_sending));
+        words.push(format!("surplus_idle={}", counts.surplus_idle));
+        words.push(format!("event_stop_1={}", counts.event_stops[1]));
+        words.push(format!("event_stop_2={}", counts.event_stops[2]));
+        words.push(format!("events={}", counts.events));
+        words.push(format!("max_depth={}", counts.depth));
+        words.push(format!("max_classes={}", counts.classes));
+        words.push(format!("max_wait_thousandths={}", counts.wait_thousandths));
+        words.join(" ")
+    }
+}
+
+/// Checks a packet's bound, and gives the share of it that was used, in thousandths.
+fn waited(watched: &Watched, sent: u64) -> u64 {
+    let since = sub(sent, watched.sent_before);
+    assert!(since <= watched.bound, "{since} bytes were sent while a packet waited, above its bound {}", watched.bound);
+    div(mul(since, 1000), watched.bound)
+}
+
+/// The whole run over an input of which at most 65,537 bytes were read.
+fn run(input: &[u8]) -> Run {
+    let mut run = Run::default();
+    // "The program checks 10 before all else and then runs nothing."
+    if input.len() > MOST_INPUT {
+        return run.stop(Refusal { number: 10, place: MOST_INPUT });
+    }
+    // "`stop` is the only line where the plan is refused"; "the program makes no link".
+    let (tree, used) = match read_plan(input) {
+        Ok(plan) => plan,
+        Err(refusal) => return run.stop(refusal),
+    };
+    let (mut link, refused) = fresh_link(&tree);
+    assert!(refused.is_none(), "a plan that was read gives no fresh link");
+    link.assert_sound("the fresh link");
+    run.counts.depth = tree.depth();
+    run.counts.classes = tree.count();
+    run.lines.push(format!("link {} {}", tree.count(), link.size));
+    run_events(run, &mut link, input, used)
+}
+
+/// "Events follow the plan until the input ends"; "Places count from the input's first byte."
+fn run_events(mut run: Run, link: &mut Link, input: &[u8], used: usize) -> Run {
+    let mut first = used;
+    // "the end of input between events is its normal end"
+    while first < input.len() {
+        match input[first] {
+            16 => match body_of(input, first, 7) {
+                Ok(body) => {
+                    run.arrive(link, body);
+                    first += 8;
+                }
+                Err(refusal) => return run.stop(refusal),
+            },
+            17 => {
+                run.send(link);
+                first += 1;
+            }
+            // "0, 1 and 2 unknown among events"
+            _ => return run.stop(Refusal { number: 2, place: first }),
+        }
+    }
+    run.still_waiting();
+    run.lines.push(format!("end {}", link.waiting()));
+    run
+}
+
+/// Reads "no more than 65,537 bytes": straight from the descriptor, as a buffered reader might take more from a pipe.
+fn read_input() -> std::io::Result<Vec<u8>> {
+    let standard_input = std::fs::File::from(std::io::stdin().as_fd().try_clone_to_owned()?);
+    let mut input = Vec::new();
+    standard_input.take(MOST_INPUT as u64 + 1).read_to_end(&mut input)?;
+    Ok(input)
+}
+
+/// Prints the lines; with SECOND_STATS set the counts go to standard error.
+fn print(run: &Run) -> std::io::Result<()> {
+    let text = run.lines.join("\n") + "\n";
+    let mut standard_output = std::io::stdout();
+    standard_output.write_all(text.as_bytes())?;
+    standard_output.flush()?;
+    if std::env::var_os("SECOND_STATS").is_some() {
+        eprintln!("{}", run.counts_line());
+    }
+    Ok(())
+}
+
+/// Reads, runs, prints; input or output that fails ends with 1, a failed assertion (its message is on standard error) with 2.
+fn main() {
+    let Ok(input) = read_input() else { std::process::exit(1) };
+    let Ok(run) = std::panic::catch_unwind(|| run(&input)) else { std::process::exit(2) };
+    if print(&run).is_err() {
+        std::process::exit(1);
+    }
+}
+
+// ---------------------------------------------------------------------------------------------
+// The marked cases M1 to M12, the "Also" line, and the listing of tree P.
+
+#[cfg(test)]
+mod tests {
+    use super::*;
+
+    /// One inner class record.
+    fn inner(parent: u8, weight: u32) -> Vec<u8> {
+        let mut record = vec![1, parent];
+        record.extend(weight.to_be_bytes());
+        record
+    }
+
+    /// One leaf record.
+    fn leaf(parent: u8, weight: u32, longest: u16) -> Vec<u8> {
+        let mut record = vec![2, parent];
+        record.extend(weight.to_be_bytes());
+        record.extend(longest.to_be_bytes());
+        record
+    }
+
+    /// Tree P with class 1's weight left open (M10 takes 2, all else 3).
+    fn plan_p(weight_of_1: u32) -> Vec<u8> {
+        [inner(0, weight_of_1), leaf(1, 1, 10), leaf(1, 2, 10), leaf(0, 4, 10), vec![0]].concat()
+    }
+
+    /// The fresh link of tree P.
+    fn link_p() -> Link {
+        let (tree, _) = read_plan(&plan_p(3)).unwrap();
+        let (link, refused) = fresh_link(&tree);
+        assert_eq!(refused, None);
+        link
+    }
+
+    /// Tree P after the four arrivals of the listing.
+    fn loaded_p() -> Link {
+        let mut link = link_p();
+        for (class, length, tag) in [(2, 2, 1), (3, 10, 2), (3, 10, 3), (4, 10, 4)] {
+            assert_eq!(arrival(&mut link, class, length, tag), Ok(()));
+        }
+        link
+    }
+
+    /// All balances.
+    fn balances(link: &Link) -> Vec<u64> {
+        link.accounts.iter().map(|a| a.balance).collect()
+    }
+
+    /// All residuals.
+    fn residuals(link: &Link) -> Vec<u64> {
+        link.accounts.iter().map(|a| a.residual).collect()
+    }
+
+    /// The refusal of a plan as (number, place).
+    fn plan_refusal(input: &[u8]) -> (usize, usize) {
+        let refusal = read_plan(input).unwrap_err();
+        (refusal.number, refusal.place)
+    }
+
+    #[test]
+    fn m1_plan_p() {
+        let (tree, used) = read_plan(&plan_p(3)).unwrap();
+        assert_eq!((tree.round_size(), used, tree.count()), (40, 31, 4));
+        let link = link_p();
+        assert_eq!((balances(&link), link.place), (vec![40, 0, 0, 0, 0], 64));
+        assert_eq!(link.broken_rule(), None);
+    }
+
+    #[test]
+    fn m2_first_opening() {
+        let mut link = loaded_p();
+        assert_eq!(search(&mut link), None);
+        let opening = open_round(&mut link);
+        assert_eq!(opening, Opening { surplus: false, quotas: vec![5, 5, 0, 0, 0] });
+        assert_eq!(balances(&link), [5, 0, 5, 10, 20]);
+    }
+
+    #[test]
+    fn m3_first_send() {
+        let mut link = loaded_p();
+        let sent = send(&mut link).unwrap();
+        assert_eq!((sent.class, sent.length, sent.tag, sent.rounds), (2, 2, 1, 1));
+        assert_eq!((link.accounts[0].balance, link.accounts[1].residual), (7, 3));
+    }
+
+    #[test]
+    fn m4_m5_m6_fourth_send() {
+        let mut link = loaded_p();
+        let tags: Vec<u64> = (0..3).map(|_| send(&mut link).unwrap().tag).collect();
+        assert_eq!(tags, [1, 2, 4]);
+        let mut whole = link.clone();
+        // M4: the surplus round, opened by hand as the send would open it
+        assert_eq!(search(&mut link), None);
+        let opening = open_round(&mut link);
+        assert_eq!((opening.surplus, opening.quotas[0], opening.quotas[1]), (true, 0, 1));
+        assert_eq!((link.accounts[1].balance, link.accounts[3].balance), (1, 2));
+        // M5: the main round after it
+        assert_eq!(search(&mut link), None);
+        let opening = open_round(&mut link);
+        assert_eq!((opening.surplus, opening.quotas[0], opening.quotas[1]), (false, 12, 18));
+        assert_eq!((link.accounts[3].balance, link.accounts[1].balance, link.accounts[0].balance), (38, 1, 1));
+        assert_eq!(search(&mut link), Some(3));
+        send_first(&mut link, 3);
+        // M6: the end
+        assert_eq!((balances(&link), residuals(&link)), (vec![11, 0, 0, 0, 0], vec![29, 0, 0, 0, 0]));
+        let sent = send(&mut whole).unwrap();
+        assert_eq!((sent.tag, sent.rounds, whole.clone()), (3, 2, link));
+        assert_eq!(send(&mut whole), refuse(15, 0));
+    }
+
+    #[test]
+    fn m7_arrival_to_an_emptied_leaf() {
+        let mut link = loaded_p();
+        send(&mut link).unwrap();
+        arrival(&mut link, 2, 1, 5).unwrap();
+        let sent: Vec<Sent> = (0..3).map(|_| send(&mut link).unwrap()).collect();
+        assert_eq!(sent.iter().map(|s| s.tag).collect::<Vec<_>>(), [2, 4, 5]);
+        assert_eq!((sent[2].rounds, &sent[2].surplus), (1, &vec![true]));
+    }
+
+    #[test]
+    fn m8_m9_m10_refused_plans() {
+        assert_eq!(plan_refusal(&[]), (1, 0));
+        assert_eq!(plan_refusal(&[0]), (9, 0));
+        assert_eq!(plan_refusal(&plan_p(2)), (7, 1));
+        for (input, line) in [(vec![], "stop 1 0"), (vec![0], "stop 9 0"), (plan_p(2), "stop 7 1")] {
+            assert_eq!(run(&input).lines, [line]);
+        }
+    }
+
+    #[test]
+    fn m11_refused_arrivals() {
+        let mut link = link_p();
+        let before = link.clone();
+        assert_eq!(arrival(&mut link, 4, 0, 1), refuse(13, 4));
+        assert_eq!(arrival(&mut link, 4, 11, 1), refuse(13, 4));
+        assert_eq!(arrival(&mut link, 1, 10, 1), refuse(12, 1));
+        assert_eq!(arrival(&mut link, 0, 10, 1), refuse(12, 0));
+        assert_eq!(arrival(&mut link, 5, 10, 1), refuse(12, 5));
+        assert_eq!(arrival(&mut link, 255, 0, 1), refuse(12, 255));
+        assert_eq!(link, before);
+        assert_eq!(arrival(&mut link, 4, 10, 1), Ok(()));
+    }
+
+    #[test]
+    fn m12_full_queue() {
+        let mut link = link_p();
+        for tag in 0..32 {
+            assert_eq!(arrival(&mut link, 4, 10, tag), Ok(()));
+        }
+        let before = link.clone();
+        assert_eq!(arrival(&mut link, 4, 10, 32), refuse(14, 4));
+        assert_eq!(link, before);
+        assert_eq!(send(&mut link).unwrap().tag, 0);
+        assert_eq!(arrival(&mut link, 4, 10, 33), Ok(()));
+    }
+
+    #[test]
+    fn listing_of_tree_p() {
+        let input = include_bytes!("tree_p.bin");
+        assert_eq!(input.len(), 31 + 4 * 8 + 5);
+        assert_eq!(run(input).lines.join("\n") + "\n", include_str!("tree_p.txt"));
+    }
+
+    #[test]
+    fn also_limits() {
+        assert_eq!(plan_refusal(&[leaf(0, 0, 1), vec![0]].concat()), (5, 0));
+        assert_eq!(plan_refusal(&[leaf(0, 1_000_001, 1), vec![0]].concat()), (5, 0));
+        assert!(read_plan(&[leaf(0, 1_000_000, 9_216), vec![0]].concat()).is_ok());
+        assert_eq!(plan_refusal(&[leaf(0, 1, 0), vec![0]].concat()), (6, 0));
+        assert_eq!(plan_refusal(&[leaf(0, 1, 9_217), vec![0]].concat()), (6, 0));
+        assert_eq!(plan_refusal(&[leaf(1, 1, 1), vec![0]].concat()), (4, 0));
+        assert_eq!(plan_refusal(&[leaf(0, 1, 1), leaf(1, 1, 1), vec![0]].concat()), (4, 8));
+        let most = leaf(0, 1_000_000, 9_216).repeat(63);
+        let (tree, used) = read_plan(&[most.clone(), vec![0]].concat()).unwrap();
+        assert_eq!((tree.count(), used, tree.round_size()), (63, 505, 63_580_608));
+        assert_eq!(plan_refusal(&[most.clone(), inner(200, 0), vec![0]].concat()), (3, 504));
+        assert_eq!(plan_refusal(&[most.clone(), vec![2, 0]].concat()), (1, 504));
+        assert_eq!(plan_refusal(&[most, vec![16]].concat()), (2, 504));
+    }
+
+    #[test]
+    fn order_of_checks() {
+        // 4 before 5 before 6, all in one record
+        assert_eq!(plan_refusal(&leaf(1, 0, 0)), (4, 0));
+        assert_eq!(plan_refusal(&leaf(0, 0, 0)), (5, 0));
+        assert_eq!(plan_refusal(&leaf(0, 1, 0)), (6, 0));
+        // cut after a whole record, inside a body, and an unknown kind as the last byte
+        assert_eq!(plan_refusal(&leaf(0, 1, 1)), (1, 8));
+        assert_eq!(plan_refusal(&leaf(0, 1, 1)[..7]), (1, 0));
+        assert_eq!(plan_refusal(&[leaf(0, 1, 1), vec![17]].concat()), (2, 8));
+        // class by class upward: class 1 too light comes before class 2 without a child
+        let both = [inner(0, 1), inner(0, 1), leaf(1, 2, 1), vec![0]].concat();
+        assert_eq!(plan_refusal(&both), (7, 1));
+        let turned = [inner(0, 1), inner(0, 1), leaf(2, 2, 1), vec![0]].concat();
+        assert_eq!(plan_refusal(&turned), (8, 1));
+    }
+
+    #[test]
+    fn events_cut_or_unknown() {
+        let mut input = plan_p(3);
+        input.extend([17, 16, 2, 0, 2, 0, 0, 0]);
+        assert_eq!(run(&input).lines, ["link 4 40", "none", "stop 1 32"]);
+        for kind in [0, 1, 2, 3, 255] {
+            let mut input = plan_p(3);
+            input.extend([17, kind]);
+            assert_eq!(run(&input).lines, ["link 4 40", "none", "stop 2 32"]);
+        }
+    }
+
+    #[test]
+    fn input_limit() {
+        let mut input = plan_p(3);
+        input.resize(65_536, 17);
+        assert_eq!(run(&input).lines.len(), 1 + 65_536 - 31 + 1);
+        input.push(17);
+        assert_eq!(run(&input).lines, ["stop 10 65536"]);
+    }
+
+    #[test]
+    fn unsound_states_are_refused() {
+        // a bad tree gives 11 at 0 and a link that isn't sound
+        let (mut link, refused) = fresh_link(&Tree::without_classes());
+        assert_eq!(refused, Some(Refusal { number: 11, place: 0 }));
+        assert_eq!(link, link_without_classes());
+        assert_eq!(arrival(&mut link, 1, 1, 1), refuse(11, 0));
+        assert_eq!(send(&mut link), refuse(11, 0));
+        // one state broken by hand for each of a few rules
+        let breaks: [fn(&mut Link); 6] = [
+            |l| l.place = 65,
+            |l| l.size = 41,
+            |l| l.accounts[0].balance = 39,
+            |l| l.active[2] = true,
+            |l| l.queues[1].push(Packet { length: 1, tag: 1 }),
+            |l| l.accounts[4] = Account { balance: 0, residual: 1 },
+        ];
+        for broken in breaks {
+            let mut link = link_p();
+            broken(&mut link);
+            let before = link.clone();
+            assert_eq!(arrival(&mut link, 2, 1, 1), refuse(11, 0));
+            assert_eq!(send(&mut link), refuse(11, 0));
+            assert_eq!(link, before);
+        }
+    }
+}
