@@ -18,7 +18,7 @@ use Rattle.tree.proofs.Rules.{parent-lower, weight-range}
 use Rattle.state.specs.declared.Account.{Account}
 use Rattle.state.specs.Account.{noAccount, accountOf, heldBy}
 use Rattle.round.specs.Active.{weightSum}
-use Rattle.round.specs.Opening.{Kind, main, surplus, rootQuota, quotaIn, quota, due, handsDown, rootOpened, openedLeaf, openedInner, openedAccount}
+use Rattle.round.specs.Opening.{Kind, main, surplus, kindIs, rootQuota, quotaIn, quota, due, handsDown, rootOpened, openedLeaf, openedInner, openedAccount}
 use Rattle.round.specs.Steps.{CanOpen, openedFrom}
 use Rattle.round.proofs.Sums.{within-sum, sum-without}
 
@@ -213,3 +213,10 @@ module _ (kind : Kind) (t : Tree) (active : ℕ) (accounts : List Account) (can 
         same (suc k) u,
         getD-set-other accounts 0 (suc k) root noAccount (λ z. omega arith),
       )
+
+-- the two kinds differ, so one of them is one answer
+pub surplus-one-answer : (a b : Bool) → kindIs a ≡ kindIs b → a ≡ b
+surplus-one-answer true true e = refl
+surplus-one-answer false false e = refl
+surplus-one-answer true false e = cc
+surplus-one-answer false true e = cc
