@@ -35,7 +35,7 @@ use Rattle.link.specs.Steps.{judgeChecks}
 pub same-checks : (sound : Bool) (l : Link) (i : ℕ) (p : Packet) → i < 64
     → judgeChecks sound (isLeaf (l .tree) i) i (p .length) (longestOf (l .tree) i) (heldOf l i) ≡ arrivalChecks sound (meaning l) i p
 unfolding noLeaf badLength full
-same-checks sound l i p u = rw (← meaning-held l i u)
+same-checks sound l i p u = rw (← meaning-held l i u) refl
 
 -- of a number that is no leaf only checks 11 and 12 count
 pub no-leaf-checks : (sound leaf : Bool) (l : Link) (i a b : ℕ) (p : Packet) → leaf ≡ isLeaf (l .tree) i → leaf ≡ false

@@ -107,7 +107,7 @@ module _ (kind : Kind) (t : Tree) (active : ℕ) (accounts : List Account) where
     where
       root : (k : Kind) → rootQuota k t active accounts * weightSum t active 0 ≤ heldBy (accountOf accounts 0)
       root main = div-mul-le-self (heldBy (accountOf accounts 0)) (weightSum t active 0)
-      root surplus = rw zero-mul zero-le
+      root surplus = omega arith
   hands-within rules (suc i) u = rw (quota-step rules (suc i) (omega arith) u) (div-mul-le-self _ (weightSum t active (suc i)))
 
 module _ (kind : Kind) (t : Tree) (active : ℕ) (accounts : List Account) (can : CanOpen t active accounts) where

@@ -38,6 +38,10 @@ use Rattle.sending.specs.Steps.{Fit, SendsNext}
 pub meaning-wide : (l : Link) → length (l .accounts) ≡ 64 → Wide (meaning l)
 meaning-wide l many = record { accounts = many; queues = table-length (queueOf l) 64 }
 
+-- the start kept for a queue is within its places
+pub start-low : (l : Link) (k : ℕ) → SoundLink l → k < 64 → startOf l k < 32
+start-low l k sound u = omega (arith, sound .starts k u .start)
+
 -- all B and R are within the ceiling of Q
 pub sound-fit : (l : Link) → length (l .accounts) ≡ 64 → SoundLink l → Fit (l .accounts)
 sound-fit l many sound =

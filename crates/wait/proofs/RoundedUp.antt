@@ -11,11 +11,11 @@ over-grows : (a b w : ℕ) → 1 ≤ w → a ≤ b → a / w ≤ b / w
 over-grows a b w l h = le-div-iff-mul-le {k = w} {x = a / w} {y = b} l .1 (omega (arith, div-mul-le-self a w))
 
 pub up-grows : (a b w : ℕ) → 1 ≤ w → a ≤ b → overRoundedUp a w ≤ overRoundedUp b w
-up-grows a b w l h = over-grows (a + w - 1) (b + w - 1) w l (omega arith)
+up-grows a b w l h = over-grows _ _ w l (omega arith)
 
 -- nothing over a weight is nothing
 pub up-none : (w : ℕ) → 1 ≤ w → overRoundedUp 0 w ≡ 0
-up-none w l = div-eq-of-lt {n = 0 + w - 1} {m = w} (omega arith)
+up-none w l = div-eq-of-lt {m = w} (omega arith)
 
 -- something that falls by the weight, or to nothing, falls by one
 pub up-falls : (a b w : ℕ) → 1 ≤ w → 1 ≤ b → a ≤ b - w → overRoundedUp a w + 1 ≤ overRoundedUp b w

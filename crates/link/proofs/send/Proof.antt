@@ -1,15 +1,15 @@
 -- `link::send` meets its contract.
 use mathlib.Core.Bool.{Bool}
-use mathlib.Core.Path.{sym, ap, _∙_}
+use mathlib.Core.Path.{_≡_, sym, ap, _∙_}
 use lib.ListN.{length-map}
 use borrow.Author.Tests.{not-true, not-false}
-use Rattle.checks.specs.declared.Verdict.the-variants.{Passed}
+use Rattle.checks.specs.declared.Verdict.the-variants.{Passed, Refused}
 use Rattle.state.specs.Queue.{Shaped}
 use Rattle.state.specs.State.{meaning}
 use Rattle.sending.specs.declared.Sent.{Sent}
 use Rattle.sending.proofs.Meanings.{waits-leaf}
 use Rattle.link.specs.declared.Departure.{Departure}
-use Rattle.link.specs.Send.{sendOf}
+use Rattle.link.specs.Send.{sendGives, sendOf}
 use Rattle.link.proofs.Departures.{send-unsound, send-nothing, send-goes, sends-by}
 use borrow.Author.Needs.{needs}
 use Rattle.link.proofs.send.Statement.{statement}
@@ -40,8 +40,9 @@ returns c =
     let s = c .before .before in
     let l = s .before .args .link in
     let off = not-true (s .is-sound .result) (c .before .if1 .taken) in
+    let says : c .no-departure .result ≡ sendGives (Refused 11 0) l = c .no-departure .ensures in
     sends-by l (s .is-sound .result) (c .no-departure .result) (shaped (s .before)) (s .is-sound .ensures)
-    (c .no-departure .ensures ∙ sym (ap (λ (b : Bool). sendOf b l) off ∙ send-unsound l))
+    (says ∙ sym (ap (λ (b : Bool). sendOf b l) off ∙ send-unsound l))
 
 some-waits-requires : tie.Need-some-waits-requires
 some-waits-requires c κs = c .before .is-sound .ensures .sound (not-false (c .before .is-sound .result) (c .if1 .left))
@@ -56,8 +57,9 @@ returns-2 c =
     let l = s .before .args .link in
     let on = not-false (s .is-sound .result) (w .before .if1 .left) in
     let none = sym (w .some-waits .ensures) ∙ not-true (w .some-waits .result) (c .before .if2 .taken) in
+    let says : c .no-departure2 .result ≡ sendGives (Refused 15 0) l = c .no-departure2 .ensures in
     sends-by l (s .is-sound .result) (c .no-departure2 .result) (shaped (s .before)) (s .is-sound .ensures)
-    (c .no-departure2 .ensures ∙ sym (ap (λ (b : Bool). sendOf b l) on ∙ send-nothing l none))
+    (says ∙ sym (ap (λ (b : Bool). sendOf b l) on ∙ send-nothing l none))
 
 send-requires : tie.Need-send-requires
 send-requires c κs =

@@ -1,11 +1,12 @@
 -- `round::root_quota` meets its contract.
+use mathlib.Core.Path.{refl}
 use native.Mathlib.Omega.{arith}
 use borrow.Author.Needs.{needs}
 use Rattle.round.proofs.root_quota.Statement.{statement}
 use Rattle.round.proofs.root_quota.Tie as tie
 
 returns : tie.Need-returns
-returns c = rw (c .if1 .taken)
+returns c = rw (c .if1 .taken) refl
 
 held-requires : tie.Need-held-requires
 held-requires c κs = omega (arith, c .before .pre .1)

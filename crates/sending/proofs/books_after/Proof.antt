@@ -9,7 +9,7 @@ use Rattle.state.specs.declared.Link.{Link}
 use Rattle.sending.specs.Steps.{Fit, SendsNext}
 use Rattle.round.specs.Sending.{turnsOff}
 use Rattle.sending.proofs.Fitting.{fit-paid}
-use Rattle.sending.proofs.Meanings.{sound-fit, link-sender, first-cost, paid-means, books-more, books-last}
+use Rattle.sending.proofs.Meanings.{start-low, sound-fit, link-sender, first-cost, paid-means, books-more, books-last}
 use borrow.Author.Needs.{needs}
 use Rattle.sending.proofs.books_after.Statement.{statement}
 use Rattle.sending.proofs.books_after.Tie as tie
@@ -19,7 +19,7 @@ fits : (l : Link) → length (l .accounts) ≡ 64 → {i : ℕ} → SendsNext l 
 fits l many n = sound-fit l many (n .sound)
 
 first-requires : tie.Need-first-requires
-first-requires c κs = (c .pre .found, omega (arith, c .pre .sound .starts (c .args .i) (c .pre .found) .start))
+first-requires c κs = (omega (arith, c .pre .found), start-low _ _ (c .pre .sound) (omega (arith, c .pre .found)))
 
 cost-requires : tie.Need-cost-requires
 cost-requires c κs = search needs
@@ -30,7 +30,7 @@ pay-requires c κs =
     let l = st .args .t1 in
     let is = link-sender l (st .args .i) (st .pre) in
     let cost = first-cost l (st .args .i) (c .before .before .first .result) (c .cost .result .0) (st .pre) (c .before .before .first .ensures) (c .cost .ensures) in
-    (fits l (sym (length-map (l .accounts) _) ∙ st .good .0 .1 .1 .1 .1 .1 .1 .0 .1 .0 .1) (st .pre), st .pre .found, omega (arith, cost, is .covers))
+    (fits l (sym (length-map (l .accounts) _) ∙ st .good .0 .1 .1 .1 .1 .1 .1 .0 .1 .0 .1) (st .pre), omega (arith, st .pre .found), omega (arith, cost, is .covers))
 
 element-copy-out-if1 : tie.Need-element-copy-out-if1
 element-copy-out-if1 c = search needs
@@ -43,7 +43,7 @@ returns c =
     let i = st .args .i in
     let cost = first-cost l i (g .before .before .before .first .result) (g .before .cost .result .0) (st .pre) (g .before .before .before .first .ensures) (g .before .cost .ensures) in
     ap (λ (xs : List Account). record { active = l .active; accounts = xs }) (g .pay .ensures ∙ paid-means l i (g .before .cost .result .0) cost)
-    ∙ sym (books-more l i (st .pre .found) (c .if1 .taken))
+    ∙ sym (books-more l i (st .pre .found) (omega (arith, c .if1 .taken)))
 
 turn-off-requires : tie.Need-turn-off-requires
 turn-off-requires c κs =

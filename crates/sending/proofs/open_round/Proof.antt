@@ -1,5 +1,5 @@
 -- `sending::open_round` meets its contract.
-use mathlib.Core.Path.{sym, subst, _∙_}
+use mathlib.Core.Path.{refl, sym, subst, _∙_}
 use Prim.Native.Nat.{ℕ}
 use lib.ListN.{length-map}
 use Rattle.state.specs.State.{meaning}
@@ -35,7 +35,7 @@ returns c =
     let h = c .before .before in
     let st = h .before .before .before .before in
     let l = st .args .link in
-    rw (c .open-accounts .ensures, c .before .is-surplus .ensures, h .round-active .ensures, active-meaning l (st .pre .state .fits .tree))
+    rw (c .open-accounts .ensures, c .before .is-surplus .ensures, h .round-active .ensures, active-meaning l (st .pre .state .fits .tree)) refl
 
 pub open-round-spec : {M : Type 1} → statement M
 open-round-spec =

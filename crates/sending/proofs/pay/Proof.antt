@@ -1,4 +1,5 @@
 -- `sending::pay` meets its contract.
+use mathlib.Core.Path.{refl}
 use native.Mathlib.Omega.{arith}
 use Rattle.sending.proofs.Fitting.{held-small, fit-set}
 use borrow.Author.Needs.{needs}
@@ -34,7 +35,7 @@ array-set-from-accounts-2 : tie.Need-array-set-from-accounts-2
 array-set-from-accounts-2 c = search needs
 
 returns : tie.Need-returns
-returns c = rw (c .gain .ensures, c .before .before .send .ensures)
+returns c = rw (c .gain .ensures, c .before .before .send .ensures) refl
 
 pub pay-spec : {M : Type 1} → statement M
 pay-spec =

@@ -4,7 +4,7 @@ use Prim.Native.Nat.{_-_}
 use native.Mathlib.Omega.{arith}
 use lib.ListN.{length-map}
 use Rattle.sound.specs.Sound.{SoundLink}
-use Rattle.sending.proofs.Meanings.{meaning-wide, opened-link-sound}
+use Rattle.sending.proofs.Meanings.{meaning-wide, start-low, opened-link-sound}
 use Rattle.sending.proofs.OnTheWay.{OnTheWay, way-starts, way-on, way-found, way-ends}
 use Rattle.sending.proofs.send.Statement.{statement}
 use Rattle.sending.proofs.send.Tie as tie
@@ -47,7 +47,7 @@ first-requires : tie.Need-first-requires Inv-loop μ-loop
 first-requires c κs =
     let h = c .before in
     let n = way-found (h .before .before .args .link) (h .loop .at) (h .loop .«open») (h .loop .rounds) (h .loop .inv) (c .loop-test .left) in
-    (n .found, omega (arith, n .sound .starts (h .loop .at) (n .found) .start))
+    (omega (arith, n .found), start-low _ _ (n .sound) (omega (arith, n .found)))
 
 packet-goes-requires : tie.Need-packet-goes-requires Inv-loop μ-loop
 packet-goes-requires c κs =

@@ -1,12 +1,30 @@
 -- `sending::inactive::give_up` meets its contract.
+use mathlib.Core.Path.{_≡_, refl}
+use Prim.Native.Nat.{ℕ}
 use native.Mathlib.Omega.{arith}
+use lib.ListN.{set}
+use Rattle.sets.specs.Set.{without}
+use Rattle.tree.specs.declared.Tree.{Tree}
 use Rattle.tree.specs.Class.{parentOf}
 use Rattle.tree.proofs.Rules.{parent-lower}
+use Rattle.state.specs.declared.Account.{Account}
+use Rattle.state.specs.Account.{accountOf, heldBy, returned, received}
+use Rattle.round.specs.declared.Books.{Books}
 use Rattle.round.specs.Sending.{givenUp}
 use Rattle.sending.proofs.Fitting.{held-small, fit-set}
 use borrow.Author.Needs.{needs}
 use Rattle.sending.proofs.inactive.give_up.Statement.{statement}
 use Rattle.sending.proofs.inactive.give_up.Tie as tie
+
+-- the books after, from what the steps gave
+given-by : (t : Tree) (i : ℕ) (b : Books) (active held : ℕ) (own parent : Account)
+    → active ≡ without (b .active) i
+    → own ≡ returned (accountOf (b .accounts) i)
+    → held ≡ heldBy (accountOf (b .accounts) i)
+    → parent ≡ received (accountOf (set (b .accounts) i own) (parentOf t i)) held
+    → record { active = active; accounts = set (set (b .accounts) i own) (parentOf t i) parent } ≡ givenUp t i b
+unfolding givenUp
+given-by t i b active held own parent a o h p = rw (a, p, o, h) refl
 
 element-copy-out-p : tie.Need-element-copy-out-p
 element-copy-out-p c = search needs
@@ -67,10 +85,10 @@ without-requires : tie.Need-without-requires
 without-requires c κs = search needs
 
 returns : tie.Need-returns
-unfolding givenUp
 returns c =
     let h = c .before .before .before in
-    rw (c .without .ensures, c .before .receive .ensures, h .return-balance .ensures, h .before .held .ensures)
+    let a = h .before .before .before .before .before .args in
+    given-by (a .t1) (a .i) (a .books) _ _ _ _ (c .without .ensures) (h .return-balance .ensures) (h .before .held .ensures) (c .before .receive .ensures)
 
 pub give-up-spec : {M : Type 1} → statement M
 give-up-spec =
