@@ -14,7 +14,7 @@ abbrev μ-loop : tie.MeasureT-loop
 
 -- the events are as long as what the plan leaves of the input
 left-over : (c : tie.After-events-after Inv-loop μ-loop) → length (c .events-after .result .now) ≡ length (c .before .before .before .args .input .now) - c .before .before .before .args .used
-left-over c = ap length (c .events-after .ensures) ∙ simp length-drop
+left-over c = ap length (c .events-after .ensures .0) ∙ simp length-drop
 
 events-after-requires : tie.Need-events-after-requires Inv-loop μ-loop
 events-after-requires c κs = tt
