@@ -36,7 +36,7 @@ fn wide(n: u8) -> u64
 }
 
 // The packets still waiting.
-fn waiting(held: [u8; 64]) -> u64
+pub fn waiting(held: [u8; 64]) -> u64
     ensures { λ r. ⌜ r ≡ sumTo (λ i. getD held i 0) 63 ⌝ }
 {
     let mut sum: u64 = 0;
@@ -49,7 +49,7 @@ fn waiting(held: [u8; 64]) -> u64
 }
 
 // The line of an arrival.
-fn arrival_line(verdict: Verdict, a: Arrived) -> Line
+pub fn arrival_line(verdict: Verdict, a: Arrived) -> Line
     ensures { λ r. ⌜ r ≡ arrivalLine verdict a ⌝ }
 {
     let class = a.class as u64;
@@ -62,7 +62,7 @@ fn arrival_line(verdict: Verdict, a: Arrived) -> Line
 }
 
 // The line of a send.
-fn send_line(verdict: Verdict, class: usize, length: u16, tag: u32, rounds: usize) -> Line
+pub fn send_line(verdict: Verdict, class: usize, length: u16, tag: u32, rounds: usize) -> Line
     ensures { λ r. ⌜ r ≡ sendLine verdict class length tag rounds ⌝ }
 {
     match verdict {

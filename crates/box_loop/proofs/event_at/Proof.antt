@@ -1,0 +1,93 @@
+-- `box_loop::event_at` meets its contract: each call uses some of the input.
+use mathlib.Core.Path.{_≡_, sym, ap, _∙_}
+use mathlib.Core.List.{List}
+use Prim.Native.Nat.{ℕ, _+_, _-_, _≤_, _<_, _^_}
+use native.Mathlib.Omega.{arith}
+use denote.Ref.{now}
+use lib.ListN.{length, length-drop}
+use Rattle.plan.specs.declared.EventRead.{EventRead}
+use Rattle.plan.specs.declared.EventRead.the-variants.{Arrive, SendNext}
+use Rattle.plan.specs.Event.{usedOf, eventAt}
+use Rattle.run.proofs.Events.{used-fits}
+use borrow.Author.Needs.{needs}
+use Rattle.box_loop.proofs.event_at.Statement.{statement}
+use Rattle.box_loop.proofs.event_at.Tie as tie
+
+-- what an event uses stands in the input, and the place after it is one
+within : (c : tie.After-read-event) (e : EventRead) → c .read-event .result ≡ e
+    → (usedOf e ≤ length (now (c .before .before .before .args .input)) - c .before .before .before .args .place) × (c .before .before .before .args .place + usedOf e < 2 ^ 64)
+within c e told =
+    let a = c .before .before .before .args in
+    let r = c .before .events-after in
+    let f = used-fits (now (a .input)) (a .place) e (ap (λ (s : List ℕ). eventAt s (a .place)) (sym (r .ensures .0)) ∙ sym (c .read-event .ensures) ∙ told) in
+    let d = length-drop (a .place) (now (a .input)) in
+    (omega (arith, f, d), omega (arith, f, ap length (r .ensures .0), r .ensures .1))
+
+events-after-requires : tie.Need-events-after-requires
+events-after-requires c κs = search needs
+
+read-event-requires : tie.Need-read-event-requires
+read-event-requires c κs = search needs
+
+enum-told : tie.Need-enum-told
+enum-told c = search needs
+
+plain-requires : tie.Need-plain-requires
+plain-requires c κs = search needs
+
+enum-known-read : tie.Need-enum-known-read
+enum-known-read c = search needs
+
+cast-t7 : tie.Need-cast-t7
+cast-t7 c = search needs
+
+add-t9 : tie.Need-add-t9
+add-t9 c = let v = c .before .before in omega (arith, within (v .before .before) (Arrive (v .read .given .0 .0)) (v .read .given .1) .1)
+
+enum-told-2 : tie.Need-enum-told-2
+enum-told-2 c = search needs
+
+add-plain : tie.Need-add-plain
+add-plain c = omega (arith, within (c .before .before) SendNext (c .enum-told2 .given .1) .1)
+
+plain-requires-2 : tie.Need-plain-requires-2
+plain-requires-2 c κs = search needs
+
+enum-told-3 : tie.Need-enum-told-3
+enum-told-3 c = search needs
+
+plain-requires-3 : tie.Need-plain-requires-3
+plain-requires-3 c κs = search needs
+
+returns : tie.Need-returns
+returns c = rw (c .plain .ensures .0) (omega arith)
+
+returns-2 : tie.Need-returns-2
+returns-2 c = let v = c .before .before in omega (arith, within (v .before .before) (Arrive (v .read .given .0 .0)) (v .read .given .1) .0)
+
+returns-3 : tie.Need-returns-3
+returns-3 c = rw (c .plain2 .ensures .0, c .plain2 .ensures .1) (let v = c .before in omega (arith, within (v .before .before) SendNext (v .enum-told2 .given .1) .0))
+
+returns-4 : tie.Need-returns-4
+returns-4 c = rw (c .plain3 .ensures .0) (omega arith)
+
+pub event-at-spec : {M : Type 1} → statement M
+event-at-spec =
+    tie.close
+    (tie.spec
+    events-after-requires
+    read-event-requires
+    enum-told
+    plain-requires
+    enum-known-read
+    cast-t7
+    add-t9
+    enum-told-2
+    add-plain
+    plain-requires-2
+    enum-told-3
+    plain-requires-3
+    returns
+    returns-2
+    returns-3
+    returns-4)

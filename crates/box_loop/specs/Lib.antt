@@ -1,0 +1,2 @@
+-- The end of the loop.
+pub mod Left

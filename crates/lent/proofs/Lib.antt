@@ -1,0 +1,6 @@
+pub mod Lends
+pub mod Returns
+pub mod Loans
+pub mod AskArrive
+pub mod AskSend
+pub mod Outcomes

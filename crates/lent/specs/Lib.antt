@@ -1,0 +1,2 @@
+-- The calls on a lent link.
+pub mod Answers
