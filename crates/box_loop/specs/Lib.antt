@@ -1,2 +1,2 @@
--- The end of the loop.
-pub mod Left
+-- The parts of the box's loop.
+pub mod Loop

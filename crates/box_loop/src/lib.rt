@@ -1,13 +1,12 @@
 // The box's loop: it keeps one link record and lends it to both calls. It reads what `linkrun` reads and prints the same lines (document 01, "A whole run").
 // Serves demands 1 and 2: the record goes through the whole run in one place. Two programs run it in the gate.
 ghost use mathlib.Core.Path.{_≡_};
-ghost use Prim.Native.Nat.{suc, _-_, _<_};
-ghost use lib.ListN.{length};
-ghost use Rattle.box_loop.specs.Left.{left};
+ghost use Rattle.plan.specs.declared.EventRead.the-variants.{NoMore};
+ghost use Rattle.run.specs.Event.{sendLine};
+ghost use Rattle.box_loop.specs.Loop.{plainEvent, Comes, lastLine};
 use checks::Verdict;
 use lent::Departed;
 use libc::STDIN_FILENO;
-use libc::STDOUT_FILENO;
 use lines::Line;
 use plan::EventRead;
 use state::Link;
@@ -23,16 +22,9 @@ pub struct Event {
     pub read: EventRead,
 }
 
-// Prints a line.
-fn print(line: Line) {
-    let mut text = [0u8; 96];
-    let n = lines::lay(line, &mut text);
-    io::write_all(STDOUT_FILENO, &text[..n]);
-}
-
 // An event that is no arrival.
 fn plain(call: bool, place: usize, read: EventRead) -> Event
-    ensures { λ r. ⌜ (r .call ≡ call) × (r .place ≡ place) ⌝ }
+    ensures { λ r. ⌜ r ≡ plainEvent call place read ⌝ }
 {
     Event {
         call,
@@ -46,7 +38,7 @@ fn plain(call: bool, place: usize, read: EventRead) -> Event
 
 // The event at a place of the input. Each call uses some of it.
 fn event_at(input: &[u8], place: usize) -> Event
-    ensures { λ r. ⌜ left (length (now (input .entry))) r < suc (length (now (input .entry)) - place) ⌝ }
+    ensures { λ r. ⌜ Comes (now (input .entry)) place r ⌝ }
 {
     let rest = plan::events_after(input, place);
     let read = plan::read_event(rest, place);
@@ -68,27 +60,49 @@ fn event_at(input: &[u8], place: usize) -> Event
     }
 }
 
+// The line of a send.
+fn send_line(d: Departed) -> Line
+    ensures { λ r. ⌜ r ≡ sendLine (d .verdict) (d .class) (d .length) (d .tag) (d .rounds) ⌝ }
+{
+    let verdict = d.verdict;
+    run::send_line(verdict, d.class, d.length, d.tag, d.rounds)
+}
+
+// The normal end's line.
+fn end_line(link: Link) -> Line
+    ensures { λ r. ⌜ r ≡ lastLine NoMore link ⌝ }
+{
+    let held = link.held;
+    Line::End(run::waiting(held))
+}
+
+// The last line, of an event that is no call.
+fn last_line(read: EventRead, link: Link) -> Line
+    ensures { λ r. ⌜ r ≡ lastLine read link ⌝ }
+{
+    match read {
+        EventRead::NoMore => end_line(link),
+        EventRead::Arrive(_) => end_line(link),
+        EventRead::SendNext => end_line(link),
+        EventRead::Fault(n, p) => Line::Stop(n as u64, p as u64),
+    }
+}
+
 // Prints an arrival's line.
 fn show_arrival(read: EventRead, verdict: Verdict) {
     if let EventRead::Arrive(a) = read {
-        print(run::arrival_line(verdict, a));
+        shown::print(run::arrival_line(verdict, a));
     }
 }
 
 // Prints a send's line.
 fn show_send(d: Departed) {
-    let verdict = d.verdict;
-    print(run::send_line(verdict, d.class, d.length, d.tag, d.rounds));
+    shown::print(send_line(d));
 }
 
 // Prints the last line.
 fn show_end(read: EventRead, link: Link) {
-    if let EventRead::Fault(n, p) = read {
-        print(Line::Stop(n as u64, p as u64));
-        return;
-    }
-    let held = link.held;
-    print(Line::End(run::waiting(held)));
+    shown::print(last_line(read, link));
 }
 
 // The loop: one record, lent to each call.
@@ -110,25 +124,18 @@ fn serve(first: Link, input: &[u8], place: usize) {
 
 // A whole run of an input.
 fn whole(input: &[u8]) {
-    let first = run::begin(input);
+    let first = run::first(input);
     let line = first.line;
-    print(line);
+    shown::print(line);
     if first.more {
         let link = first.link;
         serve(link, input, first.place);
     }
 }
 
-// The program's input exceeds 65,536 bytes: number 10, before all else, and nothing runs.
-const MOST: usize = 65_536;
-
 // A whole run of standard input.
 pub fn run() {
-    let mut input = [0u8; MOST + 1];
+    let mut input = [0u8; checks::MOST_INPUT + 1];
     let n = io::read_full(STDIN_FILENO, &mut input);
-    if MOST < n {
-        print(Line::Stop(checks::TOO_LONG as u64, MOST as u64));
-        return;
-    }
     whole(&input[..n]);
 }

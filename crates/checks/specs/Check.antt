@@ -3,6 +3,7 @@ use mathlib.Core.Bool.{Bool, true, false}
 use mathlib.Core.List.{List, [], _∷_, _++_}
 use mathlib.Core.Path.{_≡_}
 use Prim.Native.Nat.{ℕ, zero, suc}
+use lib.Dec.{ltb}
 use Rattle.checks.specs.declared.Verdict.{Verdict}
 use Rattle.checks.specs.declared.Verdict.the-variants.{Passed, Refused}
 
@@ -43,3 +44,7 @@ classByClass f (suc n) = classByClass f n ++ f (suc n)
 pub record Exactly (b : Bool) (P : Type 0) : Type 0 where
   pub sound : b ≡ true → P
   pub complete : P → b ≡ true
+
+-- 10: the program's input exceeds 65,536 bytes; at 65,536
+abbrev pub inputChecks : ℕ → List Check
+inputChecks n = check 10 (ltb 65_536 n) 65_536 ∷ []

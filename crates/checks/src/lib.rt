@@ -1,7 +1,7 @@
 // Refusals: the numbers of document 01, "Numbers a crew can act on", and the verdict of checks made in a fixed order.
 // Serves demand 1: a refusal is a number and a place, for the first check that fails.
 ghost use mathlib.Core.Path.{_≡_};
-ghost use Rattle.checks.specs.Check.{numberOf, placeOf};
+ghost use Rattle.checks.specs.Check.{numberOf, placeOf, firstBroken, inputChecks};
 
 // What checks say: all passed, or the number and the place of the first that failed.
 pub enum Verdict {
@@ -58,4 +58,17 @@ pub fn place(v: Verdict) -> usize
         Verdict::Passed => 0,
         Verdict::Refused(_, p) => p,
     }
+}
+
+// The longest input that a program takes.
+pub const MOST_INPUT: usize = 65_536;
+
+// Number 10, which a program checks before all else: its input has so many bytes.
+pub fn input_length(n: usize) -> Verdict
+    ensures { λ r. ⌜ r ≡ firstBroken (inputChecks n) ⌝ }
+{
+    if MOST_INPUT < n {
+        return Verdict::Refused(TOO_LONG, MOST_INPUT);
+    }
+    Verdict::Passed
 }

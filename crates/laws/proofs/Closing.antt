@@ -29,7 +29,7 @@ use Rattle.round.specs.Active.{roundActive, weightSum}
 use Rattle.round.specs.Opening.{main, surplus, surplusAt, hasSurplus, kindOf, nextKind}
 use Rattle.round.specs.Sending.{firstOf, ready, nextLeaf}
 use Rattle.laws.proofs.ByParent.{sum-add, sum-by-parent}
-use Rattle.laws.proofs.Searches.{first-least}
+use Rattle.round.proofs.Searches.{first-least}
 use Rattle.laws.proofs.Sums.{sum-same, sum-within, sum-longer}
 use Rattle.laws.proofs.Taken.{taken-off}
 

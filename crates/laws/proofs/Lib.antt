@@ -1,6 +1,5 @@
 pub mod Sums
 pub mod Stores
-pub mod Searches
 pub mod GivenUp
 pub mod TurnedOff
 pub mod Sender

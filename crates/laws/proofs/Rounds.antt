@@ -21,7 +21,7 @@ use Rattle.laws.specs.Waits.{Waits}
 use Rattle.laws.specs.Wide.{Wide}
 use Rattle.laws.proofs.Closing.{main-where, root-has}
 use Rattle.laws.proofs.Opened.{opened-inner, opened-root-main, opened-sound, opened-wide}
-use Rattle.laws.proofs.Searches.{first-range}
+use Rattle.round.proofs.Searches.{first-range}
 use Rattle.laws.proofs.Taken.{taken-root, taken-same}
 
 -- ---- which rounds follow

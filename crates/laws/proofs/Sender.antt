@@ -16,7 +16,7 @@ use Rattle.state.specs.Account.{balanceOf}
 use Rattle.state.specs.State.{State, queueAt}
 use Rattle.sound.specs.Sound.{Sound}
 use Rattle.round.specs.Sending.{firstOf, ready, firstFrom, nextLeaf}
-use Rattle.laws.proofs.Searches.{first-range, first-least, first-holds}
+use Rattle.round.proofs.Searches.{first-range, first-least, first-holds}
 
 -- an active leaf whose balance covers its first packet, and nothing less
 pub ready-parts : (s : State) (i : ℕ) → ready s i ≡ true

@@ -13,10 +13,11 @@ use borrow.Author.Tests.{leb-false, ltb-false, not-false}
 use Rattle.checks.specs.declared.Verdict.{Verdict}
 use Rattle.checks.specs.declared.Verdict.the-variants.{Passed, Refused}
 use Rattle.checks.specs.Check.{check, firstBroken, Exactly}
-use Rattle.checks.proofs.Laws.{not-true-and-false, refused-or-passed, decides, pass-over, passed-parts, exactly-unique}
+use Rattle.checks.proofs.Laws.{not-both, not-true-and-false, refused-or-passed, decides, pass-over, passed-parts, exactly-unique}
 use Rattle.units.specs.Cost.{costOf}
 use Rattle.tree.specs.Class.{longestOf, isLeaf}
 use Rattle.tree.proofs.Classes.{neither-true}
+use Rattle.tree.proofs.Rules.{leaf-number}
 use Rattle.state.specs.declared.Link.{Link}
 use Rattle.state.specs.declared.Packet.{Packet}
 use Rattle.state.specs.Account.{balanceOf}
@@ -179,10 +180,15 @@ arrival-keeps s i p u many sound t = record {
 pub arrival-means : (l : Link) (i : ℕ) (p : Packet) → Shaped l → i < 64 → heldOf l i < 32 → meaning (putLast l i p) ≡ arrived (meaning l) i p
 arrival-means = meaning-put
 
-pub arrival-sound : (l : Link) (i : ℕ) (p : Packet) → Shaped l → i < 64 → SoundLink l → firstBroken (arrivalChecks true (meaning l) i p) ≡ Passed
+-- an accepted arrival's class is one of the 64 class numbers
+pub taken-number : (s : State) (i : ℕ) (p : Packet) → Sound s → firstBroken (arrivalChecks true s i p) ≡ Passed → i < 64
+taken-number s i p sound e = leaf-number (s .tree) i (sound .fits .tree) (taken true s i p e .leaf)
+
+pub arrival-sound : (l : Link) (i : ℕ) (p : Packet) → Shaped l → SoundLink l → firstBroken (arrivalChecks true (meaning l) i p) ≡ Passed
     → SoundLink (putLast l i p)
-arrival-sound l i p shape u sound e =
+arrival-sound l i p shape sound e =
     let t = taken true (meaning l) i p e in
+    let u = taken-number (meaning l) i p (sound .state) e in
     let room : heldOf l i < 32 = rw (meaning-held l i u) at (t .room) in
     record {
       state = rw (arrival-means l i p shape u room) (arrival-keeps (meaning l) i p u (table-length (queueOf l) 64) (sound .state) t);
@@ -199,6 +205,17 @@ arrival-one-answer l i p a b x y =
 pub arrives-as : (l : Link) (i : ℕ) (p : Packet) (r : Answered) → SoundLink l → Arrives l i p r → r ≡ arrivalOf true l i p
 arrives-as l i p r sound x = x .answer ∙ ap (λ (s : Bool). arrivalOf s l i p) (x .exactly .complete sound)
 
+-- an accepted arrival was on a sound record
+pub accepted-sound : (l : Link) (i : ℕ) (p : Packet) (r : Answered) → Arrives l i p r → r .verdict ≡ Passed → SoundLink l
+accepted-sound l i p r x accepted = x .exactly .sound (go (x .sound) refl)
+  where
+    go : (b : Bool) → x .sound ≡ b → b ≡ true
+    go true e = refl
+    go false e =
+        absurd
+        (not-both accepted
+        (ap (λ (a : Answered). a .verdict) (x .answer ∙ ap (λ (b : Bool). arrivalOf b l i p) e ∙ arrival-refused false l i p (decides _ _ refl))))
+
 -- on a record that is not sound every arrival gives 11 at 0, and the very record
 pub unsound-refused : (l : Link) (i : ℕ) (p : Packet) (r : Answered) → (SoundLink l → ⊥) → Arrives l i p r → r ≡ record { verdict = Refused 11 0; link = l }
 unsound-refused l i p r not-sound x = x .answer ∙ go (x .sound) refl
@@ -209,9 +226,10 @@ unsound-refused l i p r not-sound x = x .answer ∙ go (x .sound) refl
 
 -- ---- what the contract says of an exact flag and its answer
 
-pub arrives-by : (l : Link) (i : ℕ) (p : Packet) (flag : Bool) (r : Answered) → Shaped l → (isLeaf (l .tree) i ≡ true → i < 64) → Exactly flag (SoundLink l)
-    → r ≡ arrivalOf flag l i p → Arrives l i p r
-arrives-by l i p flag r shape leaf exactly e = record {
+pub arrives-by : (l : Link) (i : ℕ) (p : Packet) (flag : Bool) (r : Answered) → Shaped l → Exactly flag (SoundLink l) → r ≡ arrivalOf flag l i p
+    → Arrives l i p r
+arrives-by l i p flag r shape exactly e = record {
+  shape = shape;
   sound = flag;
   exactly = exactly;
   answer = e;
@@ -223,5 +241,5 @@ arrives-by l i p flag r shape leaf exactly e = record {
         → SoundLink (arrivalOf true l i p .link)
     go sound (inl passed) =
         subst (λ (a : Answered). SoundLink (a .link)) (sym (arrival-taken true l i p passed))
-        (arrival-sound l i p shape (leaf (taken true (meaning l) i p passed .leaf)) sound passed)
+        (arrival-sound l i p shape sound passed)
     go sound (inr w) = subst (λ (a : Answered). SoundLink (a .link)) (sym (arrival-refused true l i p (w .2))) sound

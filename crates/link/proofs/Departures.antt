@@ -75,6 +75,7 @@ sends-as l r sound x = x .answer ∙ ap (λ (s : Bool). sendOf s l) (x .exactly 
 -- an exact flag and its answer
 pub sends-by : (l : Link) (flag : Bool) (r : Departure) → Shaped l → Exactly flag (SoundLink l) → r ≡ sendOf flag l → Sends l r
 sends-by l flag r shape exactly e = record {
+  shape = shape;
   sound = flag;
   exactly = exactly;
   answer = e;

@@ -26,39 +26,39 @@ use Rattle.link.specs.Fresh.{freshOf, MakesFresh}
 use Rattle.link.proofs.Arrivals.{unsound-refused}
 
 -- the accounts of a fresh link: the root's has Q, every other nothing
-module _ (t : Tree) (q : ℕ) where
-  root-account : accountOf (freshLink t (record { 0 = q }) .accounts) 0 ≡ account q 0
-  root-account = getD-set-same (replicate 64 noAccount) 0 (account q 0) noAccount (omega (arith, length-replicate 64 noAccount))
+module _ (t : Tree) where
+  root-account : accountOf (freshLink t .accounts) 0 ≡ account (roundSize t) 0
+  root-account = getD-set-same (replicate 64 noAccount) 0 (account (roundSize t) 0) noAccount (omega (arith, length-replicate 64 noAccount))
 
-  other-account : (i : ℕ) → 1 ≤ i → i < 64 → accountOf (freshLink t (record { 0 = q }) .accounts) i ≡ noAccount
+  other-account : (i : ℕ) → 1 ≤ i → i < 64 → accountOf (freshLink t .accounts) i ≡ noAccount
   other-account i l u =
-      getD-set-other (replicate 64 noAccount) 0 i (account q 0) noAccount (λ e. omega arith)
+      getD-set-other (replicate 64 noAccount) 0 i (account (roundSize t) 0) noAccount (λ e. omega arith)
       ∙ getD-replicate 64 i noAccount noAccount u
 
-  nothing-held : (i : ℕ) → i < 64 → length (queueAt (meaning (freshLink t (record { 0 = q }))) i) ≡ 0
-  nothing-held i u = meaning-held (freshLink t (record { 0 = q })) i u ∙ sym (queue-length (freshLink t (record { 0 = q })) i) ∙ ap length (fresh-queues t (record { 0 = q }) i)
+  nothing-held : (i : ℕ) → i < 64 → length (queueAt (meaning (freshLink t)) i) ≡ 0
+  nothing-held i u = meaning-held (freshLink t) i u ∙ sym (queue-length (freshLink t) i) ∙ ap length (fresh-queues t i)
 
-  fresh-total : total (freshLink t (record { 0 = q }) .accounts) ≡ q
+  fresh-total : total (freshLink t .accounts) ≡ roundSize t
   unfolding total
   fresh-total =
       omega (
         arith,
         ap heldBy root-account,
-        sum-zero (λ i. heldBy (accountOf (freshLink t (record { 0 = q }) .accounts) i)) 63 (λ i l u. ap heldBy (other-account i l (omega arith))),
+        sum-zero (λ i. heldBy (accountOf (freshLink t .accounts) i)) 63 (λ i l u. ap heldBy (other-account i l (omega arith))),
       )
 
-  no-residual : (i : ℕ) → i < 64 → Dec (i ≡ 0) → accountOf (freshLink t (record { 0 = q }) .accounts) i .residual .0 ≡ 0
+  no-residual : (i : ℕ) → i < 64 → Dec (i ≡ 0) → accountOf (freshLink t .accounts) i .residual .0 ≡ 0
   no-residual i u (yes e) = rw e (ap (λ (a : Account). a .residual .0) root-account)
   no-residual i u (no ne) = ap (λ (a : Account). a .residual .0) (other-account i (omega arith) u)
 
 -- a fresh link of a tree that obeys the plan rules is sound
-pub fresh-sound : (t : Tree) → PlanRules t → SoundLink (freshLink t (record { 0 = roundSize t }))
+pub fresh-sound : (t : Tree) → PlanRules t → SoundLink (freshLink t)
 fresh-sound t rules = record {
   state =
       record {
         fits = record { tree = rules; size = refl };
         holds = λ i u.
-            let z = nothing-held t (roundSize t) i u in
+            let z = nothing-held t i u in
             record { few = λ f. omega (arith, z); range = λ f j h. absurd (omega (arith, z)); other = λ f. z };
         waiting = λ i u. record { waits = λ f a. absurd (not-true-and-false a (has-empty i)) };
         past = record { word = omega arith; past = λ i h. has-empty i };
@@ -67,11 +67,11 @@ fresh-sound t rules = record {
           active = λ ab r. absurd (not-true-and-false (r .is-active) (has-empty (r .leaf)));
         };
         zero = λ i u. record {
-          balance = λ l a. ap (λ (x : Account). x .balance .0) (other-account t (roundSize t) i l u);
-          residual = λ l a. ap (λ (x : Account). x .residual .0) (other-account t (roundSize t) i l u);
-          leaf = λ f. no-residual t (roundSize t) i u (ℕ-discrete i 0);
+          balance = λ l a. ap (λ (x : Account). x .balance .0) (other-account t i l u);
+          residual = λ l a. ap (λ (x : Account). x .residual .0) (other-account t i l u);
+          leaf = λ f. no-residual t i u (ℕ-discrete i 0);
         };
-        adds = record { adds = fresh-total t (roundSize t) };
+        adds = record { adds = fresh-total t };
         place = record { low = omega arith; high = omega arith };
         behind = λ i u. record { lacks = λ f a b. absurd (not-true-and-false a (has-empty i)) };
       };

@@ -11,7 +11,7 @@ use Rattle.checks.specs.Check.{Check, check, firstBroken, Exactly}
 use Rattle.tree.specs.Class.{longestOf, isLeaf}
 use Rattle.state.specs.declared.Link.{Link}
 use Rattle.state.specs.declared.Packet.{Packet}
-use Rattle.state.specs.Queue.{putLast}
+use Rattle.state.specs.Queue.{Shaped, putLast}
 use Rattle.state.specs.State.{State, meaning, queueAt, withQueue}
 use Rattle.sound.specs.Sound.{SoundLink}
 use Rattle.link.specs.declared.Answered.{Answered}
@@ -45,8 +45,9 @@ arrivalGives (Refused n q) l class p = record { verdict = Refused n q; link = l 
 unfoldable pub arrivalOf : Bool → Link → ℕ → Packet → Answered
 arrivalOf sound l class p = arrivalGives (firstBroken (arrivalChecks sound (meaning l) class p)) l class p
 
--- what an arrival on any record gives; on a sound one it gives a sound one
+-- what an arrival on any record gives; on a sound one it gives a sound one. A record's lists have the lengths of its arrays.
 pub record Arrives (l : Link) (class : ℕ) (p : Packet) (r : Answered) : Type 0 where
+  pub shape : Shaped l
   pub sound : Bool
   pub exactly : Exactly sound (SoundLink l)
   pub answer : r ≡ arrivalOf sound l class p

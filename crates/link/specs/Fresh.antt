@@ -5,13 +5,12 @@ use Rattle.checks.specs.declared.Verdict.the-variants.{Passed, Refused}
 use Rattle.checks.specs.Check.{Exactly}
 use Rattle.tree.specs.declared.Tree.{Tree}
 use Rattle.tree.specs.Rules.{PlanRules}
-use Rattle.tree.specs.Size.{roundSize}
 use Rattle.state.specs.State.{freshLink, noLink}
 use Rattle.link.specs.declared.Answered.{Answered}
 
 -- a tree that obeys the plan rules gives the fresh link with its round size; any other 11 at 0, and the link without classes
 abbrev pub freshOf : Bool → Tree → Answered
-freshOf true t = record { verdict = Passed; link = freshLink t (record { 0 = roundSize t }) }
+freshOf true t = record { verdict = Passed; link = freshLink t }
 freshOf false t = record { verdict = Refused 11 0; link = noLink }
 
 -- what a fresh link asked of any tree gives

@@ -2,4 +2,6 @@
 pub mod Fresh
 pub mod Arrival
 pub mod Send
+pub mod Progress
+pub mod Run
 pub mod Steps

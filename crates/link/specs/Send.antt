@@ -7,6 +7,7 @@ use Rattle.checks.specs.declared.Verdict.{Verdict}
 use Rattle.checks.specs.declared.Verdict.the-variants.{Passed, Refused}
 use Rattle.checks.specs.Check.{Check, check, firstBroken, Exactly}
 use Rattle.state.specs.declared.Link.{Link}
+use Rattle.state.specs.Queue.{Shaped}
 use Rattle.state.specs.State.{State, meaning}
 use Rattle.sound.specs.Sound.{SoundLink}
 use Rattle.round.specs.Active.{someWaits}
@@ -37,8 +38,9 @@ sendGives (Refused n q) l = record { verdict = Refused n q; class = 0; length = 
 unfoldable pub sendOf : Bool → Link → Departure
 sendOf sound l = sendGives (firstBroken (sendChecks sound (meaning l))) l
 
--- what a send on any record gives; on a sound one it gives a sound one
+-- what a send on any record gives; on a sound one it gives a sound one. A record's lists have the lengths of its arrays.
 pub record Sends (l : Link) (r : Departure) : Type 0 where
+  pub shape : Shaped l
   pub sound : Bool
   pub exactly : Exactly sound (SoundLink l)
   pub answer : r ≡ sendOf sound l

@@ -38,7 +38,7 @@ pub fn fresh(tree: Tree) -> Answered
         return Answered { verdict, link };
     }
     let verdict = Verdict::Passed;
-    let link = Link::fresh(tree, tree::round_size(tree));
+    let link = Link::fresh(tree);
     Answered { verdict, link }
 }
 
@@ -58,7 +58,7 @@ fn judge(sound: bool, leaf: bool, class: usize, length: u16, longest: u16, held:
     if longest < length {
         return Verdict::Refused(checks::LENGTH, class);
     }
-    if 32 <= held {
+    if Link::PLACES as u8 <= held {
         return Verdict::Refused(checks::FULL, class);
     }
     Verdict::Passed
@@ -71,7 +71,7 @@ pub fn arrive(link: Link, class: usize, packet: Packet) -> Answered
     let sound = sound::is_sound(link);
     let tree = link.tree;
     let leaf = sets::holds(tree.leaves, class);
-    if 64 <= class {
+    if Link::CLASSES <= class {
         let verdict = judge(sound, leaf, class, packet.length, 0, 0);
         return Answered { verdict, link };
     }

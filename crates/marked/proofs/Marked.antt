@@ -17,12 +17,13 @@ use Rattle.round.specs.Opening.{surplusAt, hasSurplus, kindOf, quotaIn, quota, 
 use Rattle.round.specs.Sending.{ready, firstFrom, nextLeaf, givenUp, turnsOff, paid, booksAfter, sentState, turnOf, sends, traceOf}
 use Rattle.link.specs.Arrival.{noLeaf, badLength, full, arrivalOf}
 use Rattle.link.specs.Send.{sendOf}
-use Rattle.marked.specs.Run.{readOf, accountsOf, openingOf, openingsOf, classesIn, waitingIn, answersOf, callsOn, runOf}
-use Rattle.marked.specs.Table.{found, expected, markedCases}
+use Rattle.marked.specs.Run.{readOf, accountsOf, openingOf, openingAt, classesIn, waitingIn, AllRight}
+use Rattle.marked.specs.Table.{markedCases}
+use Rattle.marked.proofs.Computed.{answersOf, callsOn, found, expected, all-right}
 
 -- by computing all the definitions named here
-pub marked : map found markedCases ≡ map expected markedCases
-unfolding markedCases found expected readOf accountsOf openingOf openingsOf classesIn waitingIn answersOf callsOn runOf
+computed : map found markedCases ≡ map expected markedCases
+unfolding markedCases found expected readOf accountsOf openingOf openingAt classesIn waitingIn answersOf callsOn
     firstBroken classByClass has with without costOf
     isClass isLeaf isInner isChild childWeight childrenWeight hasChild sumTo someTo allWeights longestCost allLongest roundSize
     tooMany badParent badWeight badLongest tooHeavy childless noClass
@@ -31,4 +32,8 @@ unfolding markedCases found expected readOf accountsOf openingOf openingsOf clas
     surplusAt hasSurplus kindOf quotaIn quota due handsDown openedLeaf openedInner openedAccount openedAccounts nextKind opened
     ready firstFrom nextLeaf givenUp turnsOff paid booksAfter sentState turnOf sends traceOf
     noLeaf badLength full arrivalOf sendOf
-marked = refl
+computed = refl
+
+-- each is right of every run of the library
+pub marked : AllRight markedCases
+marked = all-right markedCases computed

@@ -1,18 +1,19 @@
--- What a run gives, by the definitions that the contracts cite: the reader's answer to some bytes, then the answer to each call. Demands 1 and 2.
-use mathlib.Core.Bool.{true, cond}
+-- What a run gives: the reader's answer to some bytes, then what the library answers to each call, whatever meets the calls' contracts. Demands 1 and 2.
+use mathlib.Core.Bool.{cond}
 use mathlib.Core.List.{List, [], _∷_, _++_, map}
+use mathlib.Core.Path.{_≡_}
 use Prim.Native.Nat.{ℕ, zero, suc}
-use lib.ListN.{length}
+use lib.ListN.{length, take, drop}
 use Rattle.checks.specs.declared.Verdict.{Verdict}
 use Rattle.checks.specs.declared.Verdict.the-variants.{Passed, Refused}
 use Rattle.sets.specs.Set.{has}
-use Rattle.tree.specs.declared.Tree.{Tree}
 use Rattle.tree.specs.Sum.{sumTo}
 use Rattle.tree.specs.Size.{roundSize}
 use Rattle.plan.specs.declared.PlanRead.{PlanRead}
 use Rattle.plan.specs.Reader.{planOf}
 use Rattle.state.specs.declared.Account.{Account}
 use Rattle.state.specs.declared.Link.{Link}
+use Rattle.state.specs.declared.Packet.{Packet}
 use Rattle.state.specs.Account.{balanceOf, residualOf}
 use Rattle.state.specs.Queue.{table}
 use Rattle.state.specs.State.{State, meaning, queueAt}
@@ -20,9 +21,9 @@ use Rattle.round.specs.Opening.{Kind}
 use Rattle.round.specs.Sending.{Turn, traceOf}
 use Rattle.link.specs.declared.Answered.{Answered}
 use Rattle.link.specs.declared.Departure.{Departure}
-use Rattle.link.specs.Fresh.{freshOf}
-use Rattle.link.specs.Arrival.{arrivalOf}
-use Rattle.link.specs.Send.{sendOf}
+use Rattle.link.specs.Fresh.{MakesFresh}
+use Rattle.link.specs.Arrival.{Arrives}
+use Rattle.link.specs.Send.{Sends}
 
 -- what the reader says: its verdict, the bytes used, the classes, and Q
 pub record Read : Type 0 where
@@ -31,15 +32,16 @@ pub record Read : Type 0 where
   pub classes : ℕ
   pub size : ℕ
 
--- what is asked of a link: an arrival (class, length, tag) or a send; and, between calls, to show who is active and the accounts, or to count the packets
--- still waiting
+-- what is asked of a link: an arrival (class, length, tag) or a send; and, between calls, to look at the round with this number of those that the next send
+-- opens (0 is its first), at who is active and the accounts, or at how many packets still wait
 pub data Call : Type 0 where
   arrival : ℕ → ℕ → ℕ → Call
   send : Call
+  opening : ℕ → Call
   show : Call
   end : Call
 
--- balance and residual of each class, from the root on
+-- balance and residual of each of the 64 class numbers, from the root on
 pub record Accounts : Type 0 where
   pub B : List ℕ
   pub R : List ℕ
@@ -51,38 +53,39 @@ pub record Opening : Type 0 where
   pub quotas : List ℕ
   pub after : Accounts
 
--- the answers: to an arrival its verdict; to a send its verdict, class, length, tag and number of rounds, and each of those rounds; the active classes and
+-- the answers: to an arrival its verdict; to a send its verdict, class, length, tag and number of rounds; a round, where there is one; the active classes and
 -- the accounts; the packets still waiting
 pub data Answer : Type 0 where
   arrived : Verdict → Answer
-  sent : Verdict → ℕ → ℕ → ℕ → ℕ → List Opening → Answer
+  sent : Verdict → ℕ → ℕ → ℕ → ℕ → Answer
+  opened : List Opening → Answer
   shown : List ℕ → Accounts → Answer
   waiting : ℕ → Answer
 
--- all that a run gives
-pub record Run : Type 0 where
-  pub read : Read
-  pub answers : List Answer
+-- a call and the answer it is to give
+infix 68 _⟶_
+pub data Step : Type 0 where
+  _⟶_ : Call → Answer → Step
 
--- each of these read off what the definitions give
+-- ---- each of these read off what the definitions give
+
 unfoldable pub readOf : PlanRead → Read
 readOf r = record { verdict = r .verdict; used = r .used; classes = r .tree .count; size = roundSize (r .tree) }
 
-unfoldable pub accountsOf : Tree → List Account → Accounts
-accountsOf t accounts = record { B = table (balanceOf accounts) (suc (t .count)); R = table (residualOf accounts) (suc (t .count)) }
+unfoldable pub accountsOf : List Account → Accounts
+accountsOf accounts = record { B = table (balanceOf accounts) 64; R = table (residualOf accounts) 64 }
 
-unfoldable pub openingOf : Tree → Turn → Opening
-openingOf t turn = record {
-  closed = accountsOf t (turn .closed);
+unfoldable pub openingOf : Turn → Opening
+openingOf turn = record {
+  closed = accountsOf (turn .closed);
   kind = turn .kind;
   quotas = turn .quotas 0 ∷ turn .quotas 1 ∷ [];
-  after = accountsOf t (turn .after);
+  after = accountsOf (turn .after);
 }
 
--- a refused send opens no round
-unfoldable pub openingsOf : Verdict → State → List Opening
-openingsOf Passed s = map (openingOf (s .tree)) (traceOf s .turns)
-openingsOf (Refused n p) s = []
+-- the round with number k of those that a send on a state opens
+unfoldable pub openingAt : ℕ → State → List Opening
+openingAt k s = map openingOf (take 1 (drop k (traceOf s .turns)))
 
 -- the classes of a set, of those numbered below n
 unfoldable pub classesIn : ℕ → ℕ → List ℕ
@@ -92,26 +95,49 @@ classesIn s (suc n) = classesIn s n ++ cond (has s n) (n ∷ []) []
 unfoldable pub waitingIn : State → ℕ
 waitingIn s = sumTo (λ i. length (queueAt s i)) (s .tree .count)
 
--- the calls one after the other, each on the link that the last one gave. A fresh link of an accepted plan is sound, and so is what each call on a
--- sound link gives (`fresh-sound`, `Arrives`, `Sends`): the check of number 11 passes.
-unfoldable pub answersOf : Link → List Call → List Answer
-answersOf l [] = []
-answersOf l (arrival class length tag ∷ calls) =
-    let a : Answered = arrivalOf true l class (record { length = length; tag = tag }) in
-    arrived (a .verdict) ∷ answersOf (a .link) calls
-answersOf l (send ∷ calls) =
-    let d : Departure = sendOf true l in
-    sent (d .verdict) (d .class) (d .length) (d .tag) (d .rounds) (openingsOf (d .verdict) (meaning l)) ∷ answersOf (d .link) calls
-answersOf l (show ∷ calls) = shown (classesIn (l .active) (suc (l .tree .count))) (accountsOf (l .tree) (l .accounts)) ∷ answersOf l calls
-answersOf l (end ∷ calls) = waiting (waitingIn (meaning l)) ∷ answersOf l calls
+abbrev pub packetOf : ℕ → ℕ → Packet
+packetOf length tag = record { length = length; tag = tag }
 
--- on a fresh link of the plan; of a refused plan no link is made
-unfoldable pub callsOn : Verdict → Tree → List Call → List Answer
-callsOn Passed t calls = answersOf (freshOf true t .link) calls
-callsOn (Refused n p) t calls = []
+abbrev pub sentAs : Departure → Answer
+sentAs d = sent (d .verdict) (d .class) (d .length) (d .tag) (d .rounds)
 
--- the whole run: the plan's bytes, then the calls
-unfoldable pub runOf : List ℕ → List Call → Run
-runOf input calls =
-    let r = planOf input in
-    record { read = readOf r; answers = callsOn (r .verdict) (r .tree) calls }
+-- what is seen of a link between calls
+abbrev pub seen : Call → Link → Answer
+seen (arrival class length tag) l = opened []
+seen send l = opened []
+seen (opening k) l = opened (openingAt k (meaning l))
+seen show l = shown (classesIn (l .active) 64) (accountsOf (l .accounts))
+seen end l = waiting (waitingIn (meaning l))
+
+-- ---- a run of the library
+
+-- the calls one after the other, each on the link that the last one left: whatever is answered as the call's contract says is the answer of its step
+unfoldable pub Follows : Link → List Step → Type 0
+Follows l [] = Unit {0}
+Follows l (arrival class length tag ⟶ answer ∷ steps) =
+    (a : Answered) → Arrives l class (packetOf length tag) a → (arrived (a .verdict) ≡ answer) × Follows (a .link) steps
+Follows l (send ⟶ answer ∷ steps) = (d : Departure) → Sends l d → (sentAs d ≡ answer) × Follows (d .link) steps
+Follows l (opening k ⟶ answer ∷ steps) = (seen (opening k) l ≡ answer) × Follows l steps
+Follows l (show ⟶ answer ∷ steps) = (seen show l ≡ answer) × Follows l steps
+Follows l (end ⟶ answer ∷ steps) = (seen end l ≡ answer) × Follows l steps
+
+-- on the fresh link of an accepted plan; of a refused plan no link is made, and there are no steps
+abbrev pub Runs : Verdict → PlanRead → List Step → Type 0
+Runs Passed read steps = (fresh : Answered) → MakesFresh (read .tree) fresh → Follows (fresh .link) steps
+Runs (Refused n p) read steps = steps ≡ []
+
+-- an entry: the input, what the reader is to say of it, and the calls with their answers
+pub record Entry : Type 0 where
+  pub input : List ℕ
+  pub read : Read
+  pub steps : List Step
+
+-- the reader says so, and so does every run of the library
+pub record Right (e : Entry) : Type 0 where
+  pub reads : readOf (planOf (e .input)) ≡ e .read
+  pub runs : Runs (planOf (e .input) .verdict) (planOf (e .input)) (e .steps)
+
+-- every entry of a table is right
+pub data AllRight : List Entry → Type 0 where
+  none : AllRight []
+  more : {e : Entry} {es : List Entry} → Right e → AllRight es → AllRight (e ∷ es)

@@ -1,34 +1,11 @@
 -- The listing and the marked cases M1 to M12 of document 01, "A whole run": the input, the calls, and what each of them is to give. Demands 1 and 2.
-use mathlib.Core.List.{List, [], _∷_, _++_, map}
+use mathlib.Core.List.{List, [], _∷_, _++_}
 use Prim.Native.Nat.{ℕ}
+use lib.ListN.{replicate}
 use Rattle.checks.specs.declared.Verdict.the-variants.{Passed, Refused}
 use Rattle.state.specs.Queue.{table}
 use Rattle.round.specs.Opening.{main, surplus}
-use Rattle.marked.specs.Run.{Read, Call, arrival, send, show, end, Opening, Answer, arrived, sent, shown, waiting, Run, runOf}
-
--- a call and the answer it is to give
-infix 68 _⟶_
-pub data Step : Type 0 where
-  _⟶_ : Call → Answer → Step
-
-abbrev pub callOf : Step → Call
-callOf (call ⟶ answer) = call
-
-abbrev pub answerOf : Step → Answer
-answerOf (call ⟶ answer) = answer
-
--- an entry: the input, what the reader is to say of it, and the calls with their answers
-pub record Entry : Type 0 where
-  pub input : List ℕ
-  pub read : Read
-  pub steps : List Step
-
--- what its input and its calls give by the definitions, and what they are to give
-unfoldable pub found : Entry → Run
-found e = runOf (e .input) (map callOf (e .steps))
-
-unfoldable pub expected : Entry → Run
-expected e = record { read = e .read; answers = map answerOf (e .steps) }
+use Rattle.marked.specs.Run.{Read, arrival, send, opening, show, end, Opening, Answer, arrived, sent, opened, shown, waiting, Step, _⟶_, Entry}
 
 -- the run of an entry, and more calls after it
 infixl 60 _then_
@@ -48,11 +25,18 @@ taken = arrived Passed
 abbrev refused : ℕ → ℕ → Answer
 refused number place = arrived (Refused number place)
 
-abbrev out : ℕ → ℕ → ℕ → ℕ → List Opening → Answer
-out class length tag rounds openings = sent Passed class length tag rounds openings
+abbrev out : ℕ → ℕ → ℕ → ℕ → Answer
+out class length tag rounds = sent Passed class length tag rounds
 
 abbrev none : Answer
-none = sent (Refused 15 0) 0 0 0 0 []
+none = sent (Refused 15 0) 0 0 0 0
+
+-- numbers of classes 0 to 4, and 0 for every other class number
+abbrev these : List ℕ → List ℕ
+these numbers = numbers ++ replicate 59 0
+
+abbrev nothing : List ℕ
+nothing = replicate 64 0
 
 -- Tree P: class 1 inner, parent 0, weight 3 (the number given here); class 2 leaf, parent 1, weight 1; class 3 leaf, parent 1, weight 2;
 -- class 4 leaf, parent 0, weight 4; each longest 10
@@ -68,85 +52,86 @@ treeWith weight =
 abbrev m1 : Entry
 m1 = record { input = treeWith 3; read = accepted 4 40 31; steps = [] }
 
+-- The listing: four arrivals, five sends, and no packet left.
+abbrev arrivals : List Step
+arrivals = arrival 2 2 1 ⟶ taken ∷ arrival 3 10 2 ⟶ taken ∷ arrival 3 10 3 ⟶ taken ∷ arrival 4 10 4 ⟶ taken ∷ []
+
+abbrev firstSend : List Step
+firstSend = send ⟶ out 2 2 1 1 ∷ []
+
+abbrev twoMore : List Step
+twoMore = send ⟶ out 3 10 2 0 ∷ send ⟶ out 4 10 4 0 ∷ []
+
+abbrev fourthSend : List Step
+fourthSend = send ⟶ out 3 10 3 2 ∷ []
+
+abbrev lastSend : List Step
+lastSend = send ⟶ none ∷ []
+
+abbrev listing : Entry
+listing = m1 then arrivals then firstSend then twoMore then fourthSend then lastSend then (end ⟶ waiting 0 ∷ [])
+
 -- M2 the first opening: quotas 5 (root) and 5 (class 1); balances of classes 0 to 4: 5, 0, 5, 10, 20.
 abbrev firstOpening : Opening
 firstOpening = record {
-  closed = record { B = 40 ∷ 0 ∷ 0 ∷ 0 ∷ 0 ∷ []; R = 0 ∷ 0 ∷ 0 ∷ 0 ∷ 0 ∷ [] };
+  closed = record { B = these (40 ∷ 0 ∷ 0 ∷ 0 ∷ 0 ∷ []); R = nothing };
   kind = main;
   quotas = 5 ∷ 5 ∷ [];
-  after = record { B = 5 ∷ 0 ∷ 5 ∷ 10 ∷ 20 ∷ []; R = 0 ∷ 0 ∷ 0 ∷ 0 ∷ 0 ∷ [] };
+  after = record { B = these (5 ∷ 0 ∷ 5 ∷ 10 ∷ 20 ∷ []); R = nothing };
 }
 
 abbrev m2 : Entry
-m2 = m1 then
-    arrival 2 2 1 ⟶ taken
-    ∷ arrival 3 10 2 ⟶ taken
-    ∷ arrival 3 10 3 ⟶ taken
-    ∷ arrival 4 10 4 ⟶ taken
-    ∷ send ⟶ out 2 2 1 1 (firstOpening ∷ [])
-    ∷ []
+m2 = m1 then arrivals then (opening 0 ⟶ opened (firstOpening ∷ []) ∷ []) then firstSend
 
 -- M3 after the first send: root B 7, class 1 R 3.
 abbrev afterFirst : Answer
-afterFirst = shown (0 ∷ 1 ∷ 3 ∷ 4 ∷ []) (record { B = 7 ∷ 0 ∷ 0 ∷ 10 ∷ 20 ∷ []; R = 0 ∷ 3 ∷ 0 ∷ 0 ∷ 0 ∷ [] })
+afterFirst = shown (0 ∷ 1 ∷ 3 ∷ 4 ∷ []) (record { B = these (7 ∷ 0 ∷ 0 ∷ 10 ∷ 20 ∷ []); R = these (0 ∷ 3 ∷ 0 ∷ 0 ∷ 0 ∷ []) })
 
 abbrev m3 : Entry
-m3 = m2 then
-    show ⟶ afterFirst
-    ∷ []
+m3 = m1 then arrivals then firstSend then (show ⟶ afterFirst ∷ [])
 
 -- M4 the surplus round in the fourth send: class 1 quota 1, B 1; class 3 B 2.
 abbrev surplusOpening : Opening
 surplusOpening = record {
-  closed = record { B = 27 ∷ 0 ∷ 0 ∷ 0 ∷ 0 ∷ []; R = 10 ∷ 3 ∷ 0 ∷ 0 ∷ 0 ∷ [] };
+  closed = record { B = these (27 ∷ 0 ∷ 0 ∷ 0 ∷ 0 ∷ []); R = these (10 ∷ 3 ∷ 0 ∷ 0 ∷ 0 ∷ []) };
   kind = surplus;
   quotas = 0 ∷ 1 ∷ [];
-  after = record { B = 27 ∷ 1 ∷ 0 ∷ 2 ∷ 0 ∷ []; R = 10 ∷ 0 ∷ 0 ∷ 0 ∷ 0 ∷ [] };
+  after = record { B = these (27 ∷ 1 ∷ 0 ∷ 2 ∷ 0 ∷ []); R = these (10 ∷ 0 ∷ 0 ∷ 0 ∷ 0 ∷ []) };
 }
+
+abbrev m4 : Entry
+m4 = m1 then arrivals then firstSend then twoMore then (opening 0 ⟶ opened (surplusOpening ∷ []) ∷ []) then fourthSend
 
 -- M5 the main round after it: quotas 12 and 18; class 3 B 38, class 1 B 1, root B 1.
 abbrev mainOpening : Opening
 mainOpening = record {
-  closed = record { B = 27 ∷ 1 ∷ 0 ∷ 2 ∷ 0 ∷ []; R = 10 ∷ 0 ∷ 0 ∷ 0 ∷ 0 ∷ [] };
+  closed = record { B = these (27 ∷ 1 ∷ 0 ∷ 2 ∷ 0 ∷ []); R = these (10 ∷ 0 ∷ 0 ∷ 0 ∷ 0 ∷ []) };
   kind = main;
   quotas = 12 ∷ 18 ∷ [];
-  after = record { B = 1 ∷ 1 ∷ 0 ∷ 38 ∷ 0 ∷ []; R = 0 ∷ 0 ∷ 0 ∷ 0 ∷ 0 ∷ [] };
+  after = record { B = these (1 ∷ 1 ∷ 0 ∷ 38 ∷ 0 ∷ []); R = nothing };
 }
 
--- both are opened in the fourth send, so M4 and M5 are one entry
-abbrev m4-5 : Entry
-m4-5 = m3 then
-    send ⟶ out 3 10 2 0 []
-    ∷ send ⟶ out 4 10 4 0 []
-    ∷ send ⟶ out 3 10 3 2 (surplusOpening ∷ mainOpening ∷ [])
-    ∷ []
+abbrev m5 : Entry
+m5 = m1 then arrivals then firstSend then twoMore then (opening 1 ⟶ opened (mainOpening ∷ []) ∷ []) then fourthSend
 
--- M6 at the end: root B 11, R 29, all else 0. With it the listing is whole: its plan, four arrivals, five sends and no packet left.
+-- M6 at the end: root B 11, R 29, all else 0.
 abbrev m6 : Entry
-m6 = m4-5 then
-    send ⟶ none
-    ∷ show ⟶ shown [] (record { B = 11 ∷ 0 ∷ 0 ∷ 0 ∷ 0 ∷ []; R = 29 ∷ 0 ∷ 0 ∷ 0 ∷ 0 ∷ [] })
-    ∷ end ⟶ waiting 0
-    ∷ []
+m6 = m1 then arrivals then firstSend then twoMore then fourthSend then lastSend then
+    (show ⟶ shown [] (record { B = these (11 ∷ 0 ∷ 0 ∷ 0 ∷ 0 ∷ []); R = these (29 ∷ 0 ∷ 0 ∷ 0 ∷ 0 ∷ []) }) ∷ [])
 
 -- M7 an arrival (class 2, length 1, tag 5) after the first send: the next three sends give tags 2, 4, 5, the third with 1 round opened, a surplus round.
 -- The arrival itself changes nothing that shows: class 2 stays inactive.
 abbrev laterOpening : Opening
 laterOpening = record {
-  closed = record { B = 27 ∷ 0 ∷ 0 ∷ 0 ∷ 0 ∷ []; R = 10 ∷ 3 ∷ 0 ∷ 0 ∷ 0 ∷ [] };
+  closed = record { B = these (27 ∷ 0 ∷ 0 ∷ 0 ∷ 0 ∷ []); R = these (10 ∷ 3 ∷ 0 ∷ 0 ∷ 0 ∷ []) };
   kind = surplus;
   quotas = 0 ∷ 1 ∷ [];
-  after = record { B = 27 ∷ 0 ∷ 1 ∷ 2 ∷ 0 ∷ []; R = 10 ∷ 0 ∷ 0 ∷ 0 ∷ 0 ∷ [] };
+  after = record { B = these (27 ∷ 0 ∷ 1 ∷ 2 ∷ 0 ∷ []); R = these (10 ∷ 0 ∷ 0 ∷ 0 ∷ 0 ∷ []) };
 }
 
 abbrev m7 : Entry
-m7 = m3 then
-    arrival 2 1 5 ⟶ taken
-    ∷ show ⟶ afterFirst
-    ∷ send ⟶ out 3 10 2 0 []
-    ∷ send ⟶ out 4 10 4 0 []
-    ∷ send ⟶ out 2 1 5 1 (laterOpening ∷ [])
-    ∷ []
+m7 = m1 then arrivals then firstSend then (arrival 2 1 5 ⟶ taken ∷ show ⟶ afterFirst ∷ []) then twoMore then
+    (opening 0 ⟶ opened (laterOpening ∷ []) ∷ send ⟶ out 2 1 5 1 ∷ [])
 
 -- M8 empty input: 1 at 0.
 abbrev m8 : Entry
@@ -163,29 +148,20 @@ m10 = record { input = treeWith 2; read = stop 7 1; steps = [] }
 -- M11 arrivals to class 4 of length 0 and 11: 13; of length 10: taken. To class 1: 12.
 abbrev m11 : Entry
 m11 = m1 then
-    arrival 4 0 1 ⟶ refused 13 4
+    (arrival 4 0 1 ⟶ refused 13 4
     ∷ arrival 4 11 2 ⟶ refused 13 4
     ∷ arrival 4 10 3 ⟶ taken
     ∷ arrival 1 10 4 ⟶ refused 12 1
-    ∷ []
+    ∷ [])
 
 -- M12 the 33rd packet in class 4: 14; after one has left, taken. The first 32 have the tags 0 to 31, and nothing waits in another class.
-abbrev aloneOpening : Opening
-aloneOpening = record {
-  closed = record { B = 40 ∷ 0 ∷ 0 ∷ 0 ∷ 0 ∷ []; R = 0 ∷ 0 ∷ 0 ∷ 0 ∷ 0 ∷ [] };
-  kind = main;
-  quotas = 10 ∷ 0 ∷ [];
-  after = record { B = 0 ∷ 0 ∷ 0 ∷ 0 ∷ 40 ∷ []; R = 0 ∷ 0 ∷ 0 ∷ 0 ∷ 0 ∷ [] };
-}
-
 abbrev m12 : Entry
-m12 = m1 then
-    table (λ tag. arrival 4 10 tag ⟶ taken) 32 then
-    arrival 4 10 32 ⟶ refused 14 4
-    ∷ send ⟶ out 4 10 0 1 (aloneOpening ∷ [])
+m12 = m1 then table (λ tag. arrival 4 10 tag ⟶ taken) 32 then
+    (arrival 4 10 32 ⟶ refused 14 4
+    ∷ send ⟶ out 4 10 0 1
     ∷ arrival 4 10 33 ⟶ taken
-    ∷ []
+    ∷ [])
 
 -- the table
 unfoldable pub markedCases : List Entry
-markedCases = m1 ∷ m2 ∷ m3 ∷ m4-5 ∷ m6 ∷ m7 ∷ m8 ∷ m9 ∷ m10 ∷ m11 ∷ m12 ∷ []
+markedCases = listing ∷ m1 ∷ m2 ∷ m3 ∷ m4 ∷ m5 ∷ m6 ∷ m7 ∷ m8 ∷ m9 ∷ m10 ∷ m11 ∷ m12 ∷ []

@@ -2,7 +2,7 @@
 use mathlib.Core.Bool.{Bool, true, false}
 use mathlib.Core.List.{List, []}
 use mathlib.Core.Logic.{_⊎_, inl, inr, ⊎-elim, _↔_}
-use mathlib.Core.Path.{_≡_, refl, sym, ap, _∙_}
+use mathlib.Core.Path.{_≡_, refl, sym, ap, subst, _∙_}
 use Prim.Native.Nat.{ℕ, zero, suc, _+_, _≤_, _<_}
 use native.Mathlib.Decide.{decLt}
 use native.Mathlib.Omega.{arith}
@@ -268,7 +268,7 @@ tree-rules s k r e = record {
   few = le-ltb 63 (treeOf s k .count) (omega (arith, tree-count s k, r .most));
   each = tree-passes s k (r .below);
   closing = closing-yes (treeOf s k) e;
-  unset = record { at = tree-grown s k (r .most) .unset };
+  unset = tree-grown s k (r .most) .unset;
 }
 
 -- an accepted plan: k classes, each record broke no rule, the end record followed, and the tree obeys the plan rules
@@ -299,6 +299,12 @@ accepted s e =
         → givesClass (kindAt (restOf s (passedOver s))) ≡ false
     no-class true g h off = absurd (not-true-and-false (pass-yes s (passedOver s) g h) off)
     no-class false g h off = g
+
+-- an accepted plan's tree obeys the plan rules
+pub plan-rules : (s : List ℕ) (r : PlanRead) → r ≡ planOf s → r .verdict ≡ Passed → PlanRules (r .tree)
+plan-rules s r e passed =
+    let a = accepted s (sym (ap (λ (x : PlanRead). x .verdict) e) ∙ passed) in
+    subst (λ (x : PlanRead). PlanRules (x .tree)) (sym (e ∙ a .answer)) (a .rules)
 
 -- ---- the contract determines the answer
 

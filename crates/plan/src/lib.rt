@@ -261,7 +261,7 @@ fn read_head(rest: &[u8], part: Part) -> Head
 fn put_class(tree: Tree, class: Class, place: usize, to: usize) -> Step
     ensures { λ r. ⌜ ClassSays tree class place to (r .tree) (r .next) ⌝ }
 {
-    if 63 <= tree.count {
+    if Tree::MOST <= tree.count {
         let next = Next::Stop(checks::TOO_MANY, place);
         return Step { next, tree };
     }

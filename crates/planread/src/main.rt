@@ -55,7 +55,7 @@ fn class_line(tree: Tree, i: usize)
 
 // Each class of a tree.
 fn class_lines(tree: Tree) {
-    for i in 1..64 {
+    for i in 1..Tree::CLASSES {
         class_line(tree, i);
     }
 }
@@ -88,15 +88,17 @@ fn answer(input: &[u8]) {
     }
 }
 
-// The program's input exceeds 65,536 bytes: number 10, before all else.
-const MOST: usize = 65_536;
+// The input, or number 10 before all else.
+fn judged(input: &[u8]) {
+    let verdict = checks::input_length(input.len());
+    match verdict {
+        Verdict::Passed => answer(input),
+        Verdict::Refused(n, place) => stop(n, place),
+    }
+}
 
 fn main() {
-    let mut input = [0u8; MOST + 1];
+    let mut input = [0u8; checks::MOST_INPUT + 1];
     let n = io::read_full(STDIN_FILENO, &mut input);
-    if MOST < n {
-        stop(checks::TOO_LONG, MOST);
-        return;
-    }
-    answer(&input[..n]);
+    judged(&input[..n]);
 }

@@ -47,10 +47,7 @@ fn with_step(tally: Tally, step: Step) -> Tally {
 // All lines of a run.
 fn whole(input: &[u8]) -> Tally {
     let none = Tally { lines: 0, sum: 0 };
-    if MOST < input.len() {
-        return with_line(none, Line::Stop(checks::TOO_LONG as u64, MOST as u64));
-    }
-    let mut step = run::begin(input);
+    let mut step = run::first(input);
     let mut tally = with_step(none, step);
     while step.more {
         step = run::next(step.link, input, step.place);
@@ -73,9 +70,7 @@ fn show(k: usize, tally: Tally) {
     io::write_all(STDOUT_FILENO, b"\n");
 }
 
-// The longest input that runs, and the most inputs.
-const MOST: usize = 65_536;
-
+// The most inputs.
 const RUNS: usize = 10_000;
 
 // A byte, wide.
@@ -94,8 +89,8 @@ fn next_length() -> usize
         return 0;
     }
     let n = wide(head[0]) * 65_536 + wide(head[1]) * 256 + wide(head[2]);
-    if MOST + 2 < n {
-        return MOST + 2;
+    if checks::MOST_INPUT + 2 < n {
+        return checks::MOST_INPUT + 2;
     }
     n
 }
@@ -110,7 +105,7 @@ fn read_and_run(part: &mut [u8]) -> Tally {
 fn one(k: usize, n: usize)
     requires { ⌜ n < 65_538 ⌝ }
 {
-    let mut input = [0u8; MOST + 1];
+    let mut input = [0u8; checks::MOST_INPUT + 1];
     show(k, read_and_run(&mut input[..n]));
 }
 

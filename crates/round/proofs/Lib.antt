@@ -1,5 +1,7 @@
 pub mod Sums
 pub mod Shares
 pub mod Waiting
+pub mod Searches
 pub mod Searching
-pub mod TreeP
+pub mod Visits
+pub mod DeepTree

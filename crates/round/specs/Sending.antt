@@ -1,7 +1,7 @@
 -- A send on a sound state (document 01, "Sending", steps 1 and 2, and the whole). Demand 2.
 use mathlib.Core.Bool.{Bool, true, false, cond, _&&_}
 use mathlib.Core.List.{List, [], _∷_, _++_}
-use Prim.Native.Nat.{ℕ, zero, suc, _-_}
+use Prim.Native.Nat.{ℕ, zero, suc, _+_, _-_}
 use lib.Dec.{eqb, leb, ltb}
 use lib.ListN.{length, getD, set, drop}
 use Rattle.sets.specs.Set.{has, without}
@@ -34,6 +34,22 @@ firstFrom f (suc n) p = elim (f p) [ true ↦ p | false ↦ firstFrom f n (suc p
 -- step 1: the lowest-numbered active leaf not below the place whose balance covers its first packet; 64 where the round has closed
 unfoldable pub nextLeaf : State → ℕ
 nextLeaf s = firstFrom (ready s) (64 - s .place) (s .place)
+
+-- class i is an active leaf
+unfoldable pub activeLeaf : State → ℕ → Bool
+activeLeaf s i = has (s .active) i && isLeaf (s .tree) i
+
+-- its balance covers its first packet
+unfoldable pub covers : State → ℕ → Bool
+covers s i = leb (costOf (firstOf s i .length)) (balanceOf (s .accounts) i)
+
+-- the same step as document 01 tells it, visit by visit from a place on: find the lowest-numbered active leaf not below the place. If its balance covers its
+-- first packet, it sends. Otherwise the place becomes the leaf plus 1 and the search goes on. n is as many visits as there can be (`visits-next`).
+unfoldable pub visits : ℕ → State → ℕ → ℕ
+visits zero s place = 64
+visits (suc n) s place =
+    let i = firstFrom (activeLeaf s) (64 - place) place in
+    elim (ltb i 64) [ true ↦ elim (covers s i) [ true ↦ i | false ↦ visits n s (i + 1) ] | false ↦ 64 ]
 
 -- class i turns inactive and gives what it holds to its parent's residual
 unfoldable pub givenUp : Tree → ℕ → Books → Books

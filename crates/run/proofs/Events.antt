@@ -7,7 +7,7 @@ use native.Mathlib.Omega.{arith}
 use lib.ListN.{length, drop, getD}
 use borrow.Author.Tests.{ltb-false}
 use Rattle.checks.specs.declared.Verdict.{Verdict}
-use Rattle.checks.specs.declared.Verdict.the-variants.{Passed}
+use Rattle.checks.specs.Check.{firstBroken, inputChecks}
 use Rattle.plan.specs.declared.EventRead.{EventRead}
 use Rattle.plan.specs.declared.EventRead.the-variants.{NoMore, Arrive, SendNext, Fault}
 use Rattle.plan.specs.declared.Part.the-variants.{Events}
@@ -19,8 +19,6 @@ use Rattle.plan.specs.Event.{arrivalOf, usedOf, eventAt}
 use Rattle.plan.proofs.EventLaws.{event-end, event-unknown, event-cut, event-whole, event-arrival, event-send}
 use Rattle.plan.specs.declared.PlanRead.{PlanRead}
 use Rattle.plan.specs.Reader.{planOf}
-use Rattle.plan.proofs.Numbers.{accepted}
-use Rattle.tree.specs.Rules.{PlanRules}
 use Rattle.tree.specs.Sum.{sumTo}
 use Rattle.state.specs.declared.Link.{Link}
 use Rattle.state.specs.State.{meaning}
@@ -28,7 +26,7 @@ use Rattle.state.proofs.Meaning.{meaning-held}
 use Rattle.laws.proofs.Sums.{sum-same}
 use Rattle.run.specs.declared.Step.{Step}
 use Rattle.run.specs.Event.{waitingIn, Gives, GoesOn}
-use Rattle.run.specs.Run.{planGives, beginOf}
+use Rattle.run.specs.Run.{planGives, beginOf, inputGives, firstOf}
 
 -- a record that is not cut
 cut-false : (rest : List ℕ) → cut rest ≡ false → 1 + bodyLength (kindAt rest) ≤ length rest
@@ -68,16 +66,15 @@ pub waiting-means : (l : Link) → sumTo (λ i. getD (l .held) i 0) 63 ≡ waiti
 unfolding waitingIn
 waiting-means l = sum-same _ _ 63 (λ i a b. sym (meaning-held l i (omega arith)))
 
--- an accepted plan's tree obeys the plan rules
-pub plan-rules : (s : List ℕ) (r : PlanRead) → r ≡ planOf s → r .verdict ≡ Passed → PlanRules (r .tree)
-plan-rules s r e passed =
-    let a = accepted s (sym (ap (λ (x : PlanRead). x .verdict) e) ∙ passed) in
-    subst (λ (x : PlanRead). PlanRules (x .tree)) (sym (e ∙ a .answer)) (a .rules)
-
 -- a plan's step, by its verdict
 pub begin-by : (s : List ℕ) (r : PlanRead) (v : Verdict) → r ≡ planOf s → r .verdict ≡ v → planGives v r ≡ beginOf s
 unfolding beginOf
 begin-by s r v e is = ap (λ (x : Verdict). planGives x r) (sym is) ∙ ap (λ (x : PlanRead). planGives (x .verdict) x) e
+
+-- the first step of a program's run, by the verdict on its input's length
+pub first-by : (s : List ℕ) (w v : Verdict) → w ≡ firstBroken (inputChecks (length s)) → w ≡ v → inputGives v s ≡ firstOf s
+unfolding firstOf
+first-by s w v e is = ap (λ (x : Verdict). inputGives x s) (sym is ∙ e)
 
 -- an event's step, by the event that was read
 pub gives-by : (l : Link) (input : List ℕ) (place : ℕ) (e : EventRead) (r : Step) → eventAt (drop place input) place ≡ e → Gives l place e r → GoesOn l input place r

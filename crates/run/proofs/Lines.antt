@@ -7,10 +7,12 @@ use native.Mathlib.Omega.{arith}
 use lib.ListN.{length, drop, length-drop}
 use Rattle.checks.specs.declared.Verdict.{Verdict}
 use Rattle.checks.specs.declared.Verdict.the-variants.{Passed, Refused}
+use Rattle.checks.specs.Check.{firstBroken, inputChecks}
 use Rattle.checks.proofs.Laws.{not-true-and-false, exactly-unique}
 use Rattle.plan.specs.declared.EventRead.{EventRead}
 use Rattle.plan.specs.declared.EventRead.the-variants.{NoMore, Arrive, SendNext, Fault}
 use Rattle.plan.specs.Reader.{planOf}
+use Rattle.plan.proofs.Numbers.{plan-rules}
 use Rattle.plan.specs.Event.{eventAt}
 use Rattle.state.specs.declared.Link.{Link}
 use Rattle.sound.specs.Sound.{SoundLink}
@@ -18,8 +20,8 @@ use Rattle.link.proofs.FreshLinks.{fresh-sound}
 use Rattle.lines.specs.declared.Line.{Line}
 use Rattle.run.specs.declared.Step.{Step}
 use Rattle.run.specs.Event.{eventGives, stepOf, Gives, GoesOn}
-use Rattle.run.specs.Run.{planGives, beginOf, eventLines, linesOf}
-use Rattle.run.proofs.Events.{used-fits, plan-rules}
+use Rattle.run.specs.Run.{planGives, beginOf, eventLines, linesOf, linesAfter, programLines, inputGives, firstOf}
+use Rattle.run.proofs.Events.{used-fits}
 
 -- where the run goes on, the place has moved on, and is within the input
 module _ (l : Link) (input : List ℕ) (place : ℕ) where
@@ -172,6 +174,24 @@ lines-begin input = ap (λ (rest : List Line). beginOf input .line ∷ rest) (go
         → _≡_ {A = List Line} (elim b [ true ↦ eventLines (suc (length input)) (beginOf input .link) input (beginOf input .place) | false ↦ [] ]) (following (beginOf input) input b)
     go true = refl
     go false = refl
+
+-- what a program prints is the line of its first step and, where the run goes on, the lines from there
+pub lines-first : (input : List ℕ) → programLines input ≡ firstOf input .line ∷ following (firstOf input) input (firstOf input .more)
+unfolding programLines firstOf following
+lines-first input = go (firstBroken (inputChecks (length input)))
+  where
+    go : (v : Verdict) → linesAfter v input ≡ inputGives v input .line ∷ following (inputGives v input) input (inputGives v input .more)
+    go Passed = lines-begin input
+    go (Refused n p) = refl
+
+-- it goes on with a sound link
+pub first-sound : (input : List ℕ) → firstOf input .more ≡ true → SoundLink (firstOf input .link)
+unfolding firstOf
+first-sound input m = go (firstBroken (inputChecks (length input))) m
+  where
+    go : (v : Verdict) → inputGives v input .more ≡ true → SoundLink (inputGives v input .link)
+    go Passed m = begin-sound input m
+    go (Refused n p) m = absurd (not-true-and-false m refl)
 
 -- how many steps a run has left at most: a loop over them ends
 pub stepsLeft : List ℕ → Step → ℕ

@@ -1,11 +1,11 @@
 -- The lines of a whole run, from the input's bytes (document 01, "A whole run"). Demands 1 and 2.
-use mathlib.Core.Bool.{true, false, cond}
-use mathlib.Core.List.{List, [], _∷_, _++_}
+use mathlib.Core.Bool.{true, false}
+use mathlib.Core.List.{List, [], _∷_}
 use Prim.Native.Nat.{ℕ, zero, suc}
-use lib.Dec.{ltb}
 use lib.ListN.{length}
 use Rattle.checks.specs.declared.Verdict.{Verdict}
 use Rattle.checks.specs.declared.Verdict.the-variants.{Passed, Refused}
+use Rattle.checks.specs.Check.{firstBroken, inputChecks}
 use Rattle.plan.specs.declared.PlanRead.{PlanRead}
 use Rattle.plan.specs.Reader.{planOf}
 use Rattle.state.specs.declared.Link.{Link}
@@ -14,7 +14,6 @@ use Rattle.tree.specs.Size.{roundSize}
 use Rattle.link.specs.Fresh.{freshOf}
 use Rattle.lines.specs.declared.Line.{Line}
 use Rattle.lines.specs.declared.Line.the-variants.{Link as LinkLine, Stop}
-use Rattle.lines.specs.Line.{bytesOf}
 use Rattle.run.specs.declared.Step.{Step}
 use Rattle.run.specs.Event.{stepOf}
 
@@ -45,10 +44,17 @@ linesOf input =
     s .line ∷ elim (s .more) [ true ↦ eventLines (suc (length input)) (s .link) input (s .place) | false ↦ [] ]
 
 -- what the program prints: 10 before all else, and then nothing runs
-unfoldable pub programLines : List ℕ → List Line
-programLines input = cond (ltb 65_536 (length input)) (Stop 10 65_536 ∷ []) (linesOf input)
+abbrev pub linesAfter : Verdict → List ℕ → List Line
+linesAfter Passed input = linesOf input
+linesAfter (Refused n p) input = Stop n p ∷ []
 
--- and its bytes
-unfoldable pub printed : List Line → List ℕ
-printed [] = []
-printed (line ∷ lines) = bytesOf line ++ printed lines
+unfoldable pub programLines : List ℕ → List Line
+programLines input = linesAfter (firstBroken (inputChecks (length input))) input
+
+-- its first step: the plan's, or number 10
+abbrev pub inputGives : Verdict → List ℕ → Step
+inputGives Passed input = beginOf input
+inputGives (Refused n p) input = record { line = Stop n p; more = false; link = noLink; place = 0 }
+
+unfoldable pub firstOf : List ℕ → Step
+firstOf input = inputGives (firstBroken (inputChecks (length input))) input

@@ -10,7 +10,7 @@ ghost use Rattle.tree.specs.Sum.{sumTo};
 ghost use Rattle.plan.specs.declared.EventRead.the-variants.{NoMore, Arrive, SendNext, Fault};
 ghost use Rattle.sound.specs.Sound.{SoundLink};
 ghost use Rattle.run.specs.Event.{arrivalLine, sendLine, eventGives, Gives, GoesOn};
-ghost use Rattle.run.specs.Run.{planGives, beginOf};
+ghost use Rattle.run.specs.Run.{planGives, beginOf, firstOf};
 use checks::Verdict;
 use lines::Line;
 use link::Departure;
@@ -36,12 +36,12 @@ fn wide(n: u8) -> u64
 }
 
 // The packets still waiting.
-pub fn waiting(held: [u8; 64]) -> u64
+pub fn waiting(held: [u8; Link::CLASSES]) -> u64
     ensures { λ r. ⌜ r ≡ sumTo (λ i. getD held i 0) 63 ⌝ }
 {
     let mut sum: u64 = 0;
     let mut i: usize = 1;
-    while i < 64 {
+    while i < Link::CLASSES {
         sum += wide(held[i]);
         i += 1;
     }
@@ -152,7 +152,7 @@ fn linked(read: PlanRead) -> Step
     }
 }
 
-// A run begins with its plan's line.
+// A run of input of any length begins with its plan's line.
 pub fn begin(input: &[u8]) -> Step
     ensures { λ r. ⌜ r ≡ beginOf (now (input .entry)) ⌝ }
 {
@@ -160,6 +160,17 @@ pub fn begin(input: &[u8]) -> Step
     let verdict = read.verdict;
     match verdict {
         Verdict::Passed => linked(read),
+        Verdict::Refused(n, p) => stop(Link::none(), 0, n, p),
+    }
+}
+
+// A program's run begins here: number 10 before all else, and then nothing runs.
+pub fn first(input: &[u8]) -> Step
+    ensures { λ r. ⌜ r ≡ firstOf (now (input .entry)) ⌝ }
+{
+    let verdict = checks::input_length(input.len());
+    match verdict {
+        Verdict::Passed => begin(input),
         Verdict::Refused(n, p) => stop(Link::none(), 0, n, p),
     }
 }

@@ -1,19 +1,30 @@
--- The record after a whole send: it means the state of the send's trace, and is sound. Demand 2.
+-- The record after a whole send: it means the state of the send's trace, and is sound; what the trace says of the queues. Demand 2.
 use mathlib.Core.Bool.{true}
-use mathlib.Core.List.{[]}
-use mathlib.Core.Path.{_≡_, sym, ap, subst, _∙_}
+use mathlib.Core.List.{List, [], _∷_}
+use mathlib.Core.Path.{_≡_, refl, sym, ap, subst, _∙_}
 use Prim.Native.Nat.{ℕ, _≤_}
-use lib.ListN.{length}
+use native.Mathlib.Omega.{arith}
+use lib.ListN.{length, getD, drop}
+use Rattle.tree.specs.declared.Tree.{Tree}
+use Rattle.tree.specs.Class.{isLeaf}
+use Rattle.state.specs.declared.Packet.{Packet}
 use Rattle.state.specs.declared.Link.{Link}
-use Rattle.state.specs.Queue.{Shaped, takenFirst}
-use Rattle.state.specs.State.{State, meaning}
+use Rattle.state.specs.Queue.{Shaped, noPacket, takenFirst}
+use Rattle.state.specs.State.{State, meaning, queueAt}
 use Rattle.sound.specs.Sound.{Sound, SoundLink}
 use Rattle.round.specs.Active.{someWaits}
 use Rattle.round.specs.Sending.{nextLeaf, firstOf, sentState, Trace, traceOf}
 use Rattle.laws.proofs.Rounds.{Goes, two-rounds}
+use Rattle.laws.proofs.Sender.{Sender, next-sender}
+use Rattle.laws.proofs.Sent.{sent-queue, sent-other}
 use Rattle.sending.specs.After.{linkIn, sentLink, linkAfter}
 use Rattle.sending.specs.Steps.{SendsNext}
 use Rattle.sending.proofs.Meanings.{meaning-wide, meaning-in, sent-means, sent-link-sound, waits-leaf}
+
+-- a queue that holds a packet is its first packet and the rest
+first-and-rest : (q : List Packet) → 1 ≤ length q → q ≡ getD q 0 noPacket ∷ drop 1 q
+first-and-rest [] h = absurd (omega arith)
+first-and-rest (p ∷ q) h = refl
 
 module _ (l : Link) (shape : Shaped l) (sound : SoundLink l) (waits : someWaits (meaning l) ≡ true) where
   -- how the send goes
@@ -65,3 +76,25 @@ module _ (l : Link) (shape : Shaped l) (sound : SoundLink l) (waits : someWaits 
   -- at most two rounds are opened in a call
   pub rounds-most : length (traceOf (meaning l) .turns) ≤ 2
   rounds-most = rw trace-is (goes .few)
+
+  -- ---- what goes: the first packet of a leaf's queue, which loses it, and no other queue changes
+
+  sender : Sender (goes .after) leaf
+  unfolding leaf
+  sender = next-sender (goes .after) (goes .sound) (goes .leaf)
+
+  pub trace-leaf : isLeaf (l .tree) (traceOf (meaning l) .class) ≡ true
+  trace-leaf = rw trace-is (ap (λ (t : Tree). isLeaf t leaf) (sym (goes .tree)) ∙ sender .leaf)
+
+  pub trace-queue : queueAt (meaning l) (traceOf (meaning l) .class)
+      ≡ traceOf (meaning l) .packet ∷ queueAt (traceOf (meaning l) .state) (traceOf (meaning l) .class)
+  trace-queue =
+      rw trace-is
+      (ap (λ (q : List (List Packet)). getD q leaf []) (sym (goes .queues))
+      ∙ first-and-rest (queueAt (goes .after) leaf) (sender .holds)
+      ∙ ap (λ (q : List Packet). firstOf (goes .after) leaf ∷ q) (sym (sent-queue (goes .after) leaf (goes .wide) (sender .high))))
+
+  pub trace-others : (k : ℕ) → (k ≡ traceOf (meaning l) .class → ⊥) → queueAt (traceOf (meaning l) .state) k ≡ queueAt (meaning l) k
+  trace-others k ne =
+      let other : k ≡ leaf → ⊥ = λ e. ne (e ∙ sym (ap (λ (t : Trace). t .class) trace-is)) in
+      rw trace-is (sent-other (goes .after) leaf k other ∙ ap (λ (q : List (List Packet)). getD q k []) (goes .queues))

@@ -4,6 +4,9 @@ ghost use mathlib.Core.Bool.{true, cond};
 ghost use Prim.Native.Nat.{_≤_, _<_};
 ghost use Rattle.sets.specs.Set.{has, with, without, Both, Next};
 
+// Class numbers, the root's among them: a set of them fits a 64-bit number.
+pub const CLASSES: usize = 64;
+
 // Is the class in the set?
 pub fn has(set: u64, class: usize) -> bool
     requires { ⌜ class < 64 ⌝ }
@@ -16,7 +19,7 @@ pub fn has(set: u64, class: usize) -> bool
 pub fn holds(set: u64, number: usize) -> bool
     ensures { λ r. ⌜ (r ≡ has set number) × (r ≡ true → number < 64) ⌝ }
 {
-    if 64 <= number {
+    if CLASSES <= number {
         return false;
     }
     has(set, number)
@@ -61,8 +64,8 @@ pub fn next(set: u64, place: usize) -> usize
     requires { ⌜ place ≤ 64 ⌝ }
     ensures { λ r. ⌜ Next set place r ⌝ }
 {
-    if place == 64 {
-        return 64;
+    if place == CLASSES {
+        return CLASSES;
     }
     let rest = (set >> place) << place;
     u64::trailing_zeros(rest) as usize

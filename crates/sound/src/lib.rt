@@ -48,7 +48,7 @@ fn holds_right(leaf: bool, held: u8) -> bool
     ensures { λ r. ⌜ Exactly r ((leaf ≡ true → held ≤ 32) × (leaf ≡ false → held ≡ 0)) ⌝ }
 {
     if leaf {
-        return held <= 32;
+        return held <= Link::PLACES as u8;
     }
     held == 0
 }
@@ -177,7 +177,7 @@ fn lengths_right(
 {
     let mut j: usize = 0;
     while j < held {
-        let length = lengths[class * 32 + (start + j) % 32];
+        let length = lengths[class * Link::PLACES + (start + j) % Link::PLACES];
         if length < 1 {
             return false;
         }
@@ -195,12 +195,12 @@ fn classes_right(link: Link, parents: u64) -> bool
 {
     let tree = link.tree;
     let mut i: usize = 0;
-    while i < 64 {
+    while i < Link::CLASSES {
         let start = link.start[i];
         let held = link.held[i];
         let account = link.accounts[i];
         let at = start as usize;
-        let first = link.lengths[i * 32 + at % 32];
+        let first = link.lengths[i * Link::PLACES + at % Link::PLACES];
         let v = View {
             class: i,
             count: tree.count,
@@ -225,11 +225,11 @@ fn classes_right(link: Link, parents: u64) -> bool
 }
 
 // No balance and no residual is above the size.
-fn accounts_small(accounts: [Account; 64], size: Bytes) -> bool
+fn accounts_small(accounts: [Account; Link::CLASSES], size: Bytes) -> bool
     ensures { λ r. ⌜ Exactly r (Small accounts (size .0)) ⌝ }
 {
     let mut i: usize = 0;
-    while i < 64 {
+    while i < Link::CLASSES {
         let a = accounts[i];
         if size.0 < a.balance.0 {
             return false;
@@ -243,14 +243,14 @@ fn accounts_small(accounts: [Account; 64], size: Bytes) -> bool
 }
 
 // All B and R together.
-fn accounts_total(accounts: [Account; 64]) -> Bytes
+fn accounts_total(accounts: [Account; Link::CLASSES]) -> Bytes
     requires { ⌜ Small accounts 63_580_608 ⌝ }
     ensures { λ r. ⌜ r .0 ≡ total accounts ⌝ }
 {
     let root = accounts[0];
     let mut sum = root.held();
     let mut i: usize = 1;
-    while i < 64 {
+    while i < Link::CLASSES {
         let a = accounts[i];
         sum = sum.plus(a.held());
         i += 1;
@@ -259,7 +259,7 @@ fn accounts_total(accounts: [Account; 64]) -> Bytes
 }
 
 // All B and R add to the size.
-fn adds_up(accounts: [Account; 64], size: Bytes) -> bool
+fn adds_up(accounts: [Account; Link::CLASSES], size: Bytes) -> bool
     requires { ⌜ size .0 ≤ 63_580_608 ⌝ }
     ensures { λ r. ⌜ Exactly r (total accounts ≡ size .0) ⌝ }
 {
@@ -285,7 +285,7 @@ pub fn is_sound(link: Link) -> bool
     if link.place < 1 {
         return false;
     }
-    if 64 < link.place {
+    if Link::CLASSES < link.place {
         return false;
     }
     if !adds_up(accounts, size) {

@@ -6,8 +6,8 @@ use native.Mathlib.Decide.{decLt}
 use native.Mathlib.Omega.{arith}
 use lib.ListN.{length, getD, drop, replicate, length-set, length-replicate, getD-replicate, List·getD-eq-default}
 use lib.Seq.{ext-getD}
-use Rattle.units.specs.declared.Bytes.{Bytes}
 use Rattle.tree.specs.declared.Tree.{Tree}
+use Rattle.tree.specs.Size.{roundSize}
 use Rattle.state.specs.declared.Link.{Link}
 use Rattle.state.specs.declared.Packet.{Packet}
 use Rattle.state.specs.Account.{account, noAccount}
@@ -57,15 +57,15 @@ none-held i = go (decLt i 64)
     go (yes h) = getD-replicate {A = ℕ} 64 i 0 0 h
     go (no h) = List·getD-eq-default (noLink .held) 0 {n = i} (omega arith)
 
-pub fresh-queues : (t : Tree) (q : Bytes) (i : ℕ) → queueOf (freshLink t q) i ≡ []
-fresh-queues t q i = queue-none (freshLink t q) i (none-held i)
+pub fresh-queues : (t : Tree) (i : ℕ) → queueOf (freshLink t) i ≡ []
+fresh-queues t i = queue-none (freshLink t) i (none-held i)
 
 pub none-queues : (i : ℕ) → queueOf noLink i ≡ []
 none-queues i = queue-none noLink i (none-held i)
 
-pub shaped-fresh : (t : Tree) (q : Bytes) → Shaped (freshLink t q)
-shaped-fresh t q = record {
-  accounts = length-set (replicate 64 noAccount) 0 (account (q .0) 0) ∙ length-replicate 64 noAccount;
+pub shaped-fresh : (t : Tree) → Shaped (freshLink t)
+shaped-fresh t = record {
+  accounts = length-set (replicate 64 noAccount) 0 (account (roundSize t) 0) ∙ length-replicate 64 noAccount;
   start = length-replicate {A = ℕ} 64 0;
   held = length-replicate {A = ℕ} 64 0;
   lengths = length-replicate {A = ℕ} 2_048 0;

@@ -2,9 +2,9 @@
 use mathlib.Core.List.{List, []}
 use Prim.Native.Nat.{ℕ}
 use lib.ListN.{getD, set, replicate}
-use Rattle.units.specs.declared.Bytes.{Bytes}
 use Rattle.tree.specs.declared.Tree.{Tree}
 use Rattle.tree.specs.Class.{noTree}
+use Rattle.tree.specs.Size.{roundSize}
 use Rattle.state.specs.declared.Account.{Account}
 use Rattle.state.specs.declared.Link.{Link}
 use Rattle.state.specs.declared.Packet.{Packet}
@@ -50,13 +50,13 @@ abbrev pub withQueue : State → ℕ → List Packet → State
 withQueue s i q = withQueues s (set (s .queues) i q)
 
 -- a fresh link: root balance Q, every other B and R zero, queues empty, nothing active, place 64
-abbrev pub freshLink : Tree → Bytes → Link
-freshLink t size = record {
+abbrev pub freshLink : Tree → Link
+freshLink t = record {
   tree = t;
-  size = size;
+  size = record { 0 = roundSize t };
   active = 0;
   place = 64;
-  accounts = set (replicate 64 noAccount) 0 (account (size .0) 0);
+  accounts = set (replicate 64 noAccount) 0 (account (roundSize t) 0);
   start = replicate 64 0;
   held = replicate 64 0;
   lengths = replicate 2_048 0;

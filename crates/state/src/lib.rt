@@ -2,6 +2,7 @@
 // Serves demand 2: each step is one equation, and what a state means is its packets in order, not where they lie.
 ghost use mathlib.Core.Path.{_≡_};
 ghost use Prim.Native.Nat.{_+_, _^_, _<_, _≤_};
+ghost use Rattle.tree.specs.Rules.{PlanRules};
 ghost use Rattle.state.specs.Account.{noAccount, tookQuota, handedDown, sentFrom, gained, returned, received, heldBy};
 ghost use Rattle.state.specs.Queue.{startOf, heldOf, packetAt, putLast, takenFirst};
 ghost use Rattle.state.specs.State.{freshLink, noLink};
@@ -26,9 +27,9 @@ pub struct Link {
     pub size: Bytes,
     pub active: u64,
     pub place: usize,
-    pub accounts: [Account; 64],
-    pub start: [u8; 64],
-    pub held: [u8; 64],
+    pub accounts: [Account; Link::CLASSES],
+    pub start: [u8; Link::CLASSES],
+    pub held: [u8; Link::CLASSES],
     pub lengths: [u16; 2048],
     pub tags: [u32; 2048],
 }
@@ -49,8 +50,10 @@ impl Account {
         requires { ⌜ self .balance .0 + self .residual .0 + due .0 < 2 ^ 64 ⌝ }
         ensures { λ r. ⌜ r ≡ tookQuota self (due .0) ⌝ }
     {
+        let balance = self.balance;
+        let residual = self.residual;
         Account {
-            balance: Bytes(self.balance.0 + self.residual.0 + due.0),
+            balance: balance.plus(residual).plus(due),
             residual: Bytes(0),
         }
     }
@@ -60,9 +63,10 @@ impl Account {
         requires { ⌜ due .0 ≤ self .balance .0 ⌝ }
         ensures { λ r. ⌜ r ≡ handedDown self (due .0) ⌝ }
     {
+        let balance = self.balance;
         let residual = self.residual;
         Account {
-            balance: Bytes(self.balance.0 - due.0),
+            balance: balance.less(due),
             residual,
         }
     }
@@ -72,9 +76,10 @@ impl Account {
         requires { ⌜ cost .0 ≤ self .balance .0 ⌝ }
         ensures { λ r. ⌜ r ≡ sentFrom self (cost .0) ⌝ }
     {
+        let balance = self.balance;
         let residual = self.residual;
         Account {
-            balance: Bytes(self.balance.0 - cost.0),
+            balance: balance.less(cost),
             residual,
         }
     }
@@ -84,9 +89,10 @@ impl Account {
         requires { ⌜ self .balance .0 + cost .0 < 2 ^ 64 ⌝ }
         ensures { λ r. ⌜ r ≡ gained self (cost .0) ⌝ }
     {
+        let balance = self.balance;
         let residual = self.residual;
         Account {
-            balance: Bytes(self.balance.0 + cost.0),
+            balance: balance.plus(cost),
             residual,
         }
     }
@@ -104,9 +110,10 @@ impl Account {
         ensures { λ r. ⌜ r ≡ received self (given .0) ⌝ }
     {
         let balance = self.balance;
+        let residual = self.residual;
         Account {
             balance,
-            residual: Bytes(self.residual.0 + given.0),
+            residual: residual.plus(given),
         }
     }
 
@@ -115,29 +122,33 @@ impl Account {
         requires { ⌜ self .balance .0 + self .residual .0 < 2 ^ 64 ⌝ }
         ensures { λ r. ⌜ r .0 ≡ heldBy self ⌝ }
     {
-        Bytes(self.balance.0 + self.residual.0)
+        let balance = self.balance;
+        let residual = self.residual;
+        balance.plus(residual)
     }
 }
 
 impl Link {
     // Class numbers, the root's among them.
-    pub const CLASSES: usize = 64;
+    pub const CLASSES: usize = Tree::CLASSES;
     // Waiting places of each class.
     pub const PLACES: usize = 32;
 
     // A fresh link: root balance Q, every other B and R zero, queues empty, nothing active, place 64.
-    pub fn fresh(tree: Tree, size: Bytes) -> Link
-        ensures { λ r. ⌜ r ≡ freshLink tree size ⌝ }
+    pub fn fresh(tree: Tree) -> Link
+        requires { ⌜ PlanRules tree ⌝ }
+        ensures { λ r. ⌜ r ≡ freshLink tree ⌝ }
     {
+        let size = tree::round_size(tree);
         let none = Account::none();
         let root = Account {
             balance: size,
             residual: Bytes(0),
         };
-        let mut accounts = [none; 64];
+        let mut accounts = [none; Link::CLASSES];
         accounts[0] = root;
-        let start = [0u8; 64];
-        let held = [0u8; 64];
+        let start = [0u8; Link::CLASSES];
+        let held = [0u8; Link::CLASSES];
         let lengths = [0u16; 2048];
         let tags = [0u32; 2048];
         Link {
@@ -158,9 +169,9 @@ impl Link {
         ensures { λ r. ⌜ r ≡ noLink ⌝ }
     {
         let none = Account::none();
-        let accounts = [none; 64];
-        let start = [0u8; 64];
-        let held = [0u8; 64];
+        let accounts = [none; Link::CLASSES];
+        let start = [0u8; Link::CLASSES];
+        let held = [0u8; Link::CLASSES];
         let lengths = [0u16; 2048];
         let tags = [0u32; 2048];
         Link {

@@ -1,7 +1,7 @@
 -- A tree grown class by class: what a new class sets, what it leaves as it was, and that it breaks no rule of the others. Demand 1.
 use mathlib.Core.Bool.{Bool, true, false, cond}
 use mathlib.Core.Path.{_≡_, refl, sym, ap, _∙_}
-use Prim.Native.Nat.{ℕ, _+_, _≤_, _<_}
+use Prim.Native.Nat.{ℕ, _+_, _^_, _≤_, _<_}
 use native.Mathlib.Decide.{decLe, ℕ-discrete}
 use native.Mathlib.Omega.{arith}
 use lib.Dec.{leb}
@@ -10,12 +10,12 @@ use lib.Seq.{getD-set-same, getD-set-other}
 use borrow.Author.Tests.{leb-false}
 use Rattle.checks.proofs.Laws.{not-true-and-false}
 use Rattle.sets.specs.Set.{has, with}
-use Rattle.sets.proofs.Laws.{has-with-same, has-with-other, has-empty}
+use Rattle.sets.proofs.Laws.{has-with-same, has-with-other, has-empty, with-fits}
 use Rattle.units.specs.declared.Weight.{Weight}
 use Rattle.tree.specs.declared.Tree.{Tree}
 use Rattle.tree.specs.declared.Class.{Class}
 use Rattle.tree.specs.Class.{noTree, noWeight, added, parentOf, weightOf, longestOf, isClass, isLeaf}
-use Rattle.tree.specs.Rules.{badParent, badWeight, badLongest, ClassesPass, UnsetIsZero}
+use Rattle.tree.specs.Rules.{badParent, badWeight, badLongest, ClassesPass, UnsetIsZero, AllUnsetZero}
 use Rattle.tree.proofs.Classes.{neither-true, class-in, class-range, class-past}
 
 -- what the other classes have stays
@@ -42,7 +42,7 @@ pub record Grown (t : Tree) : Type 0 where
   pub parents : length (t .parent) ≡ 64
   pub weights : length (t .weight) ≡ 64
   pub longests : length (t .longest) ≡ 64
-  pub unset : (i : ℕ) → i < 64 → UnsetIsZero t i
+  pub unset : AllUnsetZero t
 
 -- a class record sets a longest packet only for a leaf
 abbrev pub Proper : Class → Type 0
@@ -65,7 +65,7 @@ module _ (t : Tree) (c : Class) (g : Grown t) (room : t .count < 63) where
     where
       go : (b : Bool) → has (cond b (with (t .leaves) (t .count + 1)) (t .leaves)) (t .count + 1) ≡ b
       go true = has-with-same (t .leaves) (t .count + 1)
-      go false = g .unset (t .count + 1) (omega arith) .past (class-past t (t .count + 1) (omega arith)) .leaf
+      go false = g .unset .at (t .count + 1) (omega arith) .past (class-past t (t .count + 1) (omega arith)) .leaf
 
 -- which numbers are classes
 pub class-grows : (t : Tree) (c : Class) (i : ℕ) → isClass (added t c) i ≡ false → isClass t i ≡ false
@@ -84,14 +84,18 @@ none-grown = record {
   parents = length-replicate {A = ℕ} 64 0;
   weights = length-replicate 64 noWeight;
   longests = length-replicate {A = ℕ} 64 0;
-  unset = λ i u. record {
-    past = λ e. record {
-      parent = getD-replicate 64 i 0 0 u;
-      weight = ap (λ (w : Weight). w .0) (getD-replicate 64 i noWeight noWeight u);
-      leaf = has-empty i;
-    };
-    longest = λ e. getD-replicate 64 i 0 0 u;
-  };
+  unset =
+      record {
+        at = λ i u. record {
+          past = λ e. record {
+            parent = getD-replicate 64 i 0 0 u;
+            weight = ap (λ (w : Weight). w .0) (getD-replicate 64 i noWeight noWeight u);
+            leaf = has-empty i;
+          };
+          longest = λ e. getD-replicate 64 i 0 0 u;
+        };
+        word = omega arith;
+      };
 }
 
 pub added-grown : (t : Tree) (c : Class) → Grown t → t .count < 63 → Proper c → Grown (added t c)
@@ -99,9 +103,13 @@ added-grown t c g room proper = record {
   parents = length-set (t .parent) _ _ ∙ g .parents;
   weights = length-set (t .weight) _ _ ∙ g .weights;
   longests = length-set (t .longest) _ _ ∙ g .longests;
-  unset = λ i u. at i u (ℕ-discrete i (t .count + 1));
+  unset = record { at = λ i u. at i u (ℕ-discrete i (t .count + 1)); word = word (c .leaf) };
 }
   where
+    word : (b : Bool) → cond b (with (t .leaves) (t .count + 1)) (t .leaves) < 2 ^ 64
+    word true = with-fits (t .leaves) (t .count + 1) (g .unset .word) (omega arith)
+    word false = g .unset .word
+
     at : (i : ℕ) → i < 64 → Dec (i ≡ t .count + 1) → UnsetIsZero (added t c) i
     at i u (yes e) = record {
       past = λ p. absurd (not-true-and-false (class-in (added t c) i (omega arith) (omega arith)) p);
@@ -110,13 +118,13 @@ added-grown t c g room proper = record {
     }
     at i u (no n) = record {
       past = λ p.
-          let h = g .unset i u .past (class-grows t c i p) in
+          let h = g .unset .at i u .past (class-grows t c i p) in
           record {
             parent = parent-stays t c i n ∙ h .parent;
             weight = weight-stays t c i n ∙ h .weight;
             leaf = leaf-stays t c i n ∙ h .leaf;
           };
-      longest = λ l. longest-stays t c i n ∙ g .unset i u .longest (sym (leaf-stays t c i n) ∙ l);
+      longest = λ l. longest-stays t c i n ∙ g .unset .at i u .longest (sym (leaf-stays t c i n) ∙ l);
     }
 
 -- a class that breaks no row breaks none in the grown tree

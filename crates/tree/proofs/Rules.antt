@@ -2,9 +2,12 @@
 use mathlib.Core.Bool.{Bool, true, false, cond}
 use mathlib.Core.Path.{_≡_, refl}
 use Prim.Native.Nat.{ℕ, _≤_, _<_, zero-le}
+use native.Mathlib.Decide.{decLt}
 use native.Mathlib.Omega.{arith}
 use lib.Dec.{leb, ltb}
 use borrow.Author.Tests.{ltb-false, leb-false, eqb-false}
+use Rattle.checks.proofs.Laws.{not-true-and-false}
+use Rattle.sets.proofs.Laws.{has-past}
 use Rattle.units.specs.Cost.{costOf}
 use Rattle.units.proofs.Laws.{cost-ceiling}
 use Rattle.tree.specs.declared.Tree.{Tree}
@@ -22,6 +25,15 @@ few-classes t r = ltb-false 63 (t .count) (r .few)
 pub some-class : (t : Tree) → PlanRules t → 1 ≤ t .count
 unfolding noClass
 some-class t r = let ne = eqb-false (t .count) 0 (r .closing .classes) in omega (arith, ne)
+
+-- a leaf is one of the 64 class numbers
+pub leaf-number : (t : Tree) (i : ℕ) → PlanRules t → isLeaf t i ≡ true → i < 64
+unfolding isLeaf
+leaf-number t i r leaf = go (decLt i 64)
+  where
+    go : Dec (i < 64) → i < 64
+    go (yes u) = u
+    go (no u) = absurd (not-true-and-false leaf (has-past (t .leaves) i (r .unset .word) (omega arith)))
 
 -- 4: the parent is lower, and no leaf
 pub parent-lower : (t : Tree) (i : ℕ) → PlanRules t → isClass t i ≡ true → parentOf t i < i

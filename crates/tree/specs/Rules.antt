@@ -2,7 +2,7 @@
 use mathlib.Core.Bool.{Bool, true, false, _&&_, _||_, not}
 use mathlib.Core.List.{List, [], _∷_}
 use mathlib.Core.Path.{_≡_}
-use Prim.Native.Nat.{ℕ, _≤_, _<_}
+use Prim.Native.Nat.{ℕ, _^_, _≤_, _<_}
 use lib.Dec.{eqb, leb, ltb}
 use Rattle.checks.specs.Check.{Check, check, classByClass}
 use Rattle.tree.specs.declared.Tree.{Tree}
@@ -71,8 +71,10 @@ pub record UnsetIsZero (t : Tree) (i : ℕ) : Type 0 where
   pub past : isClass t i ≡ false → NothingSet t i
   pub longest : isLeaf t i ≡ false → longestOf t i ≡ 0
 
+-- the set of leaves is a 64-bit number, so no larger number is a leaf either
 pub record AllUnsetZero (t : Tree) : Type 0 where
   pub at : (i : ℕ) → i < 64 → UnsetIsZero t i
+  pub word : t .leaves < 2 ^ 64
 
 -- a tree obeys the plan rules: rows 3 to 9 are broken nowhere, and what a plan does not set is 0
 pub record PlanRules (t : Tree) : Type 0 where

@@ -15,9 +15,9 @@ use units::Weight;
 pub struct Tree {
     pub count: usize,
     pub leaves: u64,
-    pub parent: [u8; 64],
-    pub weight: [Weight; 64],
-    pub longest: [u16; 64],
+    pub parent: [u8; Tree::CLASSES],
+    pub weight: [Weight; Tree::CLASSES],
+    pub longest: [u16; Tree::CLASSES],
 }
 
 // One class record of a plan; an inner class has no longest packet.
@@ -29,14 +29,19 @@ pub struct Class {
 }
 
 impl Tree {
+    // Class numbers, the root's among them.
+    pub const CLASSES: usize = sets::CLASSES;
+    // Classes of a plan at most: all but the root.
+    pub const MOST: usize = Tree::CLASSES - 1;
+
     // The tree without classes.
     pub fn none() -> Tree
         ensures { λ r. ⌜ r ≡ noTree ⌝ }
     {
-        let parent = [0u8; 64];
+        let parent = [0u8; Tree::CLASSES];
         let none = Weight(0);
-        let weight = [none; 64];
-        let longest = [0u16; 64];
+        let weight = [none; Tree::CLASSES];
+        let longest = [0u16; Tree::CLASSES];
         Tree {
             count: 0,
             leaves: 0,
@@ -275,7 +280,7 @@ fn all_unset_zero(tree: Tree) -> bool
     ensures { λ r. ⌜ Exactly r (AllUnsetZero tree) ⌝ }
 {
     let mut i: usize = 0;
-    while i < 64 {
+    while i < Tree::CLASSES {
         if !unset_is_zero(tree, i) {
             return false;
         }
@@ -288,7 +293,7 @@ fn all_unset_zero(tree: Tree) -> bool
 pub fn is_plan(tree: Tree) -> bool
     ensures { λ r. ⌜ Exactly r (PlanRules tree) ⌝ }
 {
-    if 63 < tree.count {
+    if Tree::MOST < tree.count {
         return false;
     }
     if !classes_pass(tree) {

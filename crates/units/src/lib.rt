@@ -29,6 +29,14 @@ impl Bytes {
     {
         Bytes(self.0 + other.0)
     }
+
+    // A byte count less another.
+    pub fn less(self, other: Bytes) -> Bytes
+        requires { ⌜ other .0 ≤ self .0 ⌝ }
+        ensures { λ r. ⌜ r .0 ≡ self .0 - other .0 ⌝ }
+    {
+        Bytes(self.0 - other.0)
+    }
 }
 
 // Weight times fair quota gives bytes.

@@ -10,5 +10,5 @@ pub mod WhatGoes
 pub mod BoundedWait
 pub mod OverCalls
 pub mod LinkWait
-pub mod OnTreeP
+pub mod TwoLeaves
 pub mod StandIns

@@ -1,4 +1,4 @@
--- Stand-ins that the contracts reject (document 01, "How tight the contracts must be"): for each, a call of tree P that shows it. Demand 2.
+-- Stand-ins that the contracts reject (document 01, "How tight the contracts must be"): for each, a call on a fresh link of a tree of two leaves that shows it. Demand 2.
 use mathlib.Core.Bool.{true}
 use mathlib.Core.Path.{_≡_, refl, sym, ap, _∙_}
 use Prim.Native.Nat.{ℕ}
@@ -7,7 +7,6 @@ use lib.ListN.{length}
 use Rattle.checks.specs.declared.Verdict.the-variants.{Refused}
 use Rattle.checks.specs.Check.{firstBroken}
 use Rattle.checks.proofs.Laws.{not-both, not-true-and-false, exactly-yes}
-use Rattle.tree.specs.Size.{roundSize}
 use Rattle.state.specs.declared.Link.{Link}
 use Rattle.state.specs.declared.Packet.{Packet}
 use Rattle.state.specs.Queue.{Shaped}
@@ -20,12 +19,12 @@ use Rattle.link.specs.declared.Answered.{Answered}
 use Rattle.link.specs.declared.Departure.{Departure}
 use Rattle.link.specs.Arrival.{arrivalChecks, arrivalOf, Arrives}
 use Rattle.link.specs.Send.{departs, sendOf, Sends}
-use Rattle.link.proofs.Arrivals.{arrives-as}
+use Rattle.link.proofs.Arrivals.{arrives-as, arrives-by}
 use Rattle.link.proofs.Departures.{send-goes, sends-as, sends-by}
 use Rattle.link.proofs.FreshLinks.{fresh-sound}
 use Rattle.wait.specs.Calls.{afterArrival}
 use Rattle.wait.proofs.OverCalls.{Gives, arrival-verdict, arrival-gives, send-gives}
-use Rattle.wait.proofs.OnTreeP.{treeP, rules, fresh, first, second, withFirst, withBoth, sentOnce, arrivals-pass, arrivals-wait, two-sends}
+use Rattle.wait.proofs.TwoLeaves.{tree, rules, fresh, first, second, withFirst, withBoth, sentOnce, arrivals-pass, arrivals-wait, two-sends}
 
 -- an arrival and a send that meet their contracts on every sound link whose lists have the lengths of its arrays
 pub record Meets (arrive : Link → ℕ → Packet → Answered) (send : Link → Departure) : Type 0 where
@@ -36,7 +35,7 @@ pub record Meets (arrive : Link → ℕ → Packet → Answered) (send : Link �
 pub rules-meet : Meets (arrivalOf true) (sendOf true)
 rules-meet = record {
   arrivals = λ l i p shape sound.
-      record { sound = true; exactly = exactly-yes sound; answer = refl; keeps = λ s. arrival-gives l i p shape sound .sound };
+      arrives-by l i p true (arrivalOf true l i p) shape (exactly-yes sound) refl;
   sends = λ l shape sound. sends-by l true (sendOf true l) shape (exactly-yes sound) refl;
 }
 
@@ -65,29 +64,29 @@ module _ (arrive : Link → ℕ → Packet → Answered) (send : Link → Depart
       rw (sends-as l (send l) (g .sound) (meets .sends l (g .shape) (g .sound)), ← g .means)
       (send-gives l (g .shape) (g .sound) (ap someWaits (g .means) ∙ w))
 
-  -- ---- the calls on tree P
+  -- ---- the calls on the two leaves
 
   starts : Gives fresh (meaning fresh)
   unfolding fresh
-  starts = record { shape = shaped-fresh treeP (record { 0 = roundSize treeP }); sound = fresh-sound treeP rules; means = refl }
+  starts = record { shape = shaped-fresh tree; sound = fresh-sound tree rules; means = refl }
 
   -- the link with the first packet, with both, and after a send
   abbrev pub one : Link
-  one = arrive fresh 2 first .link
+  one = arrive fresh 1 first .link
 
   abbrev pub two : Link
-  two = arrive one 4 second .link
+  two = arrive one 2 second .link
 
   abbrev pub gone : Link
   gone = send two .link
 
   one-gives : Gives one withFirst
   unfolding withFirst
-  one-gives = arrive-after fresh (meaning fresh) 2 first starts
+  one-gives = arrive-after fresh (meaning fresh) 1 first starts
 
   two-gives : Gives two withBoth
   unfolding withBoth
-  two-gives = arrive-after one withFirst 4 second one-gives
+  two-gives = arrive-after one withFirst 2 second one-gives
 
   gone-gives : Gives gone sentOnce
   unfolding sentOnce
@@ -108,17 +107,17 @@ module _ (arrive : Link → ℕ → Packet → Answered) (send : Link → Depart
   -- ---- the stand-ins
 
   -- a link that refuses everything
-  pub refuses-everything : (n q : ℕ) → arrive fresh 2 first .verdict ≡ Refused n q → ⊥
-  refuses-everything n q e = not-both (arrive-verdict fresh (meaning fresh) 2 first starts ∙ arrivals-pass .0) e
+  pub refuses-everything : (n q : ℕ) → arrive fresh 1 first .verdict ≡ Refused n q → ⊥
+  refuses-everything n q e = not-both (arrive-verdict fresh (meaning fresh) 1 first starts ∙ arrivals-pass .0) e
 
   pub sends-nothing : (n q : ℕ) → send two .verdict ≡ Refused n q → ⊥
   sends-nothing n q e = not-both (ap (λ (d : Departure). d .verdict) sent-first) e
 
-  -- one with a fixed answer: an arrival to a leaf and one to an inner class differ; no tag is that of every send
-  pub fixed-verdict : arrive fresh 2 first .verdict ≡ arrive fresh 1 first .verdict → ⊥
+  -- one with a fixed answer: an arrival to a leaf and one to a number that is no class differ; no tag is that of every send
+  pub fixed-verdict : arrive fresh 1 first .verdict ≡ arrive fresh 3 first .verdict → ⊥
   fixed-verdict e =
-      not-both (arrive-verdict fresh (meaning fresh) 2 first starts ∙ arrivals-pass .0)
-      (e ∙ arrive-verdict fresh (meaning fresh) 1 first starts ∙ arrivals-pass .1)
+      not-both (arrive-verdict fresh (meaning fresh) 1 first starts ∙ arrivals-pass .0)
+      (e ∙ arrive-verdict fresh (meaning fresh) 3 first starts ∙ arrivals-pass .1)
 
   pub fixed-answer : (tag : ℕ) → ((l : Link) → Shaped l → SoundLink l → send l .tag ≡ tag) → ⊥
   fixed-answer tag e =
@@ -132,8 +131,8 @@ module _ (arrive : Link → ℕ → Packet → Answered) (send : Link → Depart
 
   pub untouched-next : meaning two ≡ meaning one → ⊥
   untouched-next e =
-      not-true-and-false (ap (λ (s : State). waits s 4) (two-gives .means) ∙ arrivals-wait .3)
-      (ap (λ (s : State). waits s 4) (e ∙ one-gives .means) ∙ arrivals-wait .2)
+      not-true-and-false (ap (λ (s : State). waits s 2) (two-gives .means) ∙ arrivals-wait .3)
+      (ap (λ (s : State). waits s 2) (e ∙ one-gives .means) ∙ arrivals-wait .2)
 
   -- one that works on the first call and then repeats
   pub repeats : send gone .tag ≡ send two .tag → ⊥

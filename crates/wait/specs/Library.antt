@@ -1,18 +1,21 @@
--- The run up to one packet's departure over the library's calls: it reads their answers alone. Demand 3.
-use mathlib.Core.Bool.{true}
+-- The run of the library up to one packet's departure: it reads the calls' answers alone. Demand 3.
 use mathlib.Core.List.{List, [], _∷_}
 use Prim.Native.Nat.{ℕ}
 use lib.Dec.{eqb}
 use Rattle.checks.specs.Check.{passed}
 use Rattle.state.specs.declared.Link.{Link}
-use Rattle.link.specs.Arrival.{arrivalOf}
-use Rattle.link.specs.Send.{sendOf}
+use Rattle.link.specs.Progress.{packetOf}
+use Rattle.link.specs.Run.{Run, ends, arrival as arrives, send as sends}
 use Rattle.wait.specs.Calls.{Call, arrival, send, Followed, stillWaits, oneSend}
 
--- the calls on a sound link are what their contracts determine (`arrives-as` and `sends-as` of link/proofs)
-unfoldable pub followCalls : ℕ → ℕ → List Call → Link → Followed
-followCalls i k [] l = stillWaits
-followCalls i k (arrival j p ∷ calls) l = followCalls i k calls (arrivalOf true l j p .link)
-followCalls i k (send ∷ calls) l =
-    let d = sendOf true l in
-    oneSend (passed (d .verdict)) (eqb (d .class) i) (record { length = d .length; tag = d .tag }) k (λ m. followCalls i m calls (d .link))
+-- the calls of a run
+unfoldable pub callsOf : {l : Link} → Run l → List Call
+callsOf (ends l) = []
+callsOf (arrives l j p a meets rest) = arrival j p ∷ callsOf rest
+callsOf (sends l d meets rest) = send ∷ callsOf rest
+
+-- the run up to the departure of the packet of class i that has k packets before it
+unfoldable pub followed : ℕ → ℕ → {l : Link} → Run l → Followed
+followed i k (ends l) = stillWaits
+followed i k (arrives l j p a meets rest) = followed i k rest
+followed i k (sends l d meets rest) = oneSend (passed (d .verdict)) (eqb (d .class) i) (packetOf d) k (λ m. followed i m rest)

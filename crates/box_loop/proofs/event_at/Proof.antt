@@ -1,14 +1,17 @@
--- `box_loop::event_at` meets its contract: each call uses some of the input.
-use mathlib.Core.Path.{_≡_, sym, ap, _∙_}
+-- `box_loop::event_at` meets its contract: it is the event at the place, and each call uses some of the input.
+use mathlib.Core.Bool.{false, true}
+use mathlib.Core.Path.{_≡_, refl, sym, ap, _∙_}
 use mathlib.Core.List.{List}
 use Prim.Native.Nat.{ℕ, _+_, _-_, _≤_, _<_, _^_}
 use native.Mathlib.Omega.{arith}
 use denote.Ref.{now}
-use lib.ListN.{length, length-drop}
+use lib.ListN.{length, drop, length-drop}
 use Rattle.plan.specs.declared.EventRead.{EventRead}
-use Rattle.plan.specs.declared.EventRead.the-variants.{Arrive, SendNext}
+use Rattle.plan.specs.declared.EventRead.the-variants.{NoMore, Arrive, SendNext, Fault}
 use Rattle.plan.specs.Event.{usedOf, eventAt}
 use Rattle.run.proofs.Events.{used-fits}
+use Rattle.box_loop.specs.Loop.{plainEvent}
+use Rattle.box_loop.proofs.Taken.{comes}
 use borrow.Author.Needs.{needs}
 use Rattle.box_loop.proofs.event_at.Statement.{statement}
 use Rattle.box_loop.proofs.event_at.Tie as tie
@@ -59,17 +62,35 @@ enum-told-3 c = search needs
 plain-requires-3 : tie.Need-plain-requires-3
 plain-requires-3 c κs = search needs
 
+-- the event that was read at the place
+read-is : (c : tie.After-read-event) (e : EventRead) → c .read-event .result ≡ e
+    → eventAt (drop (c .before .before .before .args .place) (now (c .before .before .before .args .input))) (c .before .before .before .args .place) ≡ e
+read-is c e told =
+    let a = c .before .before .before .args in
+    ap (λ (s : List ℕ). eventAt s (a .place)) (sym (c .before .events-after .ensures .0)) ∙ sym (c .read-event .ensures) ∙ told
+
 returns : tie.Need-returns
-returns c = rw (c .plain .ensures .0) (omega arith)
+returns c =
+    let v = c .before in
+    let told = v .enum-told .given .1 in
+    comes _ _ NoMore _ (read-is (v .before .before) NoMore told) (c .plain .ensures ∙ ap (plainEvent false _) told)
 
 returns-2 : tie.Need-returns-2
-returns-2 c = let v = c .before .before in omega (arith, within (v .before .before) (Arrive (v .read .given .0 .0)) (v .read .given .1) .0)
+returns-2 c =
+    let v = c .before .before in
+    comes _ _ (Arrive (v .read .given .0 .0)) _ (read-is (v .before .before) _ (v .read .given .1)) refl
 
 returns-3 : tie.Need-returns-3
-returns-3 c = rw (c .plain2 .ensures .0, c .plain2 .ensures .1) (let v = c .before in omega (arith, within (v .before .before) SendNext (v .enum-told2 .given .1) .0))
+returns-3 c =
+    let v = c .before in
+    let told = v .enum-told2 .given .1 in
+    comes _ _ SendNext _ (read-is (v .before .before) SendNext told) (c .plain2 .ensures ∙ ap (plainEvent true _) told)
 
 returns-4 : tie.Need-returns-4
-returns-4 c = rw (c .plain3 .ensures .0) (omega arith)
+returns-4 c =
+    let v = c .before in
+    let told = v .enum-told3 .given in
+    comes _ _ (Fault (told .0 .0) (told .0 .1 .0)) _ (read-is (v .before .before) _ (told .1)) (c .plain3 .ensures ∙ ap (plainEvent false _) (told .1))
 
 pub event-at-spec : {M : Type 1} → statement M
 event-at-spec =

@@ -53,7 +53,7 @@ use Rattle.link.specs.Send.{Sends}
 use Rattle.lent.specs.declared.Departed.{Departed}
 use Rattle.lent.specs.Answers.{answered, departure}
 use Rattle.box_loop.specs.declared.Event.{Event}
-use Rattle.box_loop.specs.Left.{left}
+use Rattle.box_loop.specs.Loop.{left, Comes}
 use Rattle.lent.proofs.Lends.{lval, Known}
 use Rattle.lent.proofs.Returns.{returned}
 use Rattle.lent.proofs.Loans.{loan}
@@ -248,7 +248,7 @@ module _ {M : Type 1} (𝓤 : URA M) (H : Heap 𝓤) (A : Atoms 𝓤) (W : Given
       nothing ! $ move ! (3 ∷ 0 ∷ []) $ join ! $ join ! $ use1 W (raw (Reads 𝓤 H A at-mem run .pre (to-event i))) (∗emp 𝓤 _) $ frame ! $ done !
 
   abbrev Less : ℕ → Event → Type 0
-  Less i e = left n e < suc (n - i)
+  Less i e = Comes (s .now) i e
 
   event-said : (i : ℕ) (e : Event) → ent 𝓤 (ensured 𝓤 H A event-at.ended (event-at.clauses 𝓤 H A at-mem run) (κ, tt) (s, (i, tt)) tt e) (fact 𝓤 (Less i e))
   event-said i e = exE 𝓤 _ (λ ws. snd∗ 𝓤 (sem 𝓤 H A (lasts event-at.ended (κ, tt) (s, (i, tt)) ws)) (fact 𝓤 (Less i e)))
@@ -319,7 +319,7 @@ module _ {M : Type 1} (𝓤 : URA M) (H : Heap 𝓤) (A : Atoms 𝓤) (W : Given
         -- [the token; input; _4; _5; …]
         land-last ! (from ! (stop !)) (store ! 3 refl (typed-event e u is)) $ rewrite ! 3 (λ (us : List Val). ‵ (fat fullShare Ev′.mir l₅ zero (only us))) (LL.tells Ev.the-type Ev′.the-laws e (u ∷ []) is) refl $
         move ! (2 ∷ 3 ∷ 4 ∷ 5 ∷ 6 ∷ 7 ∷ 8 ∷ 9 ∷ 10 ∷ 11 ∷ 1 ∷ 0 ∷ []) $
-        again ! Fewer Inv t (record { link = m; known = ism; event = e; is-event = told-event e u is }) (subst (λ (b : Bool). left n e < if b (suc (n - i)) 0) (sym on) less)))
+        again ! Fewer Inv t (record { link = m; known = ism; event = e; is-event = told-event e u is }) (subst (λ (b : Bool). left n e < if b (suc (n - i)) 0) (sym on) (less .less))))
 
     -- an arrival
     arrives : (t : Turn) → t .event .call ≡ true → ent 𝓤 (⋆ 𝓤 H A (At (t .link) (t .event))) (Wp 𝓤 H C Λ En arriveᴹ (afterSeq 𝓤 H (Wp 𝓤 H C Λ En againᴹ (Ends t)) (Ends t)))

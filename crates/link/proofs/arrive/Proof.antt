@@ -8,7 +8,6 @@ use Rattle.checks.specs.Check.{firstBroken}
 use Rattle.tree.specs.Class.{longestOf, isLeaf}
 use Rattle.state.specs.declared.Link.{Link}
 use lib.ListN.{length-map}
-use Prim.Native.Nat.{_<_}
 use Rattle.state.specs.Queue.{Shaped, heldOf}
 use Rattle.state.specs.State.{meaning}
 use Rattle.state.proofs.Meaning.{meaning-held}
@@ -54,11 +53,6 @@ shaped c = record {
   tags = search needs;
 }
 
--- a class whose leaf's flag is on is below 64
-leaf-below : (c : tie.After-holds) → isLeaf (c .before .before .before .args .t1 .tree) (c .before .before .before .args .class) ≡ true → c .before .before .before .args .class < 64
-unfolding isLeaf
-leaf-below c on = c .holds .ensures .1 (c .holds .ensures .0 ∙ on)
-
 is-sound-requires : tie.Need-is-sound-requires
 is-sound-requires c κs = search needs
 
@@ -76,7 +70,7 @@ returns c =
     let a = s .before .args in
     let leaf = h .holds .ensures in
     let off : h .holds .result ≡ false = no-leaf (h .holds .result) (λ e. omega (arith, leaf .1 e, c .before .if1 .taken)) in
-    arrives-by (a .t1) (a .class) (a .packet) (s .is-sound .result) _ (shaped (s .before)) (leaf-below h) (s .is-sound .ensures)
+    arrives-by (a .t1) (a .class) (a .packet) (s .is-sound .result) _ (shaped (s .before)) (s .is-sound .ensures)
     (ap (λ (v : Verdict). record { verdict = v; link = a .t1 })
     (c .judge .ensures ∙ no-leaf-checks (s .is-sound .result) (h .holds .result) (a .t1) (a .class) 0 0 (a .packet) (leaf .0) off)
     ∙ sym (no-leaf-refused (s .is-sound .result) (a .t1) (a .class) (a .packet) (sym (leaf .0) ∙ off)))
@@ -102,7 +96,7 @@ returns-2 c =
     let s = j .before .before .before .before .before .before in
     let a = s .before .args in
     let refused = c .enum-told .given .1 in
-    arrives-by (a .t1) (a .class) (a .packet) (s .is-sound .result) _ (shaped (s .before)) (leaf-below (j .before .before .before .before)) (s .is-sound .ensures)
+    arrives-by (a .t1) (a .class) (a .packet) (s .is-sound .result) _ (shaped (s .before)) (s .is-sound .ensures)
     (ap (λ (v : Verdict). record { verdict = v; link = a .t1 }) refused
     ∙ sym (arrival-refused (s .is-sound .result) (a .t1) (a .class) (a .packet) (sym (said j) ∙ refused)))
 
@@ -125,7 +119,7 @@ returns-3 c =
     let s = j .before .before .before .before .before .before in
     let a = s .before .args in
     let passed = c .before .enum-told2 .given .1 in
-    arrives-by (a .t1) (a .class) (a .packet) (s .is-sound .result) _ (shaped (s .before)) (leaf-below (j .before .before .before .before)) (s .is-sound .ensures)
+    arrives-by (a .t1) (a .class) (a .packet) (s .is-sound .result) _ (shaped (s .before)) (s .is-sound .ensures)
     (ap (λ (v : Verdict). record { verdict = v; link = c .put .result }) passed
     ∙ ap (λ (l : Link). record { verdict = Passed; link = l }) (c .put .ensures)
     ∙ sym (arrival-taken (s .is-sound .result) (a .t1) (a .class) (a .packet) (sym (said j) ∙ passed)))

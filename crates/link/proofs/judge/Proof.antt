@@ -4,6 +4,7 @@ use mathlib.Core.Path.{_≡_, sym, _∙_}
 use lib.Dec.{ltb}
 use borrow.Author.Tests.{lt-ltb, le-ltb, le-leb, lt-leb}
 use Rattle.checks.proofs.Laws.{decides, pass-over, none-broken}
+use borrow.Author.Needs.{needs}
 use Rattle.link.proofs.judge.Statement.{statement}
 use Rattle.link.proofs.judge.Tie as tie
 
@@ -25,6 +26,9 @@ returns-4 c =
     let a = h .before .before .before .args in
     let e : (ltb (a .length) 1 || ltb (a .longest) (a .length)) ≡ true = rw (le-ltb (a .length) 1 (h .if3 .left), lt-ltb (a .longest) (a .length) (c .if4 .taken)) in
     sym (pass-over _ _ (h .before .before .if1 .left) ∙ pass-over _ _ (h .before .if2 .left) ∙ decides _ _ e)
+
+cast-if5 : tie.Need-cast-if5
+cast-if5 c = search needs
 
 returns-5 : tie.Need-returns-5
 returns-5 c =
@@ -52,4 +56,4 @@ returns-6 c =
     ∙ none-broken)
 
 pub judge-spec : {M : Type 1} → statement M
-judge-spec = tie.close (tie.spec returns returns-2 returns-3 returns-4 returns-5 returns-6)
+judge-spec = tie.close (tie.spec returns returns-2 returns-3 returns-4 cast-if5 returns-5 returns-6)

@@ -10,8 +10,8 @@ Inv-loop input step₀ step = Unit {0}
 abbrev μ-loop : tie.MeasureT-loop
 μ-loop input step₀ step = stepsLeft input step
 
-begin-requires : tie.Need-begin-requires Inv-loop μ-loop
-begin-requires c κs = search needs
+first-requires : tie.Need-first-requires Inv-loop μ-loop
+first-requires c κs = search needs
 
 show-requires : tie.Need-show-requires Inv-loop μ-loop
 show-requires c κs = search needs
@@ -42,7 +42,7 @@ whole-spec =
     (tie.spec
     Inv-loop
     μ-loop
-    begin-requires
+    first-requires
     show-requires
     loop-holds
     next-requires

@@ -10,17 +10,8 @@ Inv-loop input step₀ tally₀ step tally = Unit {0}
 abbrev μ-loop : tie.MeasureT-loop
 μ-loop input step₀ tally₀ step tally = stepsLeft input step
 
-cast-t7 : tie.Need-cast-t7 Inv-loop μ-loop
-cast-t7 c = search needs
-
-with-line-requires : tie.Need-with-line-requires Inv-loop μ-loop
-with-line-requires c κs = search needs
-
-returns : tie.Need-returns Inv-loop μ-loop
-returns c = search needs
-
-begin-requires : tie.Need-begin-requires Inv-loop μ-loop
-begin-requires c κs = search needs
+first-requires : tie.Need-first-requires Inv-loop μ-loop
+first-requires c κs = search needs
 
 with-step-requires : tie.Need-with-step-requires Inv-loop μ-loop
 with-step-requires c κs = search needs
@@ -37,13 +28,13 @@ with-step-requires-2 c κs = search needs
 loop-less : tie.Need-loop-less Inv-loop μ-loop
 loop-less c =
     let h = c .before .before .before in
-    steps-less (h .before .before .before .before .before .args .input .now) (h .loop .step) (c .before .next .result) (c .before .before .loop-test .taken) (c .before .next .ensures)
+    steps-less (h .before .before .before .before .args .input .now) (h .loop .step) (c .before .next .result) (c .before .before .loop-test .taken) (c .before .next .ensures)
 
 loop-again : tie.Need-loop-again Inv-loop μ-loop
 loop-again c = tt
 
-returns-2 : tie.Need-returns-2 Inv-loop μ-loop
-returns-2 c = search needs
+returns : tie.Need-returns Inv-loop μ-loop
+returns c = search needs
 
 pub whole-spec : {M : Type 1} → statement M
 whole-spec =
@@ -51,14 +42,11 @@ whole-spec =
     (tie.spec
     Inv-loop
     μ-loop
-    cast-t7
-    with-line-requires
-    returns
-    begin-requires
+    first-requires
     with-step-requires
     loop-holds
     next-requires
     with-step-requires-2
     loop-less
     loop-again
-    returns-2)
+    returns)

@@ -4,7 +4,8 @@ use mathlib.Core.Path.{ap, _∙_}
 use Rattle.checks.specs.declared.Verdict.the-variants.{Passed, Refused}
 use Rattle.state.specs.declared.Link.{Link}
 use Rattle.lines.specs.declared.Line.the-variants.{Stop}
-use Rattle.run.proofs.Events.{plan-rules, begin-by}
+use Rattle.plan.proofs.Numbers.{plan-rules}
+use Rattle.run.proofs.Events.{begin-by}
 use borrow.Author.Needs.{needs}
 use Rattle.run.proofs.begin.Statement.{statement}
 use Rattle.run.proofs.begin.Tie as tie

@@ -1,8 +1,12 @@
 -- `sound::holds_right` meets its contract.
 use borrow.Author.Tests.{le-leb, leb-true, eq-eqb, eqb-true}
 use Rattle.checks.proofs.Laws.{not-true-and-false}
+use borrow.Author.Needs.{needs}
 use Rattle.sound.proofs.holds_right.Statement.{statement}
 use Rattle.sound.proofs.holds_right.Tie as tie
+
+cast-result : tie.Need-cast-result
+cast-result c = search needs
 
 returns : tie.Need-returns
 returns c =
@@ -19,4 +23,4 @@ returns-2 c =
     }
 
 pub holds-right-spec : {M : Type 1} → statement M
-holds-right-spec = tie.close (tie.spec returns returns-2)
+holds-right-spec = tie.close (tie.spec cast-result returns returns-2)

@@ -40,7 +40,7 @@ loop-again c =
     (omega arith, below-more _ _ (h .loop .inv .1) (f .unset-is-zero .ensures .sound (not-false _ (c .if1 .left))))
 
 returns-2 : tie.Need-returns-2 Inv-loop μ-loop
-returns-2 c = exactly-yes (record { at = λ k u. c .before .loop .inv .1 k (omega arith) })
+returns-2 c = exactly-yes (record { at = λ k u. c .before .loop .inv .1 k (omega arith); word = search needs })
 
 pub all-unset-zero-spec : {M : Type 1} → statement M
 all-unset-zero-spec =

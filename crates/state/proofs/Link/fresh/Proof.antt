@@ -1,7 +1,13 @@
 -- `Link::fresh` meets its contract: the accounts are those of `noAccount`, but the root's. Demand 2.
+use mathlib.Core.Path.{_≡_, ap}
+use Prim.Native.Nat.{ℕ}
+use Rattle.tree.specs.Size.{roundSize}
 use borrow.Author.Needs.{needs}
 use Rattle.state.proofs.Link.fresh.Statement.{statement}
 use Rattle.state.proofs.Link.fresh.Tie as tie
+
+round-size-requires : tie.Need-round-size-requires
+round-size-requires c κs = search needs
 
 none-requires : tie.Need-none-requires
 none-requires c κs = search needs
@@ -10,7 +16,10 @@ array-set-from-accounts : tie.Need-array-set-from-accounts
 array-set-from-accounts c = search needs
 
 returns : tie.Need-returns
-returns c = rw (c .none .ensures)
+returns c =
+    let z = c .before in
+    let q : z .round-size .result ≡ record { 0 = roundSize (z .before .args .tree) } = ap (λ (n : ℕ). record { 0 = n }) (z .round-size .ensures) in
+    rw (c .none .ensures, q)
 
 pub fresh-spec : {M : Type 1} → statement M
-fresh-spec = tie.close (tie.spec none-requires array-set-from-accounts returns)
+fresh-spec = tie.close (tie.spec round-size-requires none-requires array-set-from-accounts returns)

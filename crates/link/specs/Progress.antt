@@ -1,0 +1,29 @@
+-- What a send does to the queues (document 01, "Sending"): while a packet waits, a send on a sound state sends one. Demand 2.
+use mathlib.Core.Bool.{true, false}
+use mathlib.Core.List.{_∷_}
+use mathlib.Core.Path.{_≡_}
+use Prim.Native.Nat.{ℕ}
+use Rattle.checks.specs.declared.Verdict.the-variants.{Passed, Refused}
+use Rattle.tree.specs.Class.{isLeaf}
+use Rattle.state.specs.declared.Link.{Link}
+use Rattle.state.specs.declared.Packet.{Packet}
+use Rattle.state.specs.State.{meaning, queueAt}
+use Rattle.round.specs.Active.{someWaits}
+use Rattle.link.specs.declared.Departure.{Departure}
+
+-- the packet that a send answers
+abbrev pub packetOf : Departure → Packet
+packetOf d = record { length = d .length; tag = d .tag }
+
+-- a send sends: it passes, its class is a leaf of the plan, its packet is the first of that leaf's queue, which loses it, and no other queue changes
+pub record SendsFirst (l : Link) (d : Departure) : Type 0 where
+  pub passes : d .verdict ≡ Passed
+  pub leaf : isLeaf (l .tree) (d .class) ≡ true
+  pub queue : queueAt (meaning l) (d .class) ≡ packetOf d ∷ queueAt (meaning (d .link)) (d .class)
+  pub others : (k : ℕ) → (k ≡ d .class → ⊥) → queueAt (meaning (d .link)) k ≡ queueAt (meaning l) k
+
+-- while a packet waits, a send sends one; 15 exactly when none waits
+pub record Progress (l : Link) (d : Departure) : Type 0 where
+  pub sends : someWaits (meaning l) ≡ true → SendsFirst l d
+  pub none : someWaits (meaning l) ≡ false → d .verdict ≡ Refused 15 0
+  pub only-then : d .verdict ≡ Refused 15 0 → someWaits (meaning l) ≡ false
