@@ -1,12 +1,15 @@
 -- Who is active, and what the active children of a class weigh (document 01, "Sending", steps 3 and 4). Demand 2.
 use mathlib.Core.Bool.{Bool, cond, _&&_, _||_}
+use mathlib.Core.List.{List}
 use Prim.Native.Nat.{ℕ, zero, suc}
 use lib.Dec.{eqb, leb}
 use lib.ListN.{length}
 use Rattle.sets.specs.Set.{has, with}
+use Rattle.units.specs.declared.Weight.{Weight}
 use Rattle.tree.specs.declared.Tree.{Tree}
 use Rattle.tree.specs.Class.{parentOf, weightOf, isLeaf, isChild}
 use Rattle.tree.specs.Sum.{sumTo, someTo}
+use Rattle.state.specs.Queue.{table}
 use Rattle.state.specs.State.{State, queueAt}
 
 -- class j is class i, or below it; n is as many steps up as there can be
@@ -53,3 +56,7 @@ activeWeight t active p i = cond (activeChild t active p i) (weightOf t i) 0
 -- the weight sum of the active children of class p
 unfoldable pub weightSum : Tree → ℕ → ℕ → ℕ
 weightSum t active p = sumTo (activeWeight t active p) (t .count)
+
+-- all weight sums, by class number
+unfoldable pub weightSums : Tree → ℕ → List Weight
+weightSums t active = table (λ p. record { 0 = weightSum t active p }) 64

@@ -3,18 +3,19 @@
 pub mod search;
 
 ghost use mathlib.Core.Path.{_≡_};
-ghost use mathlib.Core.Bool.{true, _||_};
-ghost use Prim.Native.Nat.{_<_, _≤_};
+ghost use mathlib.Core.Bool.{true, cond, _||_};
+ghost use Prim.Native.Nat.{_+_, _^_, _<_, _≤_};
 ghost use lib.ListN.{getD};
 ghost use Rattle.tree.specs.Class.{parentOf, isClass};
 ghost use Rattle.sets.specs.Set.{has};
-ghost use Rattle.tree.specs.Rules.{Light, PlanRules};
+ghost use Rattle.tree.specs.Rules.{PlanRules};
 ghost use Rattle.state.specs.Account.{heldBy};
 ghost use Rattle.state.specs.Queue.{table};
-ghost use Rattle.round.specs.Active.{activeWeight, weightSum, upward};
+ghost use Rattle.round.specs.Active.{weightSum, weightSums, upward};
 ghost use Rattle.round.specs.Opening.{kindIs, kindOf, surplusAt, rootShare, rootOpened, quota, openedAccounts};
 ghost use Rattle.round.specs.Steps.{CanOpen, Fitting, openedBy, holdsSome};
 use state::Account;
+use state::Link;
 use tree::Tree;
 use units::Bytes;
 use units::Weight;
@@ -25,82 +26,104 @@ pub struct Books {
     pub accounts: [Account; 64],
 }
 
-// What class i adds to the weight sum of class p's active children.
-fn active_weight(tree: Tree, active: u64, p: usize, i: usize) -> Weight
-    requires { ⌜ i < 64 ⌝ }
-    ensures { λ r. ⌜ r .0 ≡ activeWeight tree active p i ⌝ }
+// A weight sum, and with it the weight of a class where that class is active.
+fn with_active(sum: Weight, weight: Weight, on: bool) -> Weight
+    requires { ⌜ sum .0 + weight .0 < 2 ^ 32 ⌝ }
+    ensures { λ r. ⌜ r .0 ≡ sum .0 + cond on (weight .0) 0 ⌝ }
 {
-    if tree.parent[i] as usize != p {
-        return Weight(0);
-    }
-    if !sets::has(active, i) {
-        return Weight(0);
-    }
-    tree.weight[i]
-}
-
-// The weight sum of the active children of class p.
-pub fn weight_sum(tree: Tree, active: u64, p: usize) -> Weight
-    requires { ⌜ Light tree ⌝ }
-    ensures { λ r. ⌜ r .0 ≡ weightSum tree active p ⌝ }
-{
-    let last = tree.count;
-    let mut sum = Weight(0);
-    let mut i: usize = 1;
-    while i <= last {
-        sum = sum.plus(active_weight(tree, active, p, i));
-        i += 1;
+    if on {
+        return sum.plus(weight);
     }
     sum
 }
 
+// The weight sums of all class numbers: one pass from the highest class down, each active class adding itself to its parent.
+pub fn weight_sums(tree: Tree, active: u64) -> [Weight; 64]
+    requires { ⌜ PlanRules tree ⌝ }
+    ensures { λ r. ⌜ r ≡ weightSums tree active ⌝ }
+{
+    let none = Weight(0);
+    let mut sums = [none; 64];
+    let last = tree.count;
+    let mut i = last;
+    while 0 < i {
+        let p = tree.parent[i] as usize;
+        let w = tree.weight[i];
+        let s = sums[p];
+        let on = sets::has(active, i);
+        sums[p] = with_active(s, w, on);
+        i -= 1;
+    }
+    sums
+}
+
 // The root's fair quota: in a surplus round it shares out nothing.
-fn root_quota(tree: Tree, active: u64, surplus: bool, root: Account) -> u64
-    requires { ⌜ Light tree × (heldBy root ≤ 63_580_608) ⌝ }
+fn root_quota(tree: Tree, active: u64, sum: Weight, surplus: bool, root: Account) -> u64
+    requires { ⌜ (sum .0 ≡ weightSum tree active 0) × (heldBy root ≤ 63_580_608) ⌝ }
     ensures { λ r. ⌜ r ≡ rootShare (kindIs surplus) tree active root ⌝ }
 {
     if surplus {
         return 0;
     }
-    units::quota(root.held(), weight_sum(tree, active, 0))
+    units::quota(root.held(), sum)
 }
 
 // The fair quotas of an opening, for every class number.
-pub fn quotas(tree: Tree, active: u64, surplus: bool, accounts: [Account; 64]) -> [u64; 64]
-    requires { ⌜ CanOpen tree active accounts ⌝ }
+pub fn quotas(
+    tree: Tree,
+    active: u64,
+    sums: [Weight; 64],
+    surplus: bool,
+    accounts: [Account; 64],
+) -> [u64; 64]
+    requires { ⌜ (sums ≡ weightSums tree active) × CanOpen tree active accounts ⌝ }
     ensures { λ r. ⌜ r ≡ table (quota (kindIs surplus) tree active accounts) 64 ⌝ }
 {
     let mut quotas = [0u64; 64];
     let root = accounts[0];
-    quotas[0] = root_quota(tree, active, surplus, root);
+    quotas[0] = root_quota(tree, active, sums[0], surplus, root);
     let mut i: usize = 1;
-    while i < 64 {
+    while i < Link::CLASSES {
         let p = tree.parent[i] as usize;
         let w = tree.weight[i];
         let a = accounts[i];
         let has = a.held().plus(units::due(w, quotas[p]));
-        quotas[i] = units::quota(has, weight_sum(tree, active, i));
+        quotas[i] = units::quota(has, sums[i]);
         i += 1;
     }
     quotas
 }
 
 // The root when a round opens: in a surplus round its account stays.
-fn open_root(tree: Tree, active: u64, surplus: bool, root: Account, quota: u64) -> Account
-    requires { ⌜ Light tree × (heldBy root ≤ 63_580_608) × (quota ≡ rootShare (kindIs surplus) tree active root) ⌝ }
+fn open_root(
+    tree: Tree,
+    active: u64,
+    sum: Weight,
+    surplus: bool,
+    root: Account,
+    quota: u64,
+) -> Account
+    requires { ⌜ (sum .0 ≡ weightSum tree active 0) × (heldBy root ≤ 63_580_608) × (quota ≡ rootShare (kindIs surplus) tree active root) ⌝ }
     ensures { λ r. ⌜ r ≡ rootOpened (kindIs surplus) tree active root ⌝ }
 {
     if surplus {
         return root;
     }
-    let down = units::due(weight_sum(tree, active, 0), quota);
+    let down = units::due(sum, quota);
     let taken = root.take_quota(Bytes(0));
     taken.hand_down(down)
 }
 
 // A class other than the root when a round opens: an active one takes its due, and an inner one hands down its own quota.
-fn open_class(tree: Tree, active: u64, i: usize, account: Account, quotas: [u64; 64]) -> Account
-    requires { ⌜ Light tree × (i < 64) × (parentOf tree i < 64) × Fitting tree active (λ k. getD quotas k 0) i account ⌝ }
+fn open_class(
+    tree: Tree,
+    active: u64,
+    sum: Weight,
+    i: usize,
+    account: Account,
+    quotas: [u64; 64],
+) -> Account
+    requires { ⌜ (sum .0 ≡ weightSum tree active i) × (i < 64) × (parentOf tree i < 64) × Fitting tree active (λ k. getD quotas k 0) i account ⌝ }
     ensures { λ r. ⌜ r ≡ openedBy tree active (λ k. getD quotas k 0) i account ⌝ }
 {
     if !sets::has(active, i) {
@@ -112,35 +135,36 @@ fn open_class(tree: Tree, active: u64, i: usize, account: Account, quotas: [u64;
     if sets::has(tree.leaves, i) {
         return taken;
     }
-    taken.hand_down(units::due(weight_sum(tree, active, i), quotas[i]))
+    taken.hand_down(units::due(sum, quotas[i]))
 }
 
 // The accounts when a round opens.
 pub fn open_accounts(
     tree: Tree,
     active: u64,
+    sums: [Weight; 64],
     surplus: bool,
     accounts: [Account; 64],
 ) -> [Account; 64]
-    requires { ⌜ CanOpen tree active accounts ⌝ }
+    requires { ⌜ (sums ≡ weightSums tree active) × CanOpen tree active accounts ⌝ }
     ensures { λ r. ⌜ r ≡ openedAccounts (kindIs surplus) tree active accounts ⌝ }
 {
-    let quotas = quotas(tree, active, surplus, accounts);
+    let quotas = quotas(tree, active, sums, surplus, accounts);
     let mut opened = accounts;
     let root = accounts[0];
-    opened[0] = open_root(tree, active, surplus, root, quotas[0]);
+    opened[0] = open_root(tree, active, sums[0], surplus, root, quotas[0]);
     let mut i: usize = 1;
-    while i < 64 {
+    while i < Link::CLASSES {
         let a = opened[i];
-        opened[i] = open_class(tree, active, i, a, quotas);
+        opened[i] = open_class(tree, active, sums[i], i, a, quotas);
         i += 1;
     }
     opened
 }
 
 // Whether class i is inner and active and has a surplus: its account is at or above the weight sum of its active children.
-fn class_surplus(tree: Tree, active: u64, i: usize, account: Account) -> bool
-    requires { ⌜ Light tree × (isClass tree i ≡ true) × (i < 64) × (heldBy account ≤ 63_580_608) ⌝ }
+fn class_surplus(tree: Tree, active: u64, sum: Weight, i: usize, account: Account) -> bool
+    requires { ⌜ (sum .0 ≡ weightSum tree active i) × (isClass tree i ≡ true) × (i < 64) × (heldBy account ≤ 63_580_608) ⌝ }
     ensures { λ r. ⌜ r ≡ surplusAt tree active account i ⌝ }
 {
     if sets::has(tree.leaves, i) {
@@ -149,19 +173,19 @@ fn class_surplus(tree: Tree, active: u64, i: usize, account: Account) -> bool
     if !sets::has(active, i) {
         return false;
     }
-    units::surplus(account.held(), weight_sum(tree, active, i))
+    units::surplus(account.held(), sum)
 }
 
 // Whether the round that opens is a surplus round: some active inner class has a surplus.
-pub fn is_surplus(tree: Tree, active: u64, accounts: [Account; 64]) -> bool
-    requires { ⌜ CanOpen tree active accounts ⌝ }
+pub fn is_surplus(tree: Tree, active: u64, sums: [Weight; 64], accounts: [Account; 64]) -> bool
+    requires { ⌜ (sums ≡ weightSums tree active) × CanOpen tree active accounts ⌝ }
     ensures { λ r. ⌜ kindIs r ≡ kindOf tree active accounts ⌝ }
 {
     let last = tree.count;
     let mut i: usize = 1;
     while i <= last {
         let account = accounts[i];
-        if class_surplus(tree, active, i, account) {
+        if class_surplus(tree, active, sums[i], i, account) {
             return true;
         }
         i += 1;

@@ -70,7 +70,7 @@ fn packet_goes(link: Link, i: usize) -> Link
 }
 
 // A round opens.
-fn open_round(link: Link) -> Link
+pub fn open_round(link: Link) -> Link
     requires { ⌜ SoundLink link ⌝ }
     ensures { λ r. ⌜ r ≡ openedLink link ⌝ }
 {
@@ -78,8 +78,9 @@ fn open_round(link: Link) -> Link
     let held = link.held;
     let before = link.accounts;
     let active = round::round_active(tree, held);
-    let surplus = round::is_surplus(tree, active, before);
-    let accounts = round::open_accounts(tree, active, surplus, before);
+    let sums = round::weight_sums(tree, active);
+    let surplus = round::is_surplus(tree, active, sums, before);
+    let accounts = round::open_accounts(tree, active, sums, surplus, before);
     let mut after = link;
     after.active = active;
     after.accounts = accounts;

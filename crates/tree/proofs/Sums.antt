@@ -41,6 +41,26 @@ unfolding sumTo
 sum-zero f zero h = refl
 sum-zero f (suc n) h = omega (arith, sum-zero f n (λ i l u. h i l (omega arith)), h (suc n) (omega arith) (omega arith))
 
+-- fewer terms add to no more
+pub sum-grows : (f : ℕ → ℕ) (n m : ℕ) → n ≤ m → sumTo f n ≤ sumTo f m
+unfolding sumTo
+sum-grows f n zero h =
+    let e : n ≡ 0 = omega arith in
+    rw e (omega arith)
+sum-grows f n (suc m) h = go (decLe n m) (λ u. sum-grows f n m u)
+  where
+    go : Dec (n ≤ m) → (n ≤ m → sumTo f n ≤ sumTo f m) → sumTo f n ≤ sumTo f m + f (suc m)
+    go (yes u) ih = omega (arith, ih u)
+    go (no u) ih =
+        let e : n ≡ suc m = omega arith in
+        rw (e, sumTo) (omega arith)
+
+-- a loop's step downward: class i is added to the classes above it
+pub sum-above : (f : ℕ → ℕ) (n i : ℕ) → 1 ≤ i → i ≤ n → sumTo f n - sumTo f (i - 1) ≡ (sumTo f n - sumTo f i) + f i
+sum-above f n i l u =
+    let e : i + 1 - 1 ≡ i = omega arith in
+    omega (arith, rw e at (sum-step f i l), sum-grows f i n u)
+
 pub some-none : (f : ℕ → Bool) → someTo f 0 ≡ false
 unfolding someTo
 some-none f = refl

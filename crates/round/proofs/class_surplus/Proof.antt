@@ -44,23 +44,18 @@ returns-2 c =
 held-requires : tie.Need-held-requires
 held-requires c κs = omega (arith, c .before .before .before .before .pre .3)
 
-weight-sum-requires : tie.Need-weight-sum-requires
-weight-sum-requires c κs = c .before .before .before .before .before .pre .0
-
 surplus-requires : tie.Need-surplus-requires
 surplus-requires c κs = search needs
 
 returns-3 : tie.Need-returns-3
 returns-3 c =
-    let w = c .before in
-    let g = w .before .before in
+    let g = c .before .before in
     let h = g .before .before in
     let st = h .before .before in
     let a = st .args in
-    let sum : w .weight-sum .result .0 ≡ weightSum (a .tree) (a .active) (a .i) = w .weight-sum .ensures in
     c .surplus .ensures
-    ∙ ap (λ (held : ℕ). surplusOf held (w .weight-sum .result .0)) (w .before .held .ensures)
-    ∙ ap (surplusOf (heldBy (a .account))) sum
+    ∙ ap (λ (held : ℕ). surplusOf held (a .sum .0)) (c .before .held .ensures)
+    ∙ ap (surplusOf (heldBy (a .account))) (st .pre .0)
     ∙ surplus-by (a .tree) (a .active) (a .account) (a .i) false true (st .pre .1) (sym (h .if1 .left) ∙ h .before .has .ensures) (sym (not-false (g .before .has2 .result) (g .if2 .left)) ∙ g .before .has2 .ensures)
 
 pub class-surplus-spec : {M : Type 1} → statement M
@@ -72,6 +67,5 @@ class-surplus-spec =
     has-requires-2
     returns-2
     held-requires
-    weight-sum-requires
     surplus-requires
     returns-3)

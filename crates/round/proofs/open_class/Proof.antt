@@ -54,9 +54,6 @@ returns-2 c =
     rw (sym (e1 .before .has .ensures) ∙ not-false (e1 .before .has .result) (e1 .if1 .left), sym (c .before .has2 .ensures) ∙ c .if2 .taken)
     (q .take-quota .ensures ∙ ap (λ (n : ℕ). tookQuota (e1 .before .before .args .account) n) (q .before .due .ensures))
 
-weight-sum-requires : tie.Need-weight-sum-requires
-weight-sum-requires c κs = search needs
-
 mul-due-2 : tie.Need-mul-due-2
 mul-due-2 c = search needs
 
@@ -65,21 +62,20 @@ array-read-due-2 c = search needs
 
 due-requires-2 : tie.Need-due-requires-2
 due-requires-2 c κs =
-    let st = c .before .before .before .before .before .before .before .before .before in
+    let st = c .before .before .before .before .before .before .before .before in
     let a = st .args in
-    let e : c .weight-sum .result .0 * getD (a .t5) (a .i) 0 ≡ weightSum (a .t1) (a .active) (a .i) * getD (a .t5) (a .i) 0 =
-    ap (λ (n : ℕ). n * getD (a .t5) (a .i) 0) (c .weight-sum .ensures)
+    let e : a .sum .0 * getD (a .t6) (a .i) 0 ≡ weightSum (a .t1) (a .active) (a .i) * getD (a .t6) (a .i) 0 =
+    ap (λ (n : ℕ). n * getD (a .t6) (a .i) 0) (st .pre .0)
     in
     omega (arith, e, st .pre .3 .down, st .pre .3 .due, st .pre .3 .held)
 
 hand-down-requires : tie.Need-hand-down-requires
 hand-down-requires c κs =
-    let w = c .before in
-    let q = w .before .before .before in
+    let q = c .before .before .before in
     let st = q .before .before .before .before .before .before in
     let a = st .args in
-    let e : c .due2 .result .0 ≡ weightSum (a .t1) (a .active) (a .i) * getD (a .t5) (a .i) 0 =
-    c .due2 .ensures ∙ ap (λ (n : ℕ). n * getD (a .t5) (a .i) 0) (w .weight-sum .ensures)
+    let e : c .due2 .result .0 ≡ weightSum (a .t1) (a .active) (a .i) * getD (a .t6) (a .i) 0 =
+    c .due2 .ensures ∙ ap (λ (n : ℕ). n * getD (a .t6) (a .i) 0) (st .pre .0)
     in
     omega (arith, e, st .pre .3 .down, ap (λ (x : Account). x .balance .0) (q .take-quota .ensures), q .before .due .ensures)
 
@@ -87,16 +83,16 @@ returns-3 : tie.Need-returns-3
 unfolding isLeaf
 returns-3 c =
     let d = c .before in
-    let w = d .before in
-    let e2 = w .before in
+    let e2 = d .before in
     let q = e2 .before .before in
     let e1 = q .before .before .before .before in
-    let a = e1 .before .before .args in
+    let st = e1 .before .before in
+    let a = st .args in
     rw (sym (e1 .before .has .ensures) ∙ not-false (e1 .before .has .result) (e1 .if1 .left), sym (e2 .before .has2 .ensures) ∙ e2 .if2 .left)
     (c .hand-down .ensures
     ∙ ap (λ (x : Account). handedDown x (d .due2 .result .0)) (q .take-quota .ensures ∙ ap (λ (n : ℕ). tookQuota (a .account) n) (q .before .due .ensures))
-    ∙ ap (λ (n : ℕ). handedDown (tookQuota (a .account) (weightOf (a .t1) (a .i) * getD (a .t5) (parentOf (a .t1) (a .i)) 0)) n)
-    (d .due2 .ensures ∙ ap (λ (n : ℕ). n * getD (a .t5) (a .i) 0) (w .weight-sum .ensures)))
+    ∙ ap (λ (n : ℕ). handedDown (tookQuota (a .account) (weightOf (a .t1) (a .i) * getD (a .t6) (parentOf (a .t1) (a .i)) 0)) n)
+    (d .due2 .ensures ∙ ap (λ (n : ℕ). n * getD (a .t6) (a .i) 0) (st .pre .0)))
 
 pub open-class-spec : {M : Type 1} → statement M
 open-class-spec =
@@ -114,7 +110,6 @@ open-class-spec =
     take-quota-requires
     has-requires-2
     returns-2
-    weight-sum-requires
     mul-due-2
     array-read-due-2
     due-requires-2

@@ -10,23 +10,20 @@ use Rattle.round.proofs.open_root.Statement.{statement}
 use Rattle.round.proofs.open_root.Tie as tie
 
 -- what the root hands down is within what it has
-within : (c : tie.After-weight-sum) → c .weight-sum .result .0 * c .before .before .args .quota ≤ heldBy (c .before .before .args .root)
+within : (c : tie.Else1) → c .before .args .sum .0 * c .before .args .quota ≤ heldBy (c .before .args .root)
 within c =
-    let st = c .before .before in
-    quota-back (heldBy (st .args .root)) (weightSum (st .args .tree) (st .args .active) 0) (c .weight-sum .result .0) (st .args .quota)
-    (c .weight-sum .ensures) (rw (c .before .if1 .left) at (st .pre .2))
+    let st = c .before in
+    quota-back (heldBy (st .args .root)) (weightSum (st .args .tree) (st .args .active) 0) (st .args .sum .0) (st .args .quota)
+    (st .pre .0) (rw (c .if1 .left) at (st .pre .2))
 
 returns : tie.Need-returns
 returns c = rw (c .if1 .taken)
 
-weight-sum-requires : tie.Need-weight-sum-requires
-weight-sum-requires c κs = c .before .pre .0
-
 due-requires : tie.Need-due-requires
-due-requires c κs = omega (arith, within c, c .before .before .pre .1)
+due-requires c κs = omega (arith, within c, c .before .pre .1)
 
 take-quota-requires : tie.Need-take-quota-requires
-take-quota-requires c κs = omega (arith, c .before .before .before .pre .1)
+take-quota-requires c κs = omega (arith, c .before .before .pre .1)
 
 hand-down-requires : tie.Need-hand-down-requires
 hand-down-requires c κs =
@@ -39,21 +36,20 @@ returns-2 c =
     let t = c .before in
     let d = t .before in
     let w = d .before in
-    let st = w .before .before in
+    let st = w .before in
     let a = st .args in
-    let share = rw (w .before .if1 .left) at (st .pre .2) in
-    rw (w .before .if1 .left)
+    let share = rw (w .if1 .left) at (st .pre .2) in
+    rw (w .if1 .left)
     (c .hand-down .ensures
     ∙ ap (λ (x : Account). handedDown x (d .due .result .0)) (t .take-quota .ensures)
     ∙ ap (λ (n : ℕ). handedDown (tookQuota (a .root) 0) n)
-    (d .due .ensures ∙ ap (λ (n : ℕ). n * a .quota) (w .weight-sum .ensures) ∙ ap (λ (n : ℕ). weightSum (a .tree) (a .active) 0 * n) share))
+    (d .due .ensures ∙ ap (λ (n : ℕ). n * a .quota) (st .pre .0) ∙ ap (λ (n : ℕ). weightSum (a .tree) (a .active) 0 * n) share))
 
 pub open-root-spec : {M : Type 1} → statement M
 open-root-spec =
     tie.close
     (tie.spec
     returns
-    weight-sum-requires
     due-requires
     take-quota-requires
     hand-down-requires

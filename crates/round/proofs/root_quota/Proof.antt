@@ -11,15 +11,12 @@ returns c = rw (c .if1 .taken) refl
 held-requires : tie.Need-held-requires
 held-requires c κs = omega (arith, c .before .pre .1)
 
-weight-sum-requires : tie.Need-weight-sum-requires
-weight-sum-requires c κs = c .before .before .pre .0
-
 quota-requires : tie.Need-quota-requires
 quota-requires c κs = search needs
 
 returns-2 : tie.Need-returns-2
-returns-2 c = rw (c .before .before .before .if1 .left, ← c .before .before .held .ensures, ← c .before .weight-sum .ensures) (c .quota .ensures)
+returns-2 c = rw (c .before .before .if1 .left, ← c .before .held .ensures, ← c .before .before .before .pre .0) (c .quota .ensures)
 
 pub root-quota-spec : {M : Type 1} → statement M
 root-quota-spec =
-    tie.close (tie.spec returns held-requires weight-sum-requires quota-requires returns-2)
+    tie.close (tie.spec returns held-requires quota-requires returns-2)
