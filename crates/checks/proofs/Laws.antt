@@ -2,7 +2,7 @@
 use mathlib.Core.Bool.{Bool, true, false}
 use mathlib.Core.List.{List, [], _∷_, _++_}
 use mathlib.Core.Logic.{_⊎_, inl, inr}
-use mathlib.Core.Path.{_≡_, refl, sym, _∙_}
+use mathlib.Core.Path.{_≡_, refl, sym, ap₂, _∙_}
 use Prim.Native.Nat.{ℕ, zero, suc, _+_, _≤_, _<_}
 use native.Mathlib.Decide.{decLe}
 use native.Mathlib.Omega.{arith}
@@ -120,6 +120,12 @@ classes-which f (suc n) {a} {p} e = go (refused-or-passed (firstBroken (classByC
     go (inr r) ih =
         let w = ih (r .0) (r .1) (r .2) in
         (w .0, w .1, omega arith, w .3, w .4 ∙ sym (refused-before (classByClass f n) (f (suc n)) (r .2)) ∙ e)
+
+-- the same checks at each class
+pub classes-same : (f g : ℕ → List Check) (n : ℕ) → ((i : ℕ) → 1 ≤ i → i ≤ n → f i ≡ g i) → classByClass f n ≡ classByClass g n
+unfolding classByClass
+classes-same f g zero h = refl
+classes-same f g (suc n) h = ap₂ _++_ (classes-same f g n (λ i l u. h i l (omega arith))) (h (suc n) (omega arith) (omega arith))
 
 -- what holds of each class from 1 below i, and of i, holds of each below i + 1
 pub upward-more : (P : ℕ → Type 0) (i : ℕ) → ((k : ℕ) → 1 ≤ k → k < i → P k) → P i → (k : ℕ) → 1 ≤ k → k < i + 1 → P k

@@ -1,4 +1,4 @@
-// Refusals: the numbers of document 01, "Numbers a crew can act on", and the verdict of checks made in a fixed order.
+// Refusals: the numbers of document 01, "Numbers a crew can act on", those of document 02, and the verdict of checks made in a fixed order.
 // Serves demand 1: a refusal is a number and a place, for the first check that fails.
 ghost use mathlib.Core.Path.{_≡_};
 ghost use Rattle.checks.specs.Check.{numberOf, placeOf, firstBroken, inputChecks};
@@ -39,6 +39,10 @@ pub const LENGTH: u8 = 13;
 pub const FULL: u8 = 14;
 // Send, and no packet waits.
 pub const NOTHING_WAITS: u8 = 15;
+// The capacity is outside its range.
+pub const CAPACITY: u8 = 20;
+// A leaf's request is outside its range.
+pub const REQUEST: u8 = 21;
 
 // The number of a verdict: 0 where all passed.
 pub fn number(v: Verdict) -> u8

@@ -20,7 +20,7 @@ use Rattle.tree.specs.Size.{allWeights, longestCost, allLongest, roundSize}
 use Rattle.tree.specs.Sum.{sumTo, someTo}
 use Rattle.tree.proofs.Classes.{both-true, class-in, class-range}
 use Rattle.tree.proofs.Rules.{few-classes, longest-range}
-use Rattle.tree.proofs.Sums.{some-found, some-which}
+use Rattle.tree.proofs.Sums.{some-found, some-which, sum-same, sum-within, sum-longer, sum-add}
 use Rattle.state.specs.declared.Account.{Account}
 use Rattle.state.specs.Account.{accountOf, balanceOf, heldBy}
 use Rattle.state.specs.State.{State}
@@ -28,9 +28,8 @@ use Rattle.sound.specs.Sound.{Sound, total}
 use Rattle.round.specs.Active.{roundActive, weightSum}
 use Rattle.round.specs.Opening.{main, surplus, surplusAt, hasSurplus, kindOf, nextKind}
 use Rattle.round.specs.Sending.{firstOf, ready, nextLeaf}
-use Rattle.laws.proofs.ByParent.{sum-add, sum-by-parent}
 use Rattle.round.proofs.Searches.{first-least}
-use Rattle.laws.proofs.Sums.{sum-same, sum-within, sum-longer}
+use Rattle.laws.proofs.ByParent.{sum-by-parent}
 use Rattle.laws.proofs.Taken.{taken-off}
 
 -- a class number is below 64

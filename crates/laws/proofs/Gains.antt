@@ -23,7 +23,7 @@ use Rattle.round.specs.Sending.{nextLeaf}
 use Rattle.round.proofs.Shares.{quota-root, quota-step}
 use Rattle.laws.specs.Wide.{Wide}
 use Rattle.laws.proofs.Closing.{class-few, root-has}
-use Rattle.laws.proofs.Sums.{sum-within}
+use Rattle.tree.proofs.Sums.{sum-within}
 use Rattle.laws.proofs.Opened.{opened-leaf}
 use Rattle.laws.proofs.Taken.{taken-up, sum-some}
 

@@ -1,4 +1,3 @@
-pub mod Sums
 pub mod Stores
 pub mod GivenUp
 pub mod TurnedOff

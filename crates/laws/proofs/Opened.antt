@@ -20,6 +20,7 @@ use Rattle.state.specs.State.{State}
 use Rattle.state.proofs.Tables.{table-at, table-length}
 use Rattle.sound.specs.Below.{Above}
 use Rattle.sound.specs.Sound.{Sound, HoldsRight, ActiveHolds, AboveActive, ZeroWhere, BehindPlace, total}
+use Rattle.tree.proofs.Sums.{sum-same, sum-longer, sum-add}
 use Rattle.sound.proofs.Totals.{total-part}
 use Rattle.round.specs.Active.{roundActive, weightSum}
 use Rattle.round.specs.Opening.{Kind, main, surplus, quota, due, handsDown, rootQuota, openedLeaf, openedInner, openedAccount, openedAccounts, nextKind, opened}
@@ -27,8 +28,7 @@ use Rattle.round.specs.Steps.{CanOpen}
 use Rattle.round.proofs.Shares.{quota-root, quota-step, quota-back, quota-inactive, down-within}
 use Rattle.round.proofs.Sums.{sum-without}
 use Rattle.laws.specs.Wide.{Wide}
-use Rattle.laws.proofs.Sums.{sum-same, sum-longer}
-use Rattle.laws.proofs.ByParent.{sum-add, sum-by-parent}
+use Rattle.laws.proofs.ByParent.{sum-by-parent}
 use Rattle.laws.proofs.Taken.{leaf-class, leaf-childless, taken-past, taken-fits, taken-waits, taken-up, taken-by-leaf, taken-off, sum-some}
 
 -- the root is no leaf

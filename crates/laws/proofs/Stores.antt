@@ -6,7 +6,7 @@ use native.Mathlib.Omega.{arith}
 use lib.ListN.{length, set}
 use lib.Seq.{getD-set-same, getD-set-other}
 use Rattle.state.specs.declared.Account.{Account}
-use Rattle.laws.proofs.Sums.{sum-same, sum-change}
+use Rattle.tree.proofs.Sums.{sum-same, sum-change}
 use Rattle.state.specs.Account.{noAccount, accountOf, heldBy}
 use Rattle.sound.specs.Sound.{total}
 

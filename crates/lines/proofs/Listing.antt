@@ -1,10 +1,10 @@
--- The listing of document 01, "A whole run", byte by byte, and lines that it lacks: a refused arrival, a stop, the largest number.
+-- The listing of document 01, "A whole run", byte by byte, and lines that it lacks: a refused arrival, a stop, the largest number, a rate.
 use mathlib.Core.List.{List, [], _∷_, map}
 use mathlib.Core.Path.{_≡_, refl}
 use Prim.Native.Nat.{ℕ}
 use Rattle.lines.specs.Decimal.{digitsIn, decimal}
 use Rattle.lines.specs.declared.Line.{Line}
-use Rattle.lines.specs.declared.Line.the-variants.{Link, In, No, Out, Nothing, End, Stop}
+use Rattle.lines.specs.declared.Line.the-variants.{Link, In, No, Out, Nothing, End, Stop, Rate}
 use Rattle.lines.specs.Line.{bytesOf}
 
 abbrev run : List Line
@@ -66,3 +66,8 @@ stopped = refl
 largest-number : bytesOf (End 18446744073709551615) ≡ 101 ∷ 110 ∷ 100 ∷ 32 ∷ 49 ∷ 56 ∷ 52 ∷ 52 ∷ 54 ∷ 55 ∷ 52 ∷ 52 ∷ 48 ∷ 55 ∷ 51 ∷ 55 ∷ 48 ∷ 57 ∷ 53 ∷ 53 ∷ 49 ∷ 54 ∷ 49 ∷ 53 ∷ 10 ∷ []
 unfolding bytesOf decimal digitsIn
 largest-number = refl
+
+-- a rate: `rate 1 200 42 0`
+rated : bytesOf (Rate 1 200 42 0) ≡ 114 ∷ 97 ∷ 116 ∷ 101 ∷ 32 ∷ 49 ∷ 32 ∷ 50 ∷ 48 ∷ 48 ∷ 32 ∷ 52 ∷ 50 ∷ 32 ∷ 48 ∷ 10 ∷ []
+unfolding bytesOf decimal digitsIn
+rated = refl

@@ -5,7 +5,7 @@ use Prim.Native.Nat.{ℕ}
 use lib.ListN.{length, drop}
 use Rattle.lines.specs.Decimal.{decimal}
 use Rattle.lines.specs.declared.Line.{Line}
-use Rattle.lines.specs.declared.Line.the-variants.{Link, In, No, Out, Nothing, End, Stop}
+use Rattle.lines.specs.declared.Line.the-variants.{Link, In, No, Out, Nothing, End, Stop, Rate}
 
 -- one space, then a number
 abbrev pub spaced : ℕ → List ℕ
@@ -36,6 +36,8 @@ bytesOf Nothing = textOf (110 ∷ 111 ∷ 110 ∷ 101 ∷ []) []
 bytesOf (End waiting) = textOf (101 ∷ 110 ∷ 100 ∷ []) (waiting ∷ [])
 -- `stop`
 bytesOf (Stop number place) = textOf (115 ∷ 116 ∷ 111 ∷ 112 ∷ []) (number ∷ place ∷ [])
+-- `rate` (document 02, E13)
+bytesOf (Rate class request gets unallotted) = textOf (114 ∷ 97 ∷ 116 ∷ 101 ∷ []) (class ∷ request ∷ gets ∷ unallotted ∷ [])
 
 -- the answer is the line's length, and the buffer holds the line and then what it held from there on before
 abbrev pub Lays : Line → List ℕ → ℕ → List ℕ → Type 0

@@ -1,5 +1,5 @@
 // The lines that a program prints, and a line laid into a lent buffer. An entry for callers outside: it asks nothing.
-// The bytes are those of document 01, "A whole run".
+// The bytes are those of document 01, "A whole run", and of document 02, E13.
 ghost use Prim.Native.Nat.{_+_, _*_, _≤_};
 ghost use lib.ListN.{length};
 ghost use Rattle.io.specs.Counts.{Counts};
@@ -22,6 +22,8 @@ pub enum Line {
     End(u64),
     // number, place
     Stop(u64, u64),
+    // class, request, what it gets, what stays unallotted (E13)
+    Rate(u64, u64, u64, u64),
 }
 
 // Lays a text from a place on, and answers the place after it.
@@ -90,5 +92,10 @@ pub fn lay(line: Line, out: &mut [u8; 96]) -> usize
         Line::Nothing => put_line(b"none", &[], out),
         Line::End(waiting) => put_line(b"end", &[waiting], out),
         Line::Stop(number, place) => put_line(b"stop", &[number, place], out),
+        Line::Rate(class, request, gets, unallotted) => put_line(
+            b"rate",
+            &[class, request, gets, unallotted],
+            out,
+        ),
     }
 }

@@ -16,7 +16,8 @@ use Rattle.state.specs.declared.Account.{Account}
 use Rattle.state.specs.Account.{balanceOf, residualOf}
 use Rattle.state.specs.Queue.{table, queueOf}
 use Rattle.state.specs.State.{State, meaning, freshLink, queueAt, withQueue}
-use Rattle.round.specs.Active.{climbs, atOrBelow, waits, someBelow, setOf, upward, roundActive, activeChild, activeWeight, weightSum}
+use Rattle.tree.specs.Below.{climbs, atOrBelow}
+use Rattle.round.specs.Active.{waits, someBelow, setOf, upward, roundActive, activeChild, activeWeight, weightSum}
 use Rattle.round.specs.Opening.{surplusAt, hasSurplus, kindOf, quotaIn, quota, due, handsDown, openedLeaf, openedInner, openedAccount, openedAccounts, nextKind, opened}
 use Rattle.round.specs.Sending.{ready, firstFrom, nextLeaf, givenUp, turnsOff, paid, booksAfter, sentState, Turn, turnOf, sends, traceOf}
 

@@ -14,7 +14,7 @@ use Rattle.tree.specs.declared.Tree.{Tree}
 use Rattle.tree.specs.Class.{parentOf, weightOf, isClass}
 use Rattle.tree.specs.Rules.{PlanRules}
 use Rattle.tree.proofs.Classes.{root-no-class}
-use Rattle.tree.proofs.Rules.{parent-lower, weight-range}
+use Rattle.tree.proofs.Rules.{parent-lower, parent-below, weight-range}
 use Rattle.state.specs.declared.Account.{Account}
 use Rattle.state.specs.Account.{noAccount, accountOf, heldBy}
 use Rattle.round.specs.Active.{weightSum}
@@ -25,14 +25,6 @@ use Rattle.round.proofs.Sums.{within-sum, sum-without}
 -- what is handed down at a quota is within what the quota was worked out from
 pub quota-back : (h w s q : ℕ) → s ≡ w → q ≡ h / w → s * q ≤ h
 quota-back h w s q e f = rw (e, f, mul-comm w (h / w)) (div-mul-le-self h w)
-
--- every class number's parent is lower
-pub parent-below : (t : Tree) (i : ℕ) → PlanRules t → 1 ≤ i → i < 64 → parentOf t i < i
-parent-below t i rules l u = go (isClass t i) refl
-  where
-    go : (b : Bool) → isClass t i ≡ b → parentOf t i < i
-    go true is = parent-lower t i rules is
-    go false is = omega (arith, rules .unset .at i u .past is .parent)
 
 pub parent-most : (t : Tree) (i : ℕ) → PlanRules t → i < 64 → parentOf t i ≤ i
 parent-most t zero rules u = omega (arith, rules .unset .at 0 u .past (root-no-class t) .parent)

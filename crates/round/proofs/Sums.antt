@@ -14,10 +14,9 @@ use Rattle.tree.specs.Class.{noWeight, parentOf, weightOf, isClass, isChild}
 use Rattle.tree.specs.Rules.{Light}
 use Rattle.tree.specs.Sum.{sumTo}
 use Rattle.tree.proofs.Classes.{both-true, class-in, class-range}
-use Rattle.tree.proofs.Sums.{sum-none, sum-bound, sum-zero, sum-above}
+use Rattle.tree.proofs.Sums.{sum-none, sum-bound, sum-zero, sum-part, sum-above}
 use Rattle.state.specs.Queue.{table}
 use Rattle.state.proofs.Tables.{table-length, table-at, table-same, table-set}
-use Rattle.sound.proofs.Totals.{sum-part}
 use Rattle.round.specs.Active.{activeChild, activeWeight, weightSum, weightSums}
 
 -- no term is above the heaviest weight

@@ -6,7 +6,7 @@ use Prim.Native.Nat.{ℕ, zero, suc, _-_, _^_, _≤_, _<_}
 use native.Mathlib.Decide.{decLe, ℕ-discrete}
 use native.Mathlib.Omega.{arith}
 use lib.Dec.{eqb, leb}
-use borrow.Author.Tests.{eq-eqb, eqb-true}
+use borrow.Author.Tests.{eqb-true}
 use Rattle.checks.specs.Check.{Exactly}
 use Rattle.checks.proofs.Laws.{not-true-and-false}
 use Rattle.sets.specs.Set.{has, with}
@@ -16,14 +16,15 @@ use Rattle.tree.specs.Class.{parentOf, isClass, isLeaf}
 use Rattle.tree.specs.Rules.{PlanRules}
 use Rattle.tree.specs.Sum.{someTo}
 use Rattle.tree.proofs.Classes.{both-true, class-in, class-range}
-use Rattle.tree.proofs.Rules.{few-classes, parent-lower}
+use Rattle.tree.proofs.Rules.{few-classes, parent-lower, parent-below}
+use Rattle.tree.proofs.Below.{below-root, below-step, below-self}
 use Rattle.tree.proofs.Sums.{some-found, some-which}
 use Rattle.state.specs.declared.Link.{Link}
 use Rattle.state.specs.State.{meaning}
 use Rattle.state.proofs.Meaning.{meaning-held}
-use Rattle.round.specs.Active.{climbs, atOrBelow, waits, someBelow, setOf, upward, roundActive}
+use Rattle.tree.specs.Below.{atOrBelow}
+use Rattle.round.specs.Active.{waits, someBelow, setOf, upward, roundActive}
 use Rattle.round.specs.Steps.{holdsSome}
-use Rattle.round.proofs.Shares.{parent-below}
 
 -- ---- the set of the classes for which f holds
 
@@ -91,46 +92,6 @@ pub record Marks (t : Tree) (w : ℕ → Bool) (active n : ℕ) : Type 0 where
 -- ---- at or below
 
 module _ (t : Tree) (rules : PlanRules t) where
-  climb-root : (n i : ℕ) → climbs n t i 0 ≡ eqb i 0
-  unfolding climbs
-  climb-root zero i = refl
-  climb-root (suc n) i = refl
-
-  climb-suc : (n i j : ℕ) → climbs (suc n) t i (suc j) ≡ (eqb i (suc j) || climbs n t i (parentOf t (suc j)))
-  unfolding climbs
-  climb-suc n i j = refl
-
-  climb-stable : (n m i j : ℕ) → j ≤ n → j ≤ m → j < 64 → climbs n t i j ≡ climbs m t i j
-  climb-stable zero m i j a b u =
-      let e : j ≡ 0 = omega arith in
-      rw e (climb-root zero i ∙ sym (climb-root m i))
-  climb-stable (suc n) m i j a b u = go j m a b u (λ k l x y z. climb-stable n k i l x y z)
-    where
-      go : (j m : ℕ) → j ≤ suc n → j ≤ m → j < 64 → ((k l : ℕ) → l ≤ n → l ≤ k → l < 64 → climbs n t i l ≡ climbs k t i l)
-          → climbs (suc n) t i j ≡ climbs m t i j
-      go zero m a b u ih = climb-root (suc n) i ∙ sym (climb-root m i)
-      go (suc j) zero a b u ih = absurd (omega arith)
-      go (suc j) (suc m) a b u ih =
-          let low = parent-below t (suc j) rules (omega arith) u in
-          climb-suc n i j
-          ∙ ap (λ (x : Bool). eqb i (suc j) || x) (ih m (parentOf t (suc j)) (omega arith) (omega arith) (omega arith))
-          ∙ sym (climb-suc m i j)
-
-  below-step : (i j : ℕ) → 1 ≤ j → j < 64 → atOrBelow t i j ≡ (eqb i j || atOrBelow t i (parentOf t j))
-  unfolding atOrBelow
-  below-step i zero l u = absurd (omega arith)
-  below-step i (suc j) l u =
-      let low = parent-below t (suc j) rules l u in
-      climb-suc 62 i j ∙ ap (λ (x : Bool). eqb i (suc j) || x) (climb-stable 62 63 i (parentOf t (suc j)) (omega arith) (omega arith) (omega arith))
-
-  below-root : (i : ℕ) → atOrBelow t i 0 ≡ eqb i 0
-  unfolding atOrBelow
-  below-root i = climb-root 63 i
-
-  pub below-self : (i : ℕ) → i < 64 → atOrBelow t i i ≡ true
-  below-self zero u = below-root 0 ∙ eq-eqb 0 0 refl
-  below-self (suc i) u = below-step (suc i) (suc i) (omega arith) u ∙ rw (eq-eqb (suc i) (suc i) refl)
-
   -- what is at or below a class is at or below its parent
   pub below-up : (c j : ℕ) → isClass t c ≡ true → j < 64 → atOrBelow t c j ≡ true → atOrBelow t (parentOf t c) j ≡ true
   below-up c j is u h = climb j j (omega arith) u h
@@ -138,28 +99,28 @@ module _ (t : Tree) (rules : PlanRules t) where
       climb : (n j : ℕ) → j ≤ n → j < 64 → atOrBelow t c j ≡ true → atOrBelow t (parentOf t c) j ≡ true
       climb zero j a u h =
           let z : j ≡ 0 = omega arith in
-          let e : eqb c 0 ≡ true = sym (below-root c) ∙ (rw z at h) in
+          let e : eqb c 0 ≡ true = sym (below-root t rules c) ∙ (rw z at h) in
           absurd (omega (arith, eqb-true c 0 e, class-range t c is .0))
       climb (suc n) j a u h = go (ℕ-discrete j 0) (eqb c j) refl (λ k x y z. climb n k x y z)
         where
           go : Dec (j ≡ 0) → (b : Bool) → eqb c j ≡ b
               → ((k : ℕ) → k ≤ n → k < 64 → atOrBelow t c k ≡ true → atOrBelow t (parentOf t c) k ≡ true) → atOrBelow t (parentOf t c) j ≡ true
           go (yes z) b e ih =
-              let f : eqb c 0 ≡ true = sym (below-root c) ∙ (rw z at h) in
+              let f : eqb c 0 ≡ true = sym (below-root t rules c) ∙ (rw z at h) in
               absurd (omega (arith, eqb-true c 0 f, class-range t c is .0))
           go (no z) true e ih =
               let q = eqb-true c j e in
               let low = parent-below t j rules (omega arith) u in
-              below-step (parentOf t c) j (omega arith) u
-              ∙ ap (λ (x : Bool). eqb (parentOf t c) j || x) (ap (λ (x : ℕ). atOrBelow t (parentOf t c) (parentOf t x)) (sym q) ∙ below-self (parentOf t c) (rw (← q) at (few low)))
+              below-step t rules (parentOf t c) j (omega arith) u
+              ∙ ap (λ (x : Bool). eqb (parentOf t c) j || x) (ap (λ (x : ℕ). atOrBelow t (parentOf t c) (parentOf t x)) (sym q) ∙ below-self t rules (parentOf t c) (rw (← q) at (few low)))
               ∙ or-true (eqb (parentOf t c) j)
             where
               few : parentOf t j < j → parentOf t j < 64
               few l = omega arith
           go (no z) false e ih =
               let low = parent-below t j rules (omega arith) u in
-              let more : atOrBelow t c (parentOf t j) ≡ true = sym (ap (λ (x : Bool). x || atOrBelow t c (parentOf t j)) e) ∙ sym (below-step c j (omega arith) u) ∙ h in
-              below-step (parentOf t c) j (omega arith) u
+              let more : atOrBelow t c (parentOf t j) ≡ true = sym (ap (λ (x : Bool). x || atOrBelow t c (parentOf t j)) e) ∙ sym (below-step t rules c j (omega arith) u) ∙ h in
+              below-step t rules (parentOf t c) j (omega arith) u
               ∙ ap (λ (x : Bool). eqb (parentOf t c) j || x) (ih (parentOf t j) (omega arith) (omega arith) more)
               ∙ or-true (eqb (parentOf t c) j)
 
@@ -179,7 +140,7 @@ module _ (t : Tree) (rules : PlanRules t) where
           u = omega (arith, class-range t j is .1, few-classes t rules)
 
           step : (x : ℕ) → atOrBelow t x (parentOf t j) ≡ true → atOrBelow t x j ≡ true
-          step x e = below-step x j (class-range t j is .0) u ∙ ap (λ (y : Bool). eqb x j || y) e ∙ or-true (eqb x j)
+          step x e = below-step t rules x j (class-range t j is .0) u ∙ ap (λ (y : Bool). eqb x j || y) e ∙ or-true (eqb x j)
 
           go : (b : Bool) → eqb i j ≡ b → ((k : ℕ) → k ≤ n → isClass t k ≡ true → atOrBelow t i k ≡ true → Found k) → Found j
           go true e ih = inl (sym (eqb-true i j e))
@@ -189,16 +150,16 @@ module _ (t : Tree) (rules : PlanRules t) where
               low = parent-lower t j rules is
 
               more : atOrBelow t i (parentOf t j) ≡ true
-              more = sym (ap (λ (x : Bool). x || atOrBelow t i (parentOf t j)) e) ∙ sym (below-step i j (class-range t j is .0) u) ∙ h
+              more = sym (ap (λ (x : Bool). x || atOrBelow t i (parentOf t j)) e) ∙ sym (below-step t rules i j (class-range t j is .0) u) ∙ h
 
               up : Dec (parentOf t j ≡ 0) → Found j
               up (yes z) =
-                  let r : eqb i 0 ≡ true = sym (below-root i) ∙ (rw z at more) in
-                  inr (j, is, z ∙ sym (eqb-true i 0 r), below-self j u)
+                  let r : eqb i 0 ≡ true = sym (below-root t rules i) ∙ (rw z at more) in
+                  inr (j, is, z ∙ sym (eqb-true i 0 r), below-self t rules j u)
               up (no z) = on (ih (parentOf t j) (omega (arith, low)) (class-in t (parentOf t j) (omega arith) (omega (arith, low, class-range t j is .1))) more)
                 where
                   on : Found (parentOf t j) → Found j
-                  on (inl q) = inr (j, is, q, below-self j u)
+                  on (inl q) = inr (j, is, q, below-self t rules j u)
                   on (inr w) = inr (w .0, w .1, w .2, step (w .0) (w .3))
 
   -- ---- the classes at or above those that w tells
@@ -209,7 +170,7 @@ module _ (t : Tree) (rules : PlanRules t) where
     some-self i is e =
         let r = class-range t i is in
         let u : i < 64 = omega (arith, r .1, few-classes t rules) in
-        some-found (λ j. w j && atOrBelow t i j) (t .count) i (r .0) (r .1) (rw (e, below-self i u))
+        some-found (λ j. w j && atOrBelow t i j) (t .count) i (r .0) (r .1) (rw (e, below-self t rules i u))
 
     pub some-parent : (c : ℕ) → isClass t c ≡ true → someBelow t w c ≡ true → someBelow t w (parentOf t c) ≡ true
     unfolding someBelow

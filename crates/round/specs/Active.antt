@@ -1,25 +1,17 @@
 -- Who is active, and what the active children of a class weigh (document 01, "Sending", steps 3 and 4). Demand 2.
-use mathlib.Core.Bool.{Bool, cond, _&&_, _||_}
+use mathlib.Core.Bool.{Bool, cond, _&&_}
 use mathlib.Core.List.{List}
 use Prim.Native.Nat.{ℕ, zero, suc}
-use lib.Dec.{eqb, leb}
+use lib.Dec.{leb}
 use lib.ListN.{length}
 use Rattle.sets.specs.Set.{has, with}
 use Rattle.units.specs.declared.Weight.{Weight}
 use Rattle.tree.specs.declared.Tree.{Tree}
-use Rattle.tree.specs.Class.{parentOf, weightOf, isLeaf, isChild}
+use Rattle.tree.specs.Class.{weightOf, isLeaf, isChild}
+use Rattle.tree.specs.Below.{atOrBelow}
 use Rattle.tree.specs.Sum.{sumTo, someTo}
 use Rattle.state.specs.Queue.{table}
 use Rattle.state.specs.State.{State, queueAt}
-
--- class j is class i, or below it; n is as many steps up as there can be
-unfoldable pub climbs : ℕ → Tree → ℕ → ℕ → Bool
-climbs zero t i j = eqb i j
-climbs (suc n) t i zero = eqb i 0
-climbs (suc n) t i (suc j) = eqb i (suc j) || climbs n t i (parentOf t (suc j))
-
-unfoldable pub atOrBelow : Tree → ℕ → ℕ → Bool
-atOrBelow t i j = climbs 63 t i j
 
 -- class i is a leaf that holds a packet
 unfoldable pub waits : State → ℕ → Bool

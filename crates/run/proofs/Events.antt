@@ -23,7 +23,7 @@ use Rattle.tree.specs.Sum.{sumTo}
 use Rattle.state.specs.declared.Link.{Link}
 use Rattle.state.specs.State.{meaning}
 use Rattle.state.proofs.Meaning.{meaning-held}
-use Rattle.laws.proofs.Sums.{sum-same}
+use Rattle.tree.proofs.Sums.{sum-same}
 use Rattle.run.specs.declared.Step.{Step}
 use Rattle.run.specs.Event.{waitingIn, Gives, GoesOn}
 use Rattle.run.specs.Run.{planGives, beginOf, inputGives, firstOf}

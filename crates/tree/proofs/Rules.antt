@@ -44,6 +44,14 @@ pub parent-no-leaf : (t : Tree) (i : ℕ) → PlanRules t → isClass t i ≡ tr
 unfolding badParent
 parent-no-leaf t i r h = neither-true (leb i (parentOf t i)) _ (r .each .parents i h) .1
 
+-- every class number's parent is lower
+pub parent-below : (t : Tree) (i : ℕ) → PlanRules t → 1 ≤ i → i < 64 → parentOf t i < i
+parent-below t i rules l u = go (isClass t i) refl
+  where
+    go : (b : Bool) → isClass t i ≡ b → parentOf t i < i
+    go true is = parent-lower t i rules is
+    go false is = omega (arith, rules .unset .at i u .past is .parent)
+
 -- 5: the weight's range
 pub weight-range : (t : Tree) (i : ℕ) → badWeight t i ≡ false → (1 ≤ weightOf t i) × (weightOf t i ≤ 1_000_000)
 unfolding badWeight

@@ -1,9 +1,9 @@
 -- Laws of sums and searches over the classes 1 to n.
 use mathlib.Core.Bool.{Bool, true, false, _||_, or-true}
-use mathlib.Core.Path.{_≡_, refl}
-use Prim.Native.Nat.{ℕ, zero, suc, _+_, _-_, _*_, _≤_, zero-le}
-use native.Mathlib.Nat.{suc-mul}
-use native.Mathlib.Decide.{decLe}
+use mathlib.Core.Path.{_≡_, refl, sym, ap₂}
+use Prim.Native.Nat.{ℕ, zero, suc, _+_, _-_, _*_, _≤_, _<_, zero-le}
+use native.Mathlib.Nat.{suc-mul, zero-mul, add-mul}
+use native.Mathlib.Decide.{decLe, ℕ-discrete}
 use native.Mathlib.Omega.{arith}
 use Rattle.tree.specs.Sum.{sumTo, someTo}
 
@@ -40,6 +40,82 @@ pub sum-zero : (f : ℕ → ℕ) (n : ℕ) → ((i : ℕ) → 1 ≤ i → i ≤ 
 unfolding sumTo
 sum-zero f zero h = refl
 sum-zero f (suc n) h = omega (arith, sum-zero f n (λ i l u. h i l (omega arith)), h (suc n) (omega arith) (omega arith))
+
+-- sums of the same terms
+pub sum-same : (f g : ℕ → ℕ) (n : ℕ) → ((k : ℕ) → 1 ≤ k → k ≤ n → f k ≡ g k) → sumTo f n ≡ sumTo g n
+unfolding sumTo
+sum-same f g zero h = refl
+sum-same f g (suc n) h = ap₂ _+_ (sum-same f g n (λ k l u. h k l (omega arith))) (h (suc n) (omega arith) (omega arith))
+
+-- sums that differ in one term
+pub sum-change : (f g : ℕ → ℕ) (n i : ℕ) → 1 ≤ i → i ≤ n → ((k : ℕ) → (k ≡ i → ⊥) → f k ≡ g k) → sumTo g n + f i ≡ sumTo f n + g i
+unfolding sumTo
+sum-change f g zero i l u h = absurd (omega arith)
+sum-change f g (suc n) i l u h = go (ℕ-discrete (suc n) i) (λ v. sum-change f g n i l v h)
+  where
+    go : Dec (suc n ≡ i) → (i ≤ n → sumTo g n + f i ≡ sumTo f n + g i) → sumTo g n + g (suc n) + f i ≡ sumTo f n + f (suc n) + g i
+    go (yes e) ih = rw e (omega (arith, sum-same f g n (λ k a b. h k (λ z. omega arith))))
+    go (no e) ih = omega (arith, ih (omega arith), h (suc n) e)
+
+-- sums compared term by term
+pub sum-within : (f g : ℕ → ℕ) (n : ℕ) → ((i : ℕ) → 1 ≤ i → i ≤ n → f i ≤ g i) → sumTo f n ≤ sumTo g n
+unfolding sumTo
+sum-within f g zero h = zero-le
+sum-within f g (suc n) h = omega (arith, sum-within f g n (λ i l u. h i l (omega arith)), h (suc n) (omega arith) (omega arith))
+
+-- a sum goes no further than its last term that is not 0
+pub sum-longer : (f : ℕ → ℕ) (n m : ℕ) → n ≤ m → ((k : ℕ) → n < k → k ≤ m → f k ≡ 0) → sumTo f m ≡ sumTo f n
+unfolding sumTo
+sum-longer f n zero l none =
+    let e : n ≡ 0 = omega arith in
+    rw e
+sum-longer f n (suc m) l none = go (decLe n m) (λ h. sum-longer f n m h (λ k a b. none k a (omega arith)))
+  where
+    go : Dec (n ≤ m) → (n ≤ m → sumTo f m ≡ sumTo f n) → sumTo f m + f (suc m) ≡ sumTo f n
+    go (yes h) ih = omega (arith, ih h, none (suc m) (omega arith) (omega arith))
+    go (no h) ih =
+        let e : n ≡ suc m = omega arith in
+        rw (e, sumTo)
+
+-- a sum is at least each of its terms
+pub sum-part : (f : ℕ → ℕ) (n i : ℕ) → 1 ≤ i → i ≤ n → f i ≤ sumTo f n
+unfolding sumTo
+sum-part f zero i l u = absurd (omega arith)
+sum-part f (suc n) i l u = go (decLe i n) (λ m. sum-part f n i l m)
+  where
+    go : Dec (i ≤ n) → (i ≤ n → f i ≤ sumTo f n) → f i ≤ sumTo f n + f (suc n)
+    go (yes m) ih = omega (arith, ih m)
+    go (no m) ih =
+        let e : i ≡ suc n = omega arith in
+        rw e (omega arith)
+
+-- a sum of sums
+pub sum-add : (f g : ℕ → ℕ) (n : ℕ) → sumTo (λ k. f k + g k) n ≡ sumTo f n + sumTo g n
+unfolding sumTo
+sum-add f g zero = refl
+sum-add f g (suc n) = omega (arith, sum-add f g n)
+
+-- a sum with one term that is not 0
+pub sum-one : (g : ℕ → ℕ) (n i : ℕ) → 1 ≤ i → i ≤ n → ((k : ℕ) → 1 ≤ k → k ≤ n → (k ≡ i → ⊥) → g k ≡ 0) → sumTo g n ≡ g i
+unfolding sumTo
+sum-one g zero i l u none = absurd (omega arith)
+sum-one g (suc n) i l u none = go (ℕ-discrete (suc n) i) (λ v. sum-one g n i l v (λ k a b ne. none k a (omega arith) ne))
+  where
+    go : Dec (suc n ≡ i) → (i ≤ n → sumTo g n ≡ g i) → sumTo g n + g (suc n) ≡ g i
+    go (yes e) ih = rw e (omega (arith, sum-zero g n (λ k a b. none k a (omega arith) (λ z. omega arith))))
+    go (no e) ih = omega (arith, ih (omega arith), none (suc n) (omega arith) (omega arith) e)
+
+-- a sum of sums, in either order
+pub sum-swap : (f : ℕ → ℕ → ℕ) (m n : ℕ) → sumTo (λ i. sumTo (f i) n) m ≡ sumTo (λ j. sumTo (λ i. f i j) m) n
+unfolding sumTo
+sum-swap f zero n = sym (sum-zero (λ j. 0) n (λ k a b. refl))
+sum-swap f (suc m) n = omega (arith, sum-swap f m n, sum-add (λ j. sumTo (λ i. f i j) m) (f (suc m)) n)
+
+-- a sum of multiples
+pub sum-times : (f : ℕ → ℕ) (c n : ℕ) → sumTo (λ i. f i * c) n ≡ sumTo f n * c
+unfolding sumTo
+sum-times f c zero = sym (zero-mul c)
+sum-times f c (suc n) = omega (arith, sum-times f c n, add-mul (sumTo f n) (f (suc n)) c)
 
 -- fewer terms add to no more
 pub sum-grows : (f : ℕ → ℕ) (n m : ℕ) → n ≤ m → sumTo f n ≤ sumTo f m

@@ -1,5 +1,6 @@
 -- The class tree of document 01: what a class is, sums over classes, the plan rules, the round size.
 pub mod Class
 pub mod Sum
+pub mod Below
 pub mod Rules
 pub mod Size

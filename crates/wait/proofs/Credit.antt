@@ -19,7 +19,7 @@ use Rattle.state.specs.Account.{accountOf, balanceOf, heldBy}
 use Rattle.state.specs.Queue.{noPacket}
 use Rattle.state.specs.State.{State, queueAt}
 use Rattle.sound.specs.Sound.{Sound, total}
-use Rattle.sound.proofs.Totals.{sum-part}
+use Rattle.tree.proofs.Sums.{sum-part}
 use Rattle.round.specs.Sending.{firstOf}
 use Rattle.laws.specs.Waits.{Waits}
 use Rattle.laws.specs.Wide.{Wide}

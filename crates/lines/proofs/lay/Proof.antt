@@ -89,6 +89,18 @@ slice-aggregate-put-line-14 c = search needs
 put-line-requires-7 : tie.Need-put-line-requires-7
 put-line-requires-7 c κs = search needs
 
+enum-known-line-7 : tie.Need-enum-known-line-7
+enum-known-line-7 c = search needs
+
+slice-aggregate-put-line-15 : tie.Need-slice-aggregate-put-line-15
+slice-aggregate-put-line-15 c = search needs
+
+slice-aggregate-put-line-16 : tie.Need-slice-aggregate-put-line-16
+slice-aggregate-put-line-16 c = search needs
+
+put-line-requires-8 : tie.Need-put-line-requires-8
+put-line-requires-8 c κs = search needs
+
 returns : tie.Need-returns
 unfolding bytesOf
 returns c = (lays _ _ _ _ _ (c .before .before .before .before .before .line .given .1) (c .put-line .ensures .0), c .put-line .ensures .1)
@@ -116,6 +128,10 @@ returns-6 c = (lays _ _ _ _ _ (c .before .before .before .before .before .line5 
 returns-7 : tie.Need-returns-7
 unfolding bytesOf
 returns-7 c = (lays _ _ _ _ _ (c .before .before .before .before .before .line6 .given .1) (c .put-line7 .ensures .0), c .put-line7 .ensures .1)
+
+returns-8 : tie.Need-returns-8
+unfolding bytesOf
+returns-8 c = (lays _ _ _ _ _ (c .before .before .before .before .before .line7 .given .1) (c .put-line8 .ensures .0), c .put-line8 .ensures .1)
 
 pub lay-spec : {M : Type 1} → statement M
 lay-spec =
@@ -149,10 +165,15 @@ lay-spec =
     slice-aggregate-put-line-13
     slice-aggregate-put-line-14
     put-line-requires-7
+    enum-known-line-7
+    slice-aggregate-put-line-15
+    slice-aggregate-put-line-16
+    put-line-requires-8
     returns
     returns-2
     returns-3
     returns-4
     returns-5
     returns-6
-    returns-7)
+    returns-7
+    returns-8)

@@ -6,11 +6,12 @@ use native.Mathlib.Omega.{arith}
 use lib.ListN.{getD, set, replicate}
 use Rattle.units.specs.declared.Weight.{Weight}
 use Rattle.tree.specs.Class.{noWeight, parentOf, weightOf}
+use Rattle.tree.proofs.Rules.{parent-below}
 use Rattle.state.specs.Account.{accountOf, heldBy}
 use Rattle.state.specs.Queue.{table}
 use Rattle.state.proofs.Tables.{table-none, table-fill, table-front}
 use Rattle.round.specs.Opening.{kindIs, quota}
-use Rattle.round.proofs.Shares.{parent-below, quota-root, quota-step, due-most}
+use Rattle.round.proofs.Shares.{quota-root, quota-step, due-most}
 use Rattle.round.proofs.Sums.{sums-at}
 use borrow.Author.Needs.{needs}
 use Rattle.round.proofs.quotas.Statement.{statement}

@@ -5,9 +5,8 @@ use Prim.Native.Nat.{ℕ, _≤_}
 use native.Mathlib.Omega.{arith}
 use Rattle.sets.specs.Set.{with}
 use Rattle.tree.specs.Class.{parentOf}
-use Rattle.tree.proofs.Rules.{few-classes}
+use Rattle.tree.proofs.Rules.{few-classes, parent-below}
 use Rattle.round.specs.Steps.{holdsSome}
-use Rattle.round.proofs.Shares.{parent-below}
 use Rattle.round.proofs.Waiting.{Marks, marks-none, marks-step, marks-all, taken-is}
 use borrow.Author.Needs.{needs}
 use Rattle.round.proofs.round_active.Statement.{statement}

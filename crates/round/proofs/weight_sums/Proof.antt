@@ -10,7 +10,7 @@ use Rattle.units.specs.declared.Weight.{Weight}
 use Rattle.tree.specs.Class.{noWeight, parentOf, weightOf}
 use Rattle.tree.proofs.Rules.{few-classes, rules-light}
 use Rattle.state.specs.Queue.{table}
-use Rattle.round.proofs.Shares.{parent-below}
+use Rattle.tree.proofs.Rules.{parent-below}
 use Rattle.round.proofs.Sums.{sumAbove, sums-none, sums-all, sums-step, sums-fit}
 use borrow.Author.Needs.{needs}
 use Rattle.round.proofs.weight_sums.Statement.{statement}

@@ -1,0 +1,36 @@
+-- What a planner asks, word by word (document 02, E13): the first word is the capacity, each other is CLASS=REQUEST.
+use mathlib.Core.Bool.{true, false}
+use mathlib.Core.List.{List, [], _∷_}
+use Prim.Native.Nat.{ℕ}
+use lib.ListN.{replicate, set}
+use Rattle.words.specs.declared.Number.{Number}
+use Rattle.words.specs.declared.Number.the-variants.{Is, No}
+use Rattle.words.specs.declared.Pair.{Pair}
+use Rattle.words.specs.declared.Pair.the-variants.{Asks, Other}
+use Rattle.words.specs.Word.{numberOf, pairOf}
+use Rattle.asked.specs.declared.Asked.{Asked}
+
+-- what no word asks, or a word that is not taken
+abbrev pub notAsked : Asked
+notAsked = record { good = false; capacity = 0; requests = replicate 64 0 }
+
+-- the first word: the capacity, which each class requests that no word names
+abbrev pub opened : Number → Asked
+opened (Is n) = record { good = true; capacity = n; requests = replicate 64 n }
+opened No = notAsked
+
+-- each other word: a class and its request; a class named twice has the last
+abbrev pub heeded : Asked → Pair → Asked
+heeded asked (Asks class request) =
+    record { good = asked .good; capacity = asked .capacity; requests = set (asked .requests) class request }
+heeded asked Other = notAsked
+
+-- the words after the first, in order
+abbrev pub heededAll : Asked → List (List ℕ) → Asked
+heededAll asked [] = asked
+heededAll asked (word ∷ words) = heededAll (heeded asked (pairOf word)) words
+
+-- all the words
+abbrev pub askedBy : List (List ℕ) → Asked
+askedBy [] = notAsked
+askedBy (word ∷ words) = heededAll (opened (numberOf word)) words

@@ -1,0 +1,279 @@
+//! The class tree, the plan reader, the refusals and the reading of standard input: what the programs that take a plan share.
+//! Written from the words of document 01 only; each program uses a part of it.
+#![allow(dead_code)]
+
+use std::io::Read;
+use std::os::fd::AsFd;
+
+/// "Others are numbered 1, 2, .. in plan order, at most 63".
+pub const MOST_CLASSES: usize = 63;
+/// "a weight from 1 to 1,000,000".
+pub const MOST_WEIGHT: u64 = 1_000_000;
+/// "A leaf has a longest packet, 1 to 9,216 bytes".
+pub const MOST_LONGEST: u64 = 9_216;
+/// "the program's input exceeds 65,536 bytes".
+pub const MOST_INPUT: usize = 65_536;
+/// "Class 0 is the root".
+pub const ROOT: usize = 0;
+
+// ---------------------------------------------------------------------------------------------
+// Arithmetic that ends the program on a contradiction instead of wrapping round.
+
+/// Adds two numbers; no sum in document 01 may overflow.
+pub fn add(a: u64, b: u64) -> u64 {
+    a.checked_add(b).expect("a sum overflows")
+}
+
+/// Subtracts; no balance in document 01 may fall below 0.
+pub fn sub(a: u64, b: u64) -> u64 {
+    a.checked_sub(b).expect("a balance would fall below 0")
+}
+
+/// Multiplies; weight times quota is never more than Q.
+pub fn mul(a: u64, b: u64) -> u64 {
+    a.checked_mul(b).expect("a product overflows")
+}
+
+/// Divides and rounds down; an active class always has an active child, so the weight sum isn't 0.
+pub fn div(a: u64, b: u64) -> u64 {
+    a.checked_div(b).expect("a weight sum is 0")
+}
+
+// ---------------------------------------------------------------------------------------------
+// Refusals: "Numbers a crew can act on".
+
+/// A refusal's number and its place, as in the table.
+#[derive(Clone, Copy, PartialEq, Eq, Debug)]
+pub struct Refusal {
+    pub number: usize,
+    pub place: usize,
+}
+
+/// Makes a refusal as an error, to be handed on by `?`.
+pub fn refuse<T>(number: usize, place: usize) -> Result<T, Refusal> {
+    Err(Refusal { number, place })
+}
+
+// ---------------------------------------------------------------------------------------------
+// The class tree.
+
+/// The three sorts of class that document 01 tells apart.
+#[derive(Clone, Copy, PartialEq, Eq, Debug)]
+pub enum Sort {
+    Root,
+    Inner,
+    Leaf,
+}
+
+/// One class; "what a plan does not set .. is 0".
+#[derive(Clone, PartialEq, Eq, Debug)]
+pub struct Class {
+    pub sort: Sort,
+    pub parent: usize,
+    pub weight: u64,
+    pub longest: u64,
+}
+
+/// The tree: position 0 is the root, position c is class c.
+#[derive(Clone, PartialEq, Eq, Debug)]
+pub struct Tree {
+    pub classes: Vec<Class>,
+}
+
+impl Tree {
+    /// A tree without classes: the root alone, "the root has no weight".
+    pub fn without_classes() -> Tree {
+        Tree { classes: vec![Class { sort: Sort::Root, parent: 0, weight: 0, longest: 0 }] }
+    }
+
+    /// How many classes the plan named; the root is not counted ("link 4 40" for tree P).
+    pub fn count(&self) -> usize {
+        self.classes.len() - 1
+    }
+
+    /// Whether this number is "a leaf of the plan".
+    pub fn is_leaf(&self, class: usize) -> bool {
+        class < self.classes.len() && self.classes[class].sort == Sort::Leaf
+    }
+
+    /// Whether this number is an inner class; the root is not one.
+    pub fn is_inner(&self, class: usize) -> bool {
+        class < self.classes.len() && self.classes[class].sort == Sort::Inner
+    }
+
+    /// All children of a class, found by a scan of all classes.
+    pub fn children(&self, parent: usize) -> Vec<usize> {
+        (1..self.classes.len()).filter(|&c| self.classes[c].parent == parent).collect()
+    }
+
+    /// "The round size Q is the sum of all weights plus the sum of all leaves' longest packets."
+    pub fn round_size(&self) -> u64 {
+        let mut size = 0;
+        for class in &self.classes {
+            size = add(size, class.weight);
+            if class.sort == Sort::Leaf {
+                size = add(size, class.longest);
+            }
+        }
+        size
+    }
+
+    /// How many steps the deepest class lies below the root (for the counts only).
+    pub fn depth(&self) -> usize {
+        let mut depths = vec![0; self.classes.len()];
+        for class in 1..self.classes.len() {
+            depths[class] = depths[self.classes[class].parent] + 1;
+        }
+        depths.into_iter().max().unwrap_or(0)
+    }
+}
+
+/// Refusal 4: "parent not lower than the class, or a leaf".
+pub fn check_parent(tree: &Tree, class: usize, parent: usize, place: usize) -> Result<(), Refusal> {
+    if parent >= class || tree.is_leaf(parent) {
+        return refuse(4, place);
+    }
+    Ok(())
+}
+
+/// Refusal 5: "weight outside its range", 1 to 1,000,000.
+pub fn check_weight(weight: u64, place: usize) -> Result<(), Refusal> {
+    if weight < 1 || weight > MOST_WEIGHT {
+        return refuse(5, place);
+    }
+    Ok(())
+}
+
+/// Refusal 6: "longest outside its range", 1 to 9,216; only a leaf has one.
+pub fn check_longest(longest: u64, place: usize) -> Result<(), Refusal> {
+    if longest < 1 || longest > MOST_LONGEST {
+        return refuse(6, place);
+    }
+    Ok(())
+}
+
+/// "After the end record come 9, then class by class upward 8 and 7."
+pub fn check_whole_tree(tree: &Tree) -> Result<(), Refusal> {
+    if tree.count() == 0 {
+        return refuse(9, 0);
+    }
+    for class in 1..tree.classes.len() {
+        if !tree.is_inner(class) {
+            continue;
+        }
+        let children = tree.children(class);
+        // 8: "inner class without a child"
+        if children.is_empty() {
+            return refuse(8, class);
+        }
+        // 7: "children's weights exceed their inner parent's"
+        let sum = children.iter().fold(0, |sum, &c| add(sum, tree.classes[c].weight));
+        if sum > tree.classes[class].weight {
+            return refuse(7, class);
+        }
+    }
+    Ok(())
+}
+
+/// Whether a tree, however it was made, obeys the plan rules (part of "A state is sound").
+pub fn obeys_plan_rules(tree: &Tree) -> bool {
+    let root = &tree.classes[ROOT];
+    // "the root's parent and weight, the longest packet of the root .. is 0"
+    if root.sort != Sort::Root || root.parent != 0 || root.weight != 0 || root.longest != 0 {
+        return false;
+    }
+    if tree.count() > MOST_CLASSES {
+        return false;
+    }
+    for number in 1..tree.classes.len() {
+        let class = &tree.classes[number];
+        let longest_fits = match class.sort {
+            Sort::Root => false,
+            Sort::Inner => class.longest == 0,
+            Sort::Leaf => check_longest(class.longest, 0).is_ok(),
+        };
+        if !longest_fits
+            || check_parent(tree, number, class.parent, 0).is_err()
+            || check_weight(class.weight, 0).is_err()
+        {
+            return false;
+        }
+    }
+    check_whole_tree(tree).is_ok()
+}
+
+// ---------------------------------------------------------------------------------------------
+// The plan's bytes.
+
+/// "Numbers are big-endian."
+pub fn big_endian(bytes: &[u8]) -> u64 {
+    bytes.iter().fold(0, |number, &byte| add(mul(number, 256), byte as u64))
+}
+
+/// "The body of a record is the part after its kind byte"; cut inside a body: 1 at "the record's first byte".
+pub fn body_of(input: &[u8], first: usize, length: usize) -> Result<&[u8], Refusal> {
+    match input.get(first + 1..first + 1 + length) {
+        Some(body) => Ok(body),
+        None => refuse(1, first),
+    }
+}
+
+/// Adds the class of one record to the tree; "A record is checked in the order 2, 1, 3, 4, 5, 6".
+pub fn add_class(tree: &mut Tree, sort: Sort, body: &[u8], first: usize) -> Result<(), Refusal> {
+    // 3: "a 64th class record"
+    if tree.count() == MOST_CLASSES {
+        return refuse(3, first);
+    }
+    let class = tree.count() + 1;
+    let parent = big_endian(&body[0..1]) as usize;
+    let weight = big_endian(&body[1..5]);
+    check_parent(tree, class, parent, first)?;
+    check_weight(weight, first)?;
+    let mut longest = 0;
+    if sort == Sort::Leaf {
+        longest = big_endian(&body[5..7]);
+        check_longest(longest, first)?;
+    }
+    tree.classes.push(Class { sort, parent, weight, longest });
+    Ok(())
+}
+
+/// "A plan is class records and one end record; the reader says how many bytes it used."
+pub fn read_plan(input: &[u8]) -> Result<(Tree, usize), Refusal> {
+    let mut tree = Tree::without_classes();
+    let mut first = 0;
+    loop {
+        // "before the kind byte: the input's length"
+        if first == input.len() {
+            return refuse(1, input.len());
+        }
+        // "One byte of kind, then a body whose length the kind fixes."
+        let length = match input[first] {
+            0 => 0,
+            1 => 5,
+            2 => 7,
+            _ => return refuse(2, first),
+        };
+        let body = body_of(input, first, length)?;
+        match input[first] {
+            0 => {
+                check_whole_tree(&tree)?;
+                return Ok((tree, first + 1));
+            }
+            1 => add_class(&mut tree, Sort::Inner, body, first)?,
+            _ => add_class(&mut tree, Sort::Leaf, body, first)?,
+        }
+        first = first + 1 + length;
+    }
+}
+
+// ---------------------------------------------------------------------------------------------
+// Standard input.
+
+/// Reads "no more than 65,537 bytes": straight from the descriptor, as a buffered reader might take more from a pipe.
+pub fn read_input() -> std::io::Result<Vec<u8>> {
+    let standard_input = std::fs::File::from(std::io::stdin().as_fd().try_clone_to_owned()?);
+    let mut input = Vec::new();
+    standard_input.take(MOST_INPUT as u64 + 1).read_to_end(&mut input)?;
+    Ok(input)
+}
