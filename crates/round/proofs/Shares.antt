@@ -15,6 +15,7 @@ use Rattle.tree.specs.Class.{parentOf, weightOf, isClass}
 use Rattle.tree.specs.Rules.{PlanRules}
 use Rattle.tree.proofs.Classes.{root-no-class}
 use Rattle.tree.proofs.Rules.{parent-lower, parent-below, weight-range}
+use Rattle.tree.specs.Size.{mostSize}
 use Rattle.state.specs.declared.Account.{Account}
 use Rattle.state.specs.Account.{noAccount, accountOf, heldBy}
 use Rattle.round.specs.Active.{weightSum}
@@ -125,7 +126,7 @@ module _ (kind : Kind) (t : Tree) (active : ℕ) (accounts : List Account) (can 
       ∙ div-zero _
 
   -- what a class has is at most the ceiling of Q for each class down to it
-  has-bound : (n i : ℕ) → i ≤ n → i < 64 → (1 ≤ i → has active i ≡ true) → hasOf kind t active accounts i ≤ (i + 1) * 63_580_608
+  has-bound : (n i : ℕ) → i ≤ n → i < 64 → (1 ≤ i → has active i ≡ true) → hasOf kind t active accounts i ≤ (i + 1) * mostSize
   unfolding hasOf
   has-bound zero i a u on =
       let e : i ≡ 0 = omega arith in
@@ -133,13 +134,13 @@ module _ (kind : Kind) (t : Tree) (active : ℕ) (accounts : List Account) (can 
   has-bound (suc n) i a u on = go i a u on (λ j x y z. has-bound n j x y z)
     where
       go : (i : ℕ) → i ≤ suc n → i < 64 → (1 ≤ i → has active i ≡ true)
-          → ((j : ℕ) → j ≤ n → j < 64 → (1 ≤ j → has active j ≡ true) → hasOf kind t active accounts j ≤ (j + 1) * 63_580_608)
-          → hasOf kind t active accounts i ≤ (i + 1) * 63_580_608
+          → ((j : ℕ) → j ≤ n → j < 64 → (1 ≤ j → has active j ≡ true) → hasOf kind t active accounts j ≤ (j + 1) * mostSize)
+          → hasOf kind t active accounts i ≤ (i + 1) * mostSize
       go zero a u on ih = omega (arith, can .small 0 (omega arith))
       go (suc i) a u on ih = at (isClass t (suc i)) refl
         where
           at : (b : Bool) → isClass t (suc i) ≡ b
-              → heldBy (accountOf accounts (suc i)) + weightOf t (suc i) * quota kind t active accounts (parentOf t (suc i)) ≤ (suc i + 1) * 63_580_608
+              → heldBy (accountOf accounts (suc i)) + weightOf t (suc i) * quota kind t active accounts (parentOf t (suc i)) ≤ (suc i + 1) * mostSize
           at true is =
               let low = parent-lower t (suc i) (can .rules) is in
               omega (
@@ -165,8 +166,8 @@ module _ (kind : Kind) (t : Tree) (active : ℕ) (accounts : List Account) (can 
           let most = has-bound 63 (suc i) (omega arith) u (λ l. on) in
           rw (quota-step kind t active accounts (can .rules) (suc i) (omega arith) u) (omega (arith, most-of i most, div-le-self (heldBy (accountOf accounts (suc i)) + weightOf t (suc i) * quota kind t active accounts (parentOf t (suc i))) (weightSum t active (suc i))))
         where
-          most-of : (i : ℕ) → hasOf kind t active accounts (suc i) ≤ (suc i + 1) * 63_580_608
-              → heldBy (accountOf accounts (suc i)) + weightOf t (suc i) * quota kind t active accounts (parentOf t (suc i)) ≤ (suc i + 1) * 63_580_608
+          most-of : (i : ℕ) → hasOf kind t active accounts (suc i) ≤ (suc i + 1) * mostSize
+              → heldBy (accountOf accounts (suc i)) + weightOf t (suc i) * quota kind t active accounts (parentOf t (suc i)) ≤ (suc i + 1) * mostSize
           most-of i h = has-suc kind t active accounts i h
       other i u false off = omega (arith, quota-inactive (suc i) (omega arith) u off)
 

@@ -10,6 +10,7 @@ use Rattle.tree.specs.declared.Tree.{Tree}
 use Rattle.units.specs.Unit.{dueOf}
 use Rattle.tree.specs.Class.{parentOf, weightOf, isClass, isLeaf}
 use Rattle.tree.specs.Rules.{PlanRules}
+use Rattle.tree.specs.Size.{mostSize}
 use Rattle.state.specs.declared.Account.{Account}
 use Rattle.round.specs.Active.{weightSum}
 use Rattle.state.specs.Account.{accountOf, heldBy, tookQuota, handedDown}
@@ -18,7 +19,7 @@ use Rattle.state.specs.Account.{accountOf, heldBy, tookQuota, handedDown}
 pub record CanOpen (t : Tree) (active : ℕ) (accounts : List Account) : Type 0 where
   pub rules : PlanRules t
   pub many : length accounts ≡ 64
-  pub small : (i : ℕ) → i < 64 → heldBy (accountOf accounts i) ≤ 63_580_608
+  pub small : (i : ℕ) → i < 64 → heldBy (accountOf accounts i) ≤ mostSize
   pub upward : (i : ℕ) → isClass t i ≡ true → has active i ≡ true → has active (parentOf t i) ≡ true
 
 -- the account of a class other than the root after an opening with the quotas q
@@ -34,7 +35,7 @@ openedBy t active q i a =
 pub record Fitting (t : Tree) (active : ℕ) (q : ℕ → ℕ) (i : ℕ) (a : Account) : Type 0 where
   pub due : weightOf t i * q (parentOf t i) ≤ 4_069_158_912_000_000
   pub down : weightSum t active i * q i ≤ heldBy a + weightOf t i * q (parentOf t i)
-  pub held : heldBy a ≤ 63_580_608
+  pub held : heldBy a ≤ mostSize
 
 -- the accounts after an opening, from the quotas and from accounts whose root has opened already
 abbrev pub openedFrom : Tree → ℕ → List ℕ → List Account → ℕ → Account

@@ -9,6 +9,7 @@ ghost use lib.ListN.{getD};
 ghost use Rattle.tree.specs.Class.{parentOf, isClass};
 ghost use Rattle.sets.specs.Set.{has};
 ghost use Rattle.tree.specs.Rules.{PlanRules};
+ghost use Rattle.tree.specs.Size.{mostSize};
 ghost use Rattle.state.specs.Account.{heldBy};
 ghost use Rattle.state.specs.Queue.{table};
 ghost use Rattle.round.specs.Active.{weightSum, weightSums, upward};
@@ -59,7 +60,7 @@ pub fn weight_sums(tree: Tree, active: u64) -> [Weight; 64]
 
 // The root's fair quota: in a surplus round it shares out nothing.
 fn root_quota(tree: Tree, active: u64, sum: Weight, surplus: bool, root: Account) -> u64
-    requires { ⌜ (sum .0 ≡ weightSum tree active 0) × (heldBy root ≤ 63_580_608) ⌝ }
+    requires { ⌜ (sum .0 ≡ weightSum tree active 0) × (heldBy root ≤ mostSize) ⌝ }
     ensures { λ r. ⌜ r ≡ rootShare (kindIs surplus) tree active root ⌝ }
 {
     if surplus {
@@ -103,7 +104,7 @@ fn open_root(
     root: Account,
     quota: u64,
 ) -> Account
-    requires { ⌜ (sum .0 ≡ weightSum tree active 0) × (heldBy root ≤ 63_580_608) × (quota ≡ rootShare (kindIs surplus) tree active root) ⌝ }
+    requires { ⌜ (sum .0 ≡ weightSum tree active 0) × (heldBy root ≤ mostSize) × (quota ≡ rootShare (kindIs surplus) tree active root) ⌝ }
     ensures { λ r. ⌜ r ≡ rootOpened (kindIs surplus) tree active root ⌝ }
 {
     if surplus {
@@ -164,7 +165,7 @@ pub fn open_accounts(
 
 // Whether class i is inner and active and has a surplus: its account is at or above the weight sum of its active children.
 fn class_surplus(tree: Tree, active: u64, sum: Weight, i: usize, account: Account) -> bool
-    requires { ⌜ (sum .0 ≡ weightSum tree active i) × (isClass tree i ≡ true) × (i < 64) × (heldBy account ≤ 63_580_608) ⌝ }
+    requires { ⌜ (sum .0 ≡ weightSum tree active i) × (isClass tree i ≡ true) × (i < 64) × (heldBy account ≤ mostSize) ⌝ }
     ensures { λ r. ⌜ r ≡ surplusAt tree active account i ⌝ }
 {
     if sets::has(tree.leaves, i) {

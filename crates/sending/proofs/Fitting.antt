@@ -10,6 +10,7 @@ use Rattle.tree.specs.Class.{isClass}
 use Rattle.tree.specs.Rules.{PlanRules}
 use Rattle.tree.proofs.Classes.{class-range}
 use Rattle.tree.proofs.Rules.{parent-lower, few-classes}
+use Rattle.tree.specs.Size.{mostSize}
 use Rattle.round.specs.declared.Books.{Books}
 use Rattle.round.specs.Sending.{paidBy, givenUp}
 use Rattle.laws.proofs.GivenUp.{given-length, given-total}
@@ -20,7 +21,7 @@ use Rattle.laws.proofs.Stores.{total-set}
 use Rattle.sending.specs.Steps.{Fit}
 
 -- no class holds more than all together
-pub held-small : (accounts : List Account) (i : ℕ) → Fit accounts → i < 64 → heldBy (accountOf accounts i) ≤ 63_580_608
+pub held-small : (accounts : List Account) (i : ℕ) → Fit accounts → i < 64 → heldBy (accountOf accounts i) ≤ mostSize
 held-small accounts i f u = omega (arith, total-part accounts i u, f .small)
 
 -- the accounts after a store that adds nothing to the total

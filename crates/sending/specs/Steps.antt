@@ -3,6 +3,7 @@ use mathlib.Core.List.{List}
 use mathlib.Core.Path.{_≡_}
 use Prim.Native.Nat.{ℕ, _≤_, _<_}
 use lib.ListN.{length}
+use Rattle.tree.specs.Size.{mostSize}
 use Rattle.state.specs.declared.Account.{Account}
 use Rattle.state.specs.declared.Link.{Link}
 use Rattle.state.specs.State.{meaning}
@@ -12,7 +13,7 @@ use Rattle.round.specs.Sending.{nextLeaf}
 -- accounts that fit: one for every class number, and all B and R within the ceiling of Q
 pub record Fit (accounts : List Account) : Type 0 where
   pub many : length accounts ≡ 64
-  pub small : total accounts ≤ 63_580_608
+  pub small : total accounts ≤ mostSize
 
 -- a sound link whose round has not closed: leaf i sends next
 pub record SendsNext (l : Link) (i : ℕ) : Type 0 where

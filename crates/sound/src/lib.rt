@@ -3,6 +3,7 @@
 ghost use mathlib.Core.Path.{_≡_};
 ghost use mathlib.Core.Bool.{true, false};
 ghost use Prim.Native.Nat.{_^_, _≤_, _<_};
+ghost use Rattle.tree.specs.Size.{mostSize};
 ghost use Rattle.checks.specs.Check.{Exactly};
 ghost use Rattle.units.specs.Cost.{costOf};
 ghost use Rattle.tree.specs.Rules.{PlanRules};
@@ -244,7 +245,7 @@ fn accounts_small(accounts: [Account; Link::CLASSES], size: Bytes) -> bool
 
 // All B and R together.
 fn accounts_total(accounts: [Account; Link::CLASSES]) -> Bytes
-    requires { ⌜ Small accounts 63_580_608 ⌝ }
+    requires { ⌜ Small accounts mostSize ⌝ }
     ensures { λ r. ⌜ r .0 ≡ total accounts ⌝ }
 {
     let root = accounts[0];
@@ -260,7 +261,7 @@ fn accounts_total(accounts: [Account; Link::CLASSES]) -> Bytes
 
 // All B and R add to the size.
 fn adds_up(accounts: [Account; Link::CLASSES], size: Bytes) -> bool
-    requires { ⌜ size .0 ≤ 63_580_608 ⌝ }
+    requires { ⌜ size .0 ≤ mostSize ⌝ }
     ensures { λ r. ⌜ Exactly r (total accounts ≡ size .0) ⌝ }
 {
     if !accounts_small(accounts, size) {

@@ -1,19 +1,19 @@
 -- What the plan rules say of a class, and the ceiling of the round size. Demands 1 and 3.
 use mathlib.Core.Bool.{Bool, true, false, cond}
 use mathlib.Core.Path.{_≡_, refl}
-use Prim.Native.Nat.{ℕ, _≤_, _<_, zero-le}
+use Prim.Native.Nat.{ℕ, _*_, _≤_, _<_, zero-le}
 use native.Mathlib.Decide.{decLt}
 use native.Mathlib.Omega.{arith}
 use lib.Dec.{leb, ltb}
 use borrow.Author.Tests.{ltb-false, leb-false, eqb-false}
 use Rattle.checks.proofs.Laws.{not-true-and-false}
 use Rattle.sets.proofs.Laws.{has-past}
-use Rattle.units.specs.Cost.{costOf}
+use Rattle.units.specs.Cost.{costOf, mostCost}
 use Rattle.units.proofs.Laws.{cost-ceiling}
 use Rattle.tree.specs.declared.Tree.{Tree}
 use Rattle.tree.specs.Class.{parentOf, weightOf, longestOf, isClass, isLeaf}
 use Rattle.tree.specs.Rules.{tooMany, badParent, badWeight, badLongest, noClass, Light, PlanRules}
-use Rattle.tree.specs.Size.{allWeights, allLongest, longestCost, roundSize}
+use Rattle.tree.specs.Size.{allWeights, allLongest, longestCost, roundSize, mostSize}
 use Rattle.tree.proofs.Sums.{sum-bound}
 use Rattle.tree.proofs.Classes.{neither-true, class-in}
 
@@ -73,11 +73,11 @@ rules-light t r = record {
   light = λ i h. weight-range t i (r .each .weights i h) .1;
 }
 
-pub longest-cost-bound : (t : Tree) (i : ℕ) → PlanRules t → 1 ≤ i → i ≤ t .count → longestCost t i ≤ 9_216
+pub longest-cost-bound : (t : Tree) (i : ℕ) → PlanRules t → 1 ≤ i → i ≤ t .count → longestCost t i ≤ mostCost
 unfolding longestCost
 longest-cost-bound t i r l u = go (isLeaf t i) refl
   where
-    go : (b : Bool) → isLeaf t i ≡ b → cond b (costOf (longestOf t i)) 0 ≤ 9_216
+    go : (b : Bool) → isLeaf t i ≡ b → cond b (costOf (longestOf t i)) 0 ≤ mostCost
     go true e = cost-ceiling (longestOf t i) (longest-range t i (r .each .longests i (class-in t i l u)) e .1)
     go false e = zero-le
 
@@ -89,13 +89,13 @@ weights-ceiling t r =
     let sum = sum-bound (weightOf t) 1_000_000 (t .count) (λ i l u. rules-light t r .light i (class-in t i l u)) in
     omega arith
 
-pub longest-ceiling : (t : Tree) → PlanRules t → allLongest t ≤ 580_608
+pub longest-ceiling : (t : Tree) → PlanRules t → allLongest t ≤ 63 * mostCost
 unfolding allLongest
 longest-ceiling t r =
     let few = few-classes t r in
-    let sum = sum-bound (longestCost t) 9_216 (t .count) (λ i l u. longest-cost-bound t i r l u) in
+    let sum = sum-bound (longestCost t) mostCost (t .count) (λ i l u. longest-cost-bound t i r l u) in
     omega arith
 
-pub size-ceiling : (t : Tree) → PlanRules t → roundSize t ≤ 63_580_608
+pub size-ceiling : (t : Tree) → PlanRules t → roundSize t ≤ mostSize
 unfolding roundSize
 size-ceiling t r = omega (arith, weights-ceiling t r, longest-ceiling t r)

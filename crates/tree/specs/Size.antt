@@ -1,8 +1,8 @@
 -- The round size Q (document 01, "The class tree"). Demands 2 and 3.
 use mathlib.Core.Bool.{cond}
-use Prim.Native.Nat.{ℕ}
+use Prim.Native.Nat.{ℕ, _+_, _*_}
 use Rattle.units.specs.Unit.{sizeOf}
-use Rattle.units.specs.Cost.{costOf}
+use Rattle.units.specs.Cost.{costOf, mostCost}
 use Rattle.tree.specs.declared.Tree.{Tree}
 use Rattle.tree.specs.Class.{weightOf, longestOf, isLeaf}
 use Rattle.tree.specs.Sum.{sumTo}
@@ -22,3 +22,7 @@ allLongest t = sumTo (longestCost t) (t .count)
 -- Q: the sum of all weights plus the sum of all leaves' longest packets
 unfoldable pub roundSize : Tree → ℕ
 roundSize t = sizeOf (allWeights t) (allLongest t)
+
+-- Q is at most 63,580,608: 63 classes of the heaviest weight, each a leaf of the longest packet
+abbrev pub mostSize : ℕ
+mostSize = 63 * 1_000_000 + 63 * mostCost

@@ -10,10 +10,11 @@ use lib.ListN.{length, getD, length-set}
 use lib.Seq.{take-all}
 use Rattle.checks.specs.declared.Verdict.the-variants.{Passed}
 use Rattle.checks.specs.Check.{firstBroken}
-use Rattle.units.specs.Cost.{costOf}
+use Rattle.units.specs.Cost.{costOf, mostCost}
 use Rattle.units.proofs.Laws.{cost-ceiling}
 use Rattle.tree.specs.Class.{weightOf, isLeaf}
 use Rattle.tree.proofs.Rules.{weight-range, longest-range, size-ceiling}
+use Rattle.tree.specs.Size.{mostSize}
 use Rattle.state.specs.declared.Packet.{Packet}
 use Rattle.state.specs.Account.{balanceOf}
 use Rattle.state.specs.Queue.{noPacket}
@@ -49,11 +50,11 @@ leaf-bound-small s i sound u leaf =
     let weight = weight-range (s .tree) i (rules .each .weights i is) .1 in
     let longest = longest-range (s .tree) i (rules .each .longests i is) leaf .1 in
     let each =
-    bytes-most (queueAt s i) 9_216
+    bytes-most (queueAt s i) mostCost
     (λ j v. cost-ceiling (getD (queueAt s i) j noPacket .length) (omega (arith, longest, sound .holds i u .range leaf j v .high)))
     in
-    let size : s .size ≤ 63_580_608 = omega (arith, sound .fits .size, size-ceiling (s .tree) rules) in
-    let over : overRoundedUp (bytesIn (queueAt s i)) w + 1 ≤ 1_294_913 =
+    let size : s .size ≤ mostSize = omega (arith, sound .fits .size, size-ceiling (s .tree) rules) in
+    let over : overRoundedUp (bytesIn (queueAt s i)) w + 1 ≤ 32 * mostCost + 1_000_001 =
     omega (arith, up-most (bytesIn (queueAt s i)) w, weight, each, sound .holds i u .few leaf) in
     omega (arith, mul-le-mul over size)
 

@@ -1,9 +1,10 @@
 -- `sound::accounts_total` meets its contract.
 use mathlib.Core.Path.{_≡_}
-use Prim.Native.Nat.{ℕ, _+_, _-_, _≤_}
+use Prim.Native.Nat.{ℕ, _+_, _-_, _*_, _≤_}
 use native.Mathlib.Omega.{arith}
 use Rattle.tree.specs.Sum.{sumTo}
 use Rattle.tree.proofs.Sums.{sum-none, sum-step, sum-bound}
+use Rattle.tree.specs.Size.{mostSize}
 use Rattle.state.specs.Account.{accountOf, heldBy}
 use Rattle.sound.specs.Sound.{total}
 use borrow.Author.Needs.{needs}
@@ -53,7 +54,7 @@ plus-requires c κs =
       st .pre .residual 0 (omega arith),
       st .pre .balance i (omega arith),
       st .pre .residual i (omega arith),
-      sum-bound f 127_161_216 (i - 1) (λ k l u. omega (arith, st .pre .balance k (omega arith), st .pre .residual k (omega arith))),
+      sum-bound f (2 * mostSize) (i - 1) (λ k l u. omega (arith, st .pre .balance k (omega arith), st .pre .residual k (omega arith))),
     )
 
 add-i : tie.Need-add-i Inv-loop μ-loop

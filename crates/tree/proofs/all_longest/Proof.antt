@@ -9,6 +9,7 @@ use Rattle.tree.proofs.Rules.{few-classes, longest-cost-bound}
 use borrow.Author.Needs.{needs}
 use Rattle.tree.proofs.all_longest.Statement.{statement}
 use Rattle.tree.proofs.all_longest.Tie as tie
+use Rattle.units.specs.Cost.{mostCost}
 
 abbrev Inv-loop : tie.InvT-loop
 Inv-loop tree last sum₀ i₀ sum i = (1 ≤ i) × (i ≤ tree .count + 1) × (sum .0 ≡ sumTo (longestCost tree) (i - 1))
@@ -32,7 +33,7 @@ plus-requires c κs =
       arith,
       few-classes t (st .pre),
       longest-cost-bound t i (st .pre) (h .before .loop .inv .0) (h .loop-test .taken),
-      sum-bound (longestCost t) 9_216 (i - 1) (λ k l u. longest-cost-bound t k (st .pre) l (omega arith)),
+      sum-bound (longestCost t) mostCost (i - 1) (λ k l u. longest-cost-bound t k (st .pre) l (omega arith)),
     )
 
 add-i : tie.Need-add-i Inv-loop μ-loop
