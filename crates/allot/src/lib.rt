@@ -20,9 +20,9 @@ use units::Weight;
 // unallotted at it.
 pub struct Allotted {
     pub verdict: Verdict,
-    pub requests: [u64; 64],
-    pub gets: [u64; 64],
-    pub unallotted: [u64; 64],
+    pub requests: [u64; Tree::CLASSES],
+    pub gets: [u64; Tree::CLASSES],
+    pub unallotted: [u64; Tree::CLASSES],
 }
 
 // How a class shares out what it has: F where its request is not met, and what stays unallotted.
@@ -33,9 +33,9 @@ struct Split {
 
 // What the classes settled so far get, with their F and what stays unallotted at them.
 struct Shares {
-    gets: [u64; 64],
-    fair: [u64; 64],
-    unallotted: [u64; 64],
+    gets: [u64; Tree::CLASSES],
+    fair: [u64; Tree::CLASSES],
+    unallotted: [u64; Tree::CLASSES],
 }
 
 // The smaller of two numbers.
@@ -68,7 +68,7 @@ fn child_share(parent: u8, p: usize, request: u64, weight: Weight, f: u64) -> u6
 }
 
 // What the children of class p get together at F.
-fn children_get(tree: Tree, requests: [u64; 64], p: usize, f: u64) -> u64
+fn children_get(tree: Tree, requests: [u64; Tree::CLASSES], p: usize, f: u64) -> u64
     requires { ⌜ Adding tree requests × (f ≤ 63_000_000_001) ⌝ }
     ensures { λ r. ⌜ r ≡ ofChildren tree (shareAt tree (entry requests) f) p ⌝ }
 {
@@ -85,7 +85,7 @@ fn children_get(tree: Tree, requests: [u64; 64], p: usize, f: u64) -> u64
 }
 
 // F of class p, whose request is not met: halving keeps a number that fits and a higher one that does not.
-fn fair_share(tree: Tree, requests: [u64; 64], p: usize, has: u64) -> u64
+fn fair_share(tree: Tree, requests: [u64; Tree::CLASSES], p: usize, has: u64) -> u64
     requires { ⌜ Adding tree requests × (has < ofChildren tree (entry requests) p) × (has ≤ 63_000_000_000) ⌝ }
     ensures { λ r. ⌜ Largest (Fits tree (entry requests) p has) r × (r ≤ has) ⌝ }
 {
@@ -103,7 +103,7 @@ fn fair_share(tree: Tree, requests: [u64; 64], p: usize, has: u64) -> u64
 }
 
 // How class p shares out what it has.
-fn class_split(tree: Tree, requests: [u64; 64], p: usize, has: u64) -> Split
+fn class_split(tree: Tree, requests: [u64; Tree::CLASSES], p: usize, has: u64) -> Split
     requires { ⌜ Adding tree requests × (p < 64) × (p ≤ tree .count) × (has ≤ 63_000_000_000) ⌝ }
     ensures { λ r. ⌜ Splits tree (entry requests) p has (r .fair) (r .left) ⌝ }
 {
@@ -132,7 +132,13 @@ fn child_gets(has: u64, asked: u64, request: u64, weight: Weight, f: u64) -> u64
 }
 
 // Class i, which has so much, is settled.
-fn settled(mut shares: Shares, tree: Tree, requests: [u64; 64], i: usize, has: u64) -> Shares
+fn settled(
+    mut shares: Shares,
+    tree: Tree,
+    requests: [u64; Tree::CLASSES],
+    i: usize,
+    has: u64,
+) -> Shares
     requires { ⌜ Adding tree requests × (i < 64) × (i ≤ tree .count) × (has ≤ 63_000_000_000) ⌝ }
     ensures { λ r. ⌜ Settles tree requests shares i has r ⌝ }
 {
@@ -144,11 +150,11 @@ fn settled(mut shares: Shares, tree: Tree, requests: [u64; 64], i: usize, has: u
 }
 
 // What each class requests: from the highest class down, each adds itself to its parent.
-fn all_requests(tree: Tree, table: [u64; 64]) -> [u64; 64]
+fn all_requests(tree: Tree, table: [u64; Tree::CLASSES]) -> [u64; Tree::CLASSES]
     requires { ⌜ InRange tree table ⌝ }
     ensures { λ r. ⌜ Requested tree table r ⌝ }
 {
-    let mut requests = [0u64; 64];
+    let mut requests = [0u64; Tree::CLASSES];
     let mut i: usize = tree.count;
     while 0 < i {
         let p = tree.parent[i] as usize;
@@ -172,15 +178,15 @@ fn own_request(leaf: bool, entry: u64, sum: u64) -> u64
 }
 
 // What every class gets, class by class upward.
-fn share_out(tree: Tree, requests: [u64; 64], has: u64) -> Shares
+fn share_out(tree: Tree, requests: [u64; Tree::CLASSES], has: u64) -> Shares
     requires { ⌜ Adding tree requests × (has ≤ 63_000_000_000) ⌝ }
     ensures { λ r. ⌜ Settled tree (entry requests) has (tree .count) r ⌝ }
 {
     let last = tree.count;
     let none = Shares {
-        gets: [0; 64],
-        fair: [0; 64],
-        unallotted: [0; 64],
+        gets: [0; Tree::CLASSES],
+        fair: [0; Tree::CLASSES],
+        unallotted: [0; Tree::CLASSES],
     };
     let mut shares = settled(none, tree, requests, 0, has);
     let mut i: usize = 1;
@@ -211,7 +217,7 @@ fn bad_request(leaf: bool, request: u64) -> bool
 }
 
 // 21: the lowest-numbered leaf whose request is out of range.
-fn request_fault(tree: Tree, table: [u64; 64]) -> Verdict
+fn request_fault(tree: Tree, table: [u64; Tree::CLASSES]) -> Verdict
     requires { ⌜ tree .count ≤ 63 ⌝ }
     ensures { λ r. ⌜ r ≡ firstBroken (classByClass (requestChecks tree table) (tree .count)) ⌝ }
 {
@@ -228,7 +234,7 @@ fn request_fault(tree: Tree, table: [u64; 64]) -> Verdict
 }
 
 // 20, then 21.
-fn range_fault(tree: Tree, capacity: u64, table: [u64; 64]) -> Verdict
+fn range_fault(tree: Tree, capacity: u64, table: [u64; Tree::CLASSES]) -> Verdict
     requires { ⌜ tree .count ≤ 63 ⌝ }
     ensures { λ r. ⌜ r ≡ firstBroken (rangeChecks tree capacity table) ⌝ }
 {
@@ -247,14 +253,14 @@ fn nothing_allotted(verdict: Verdict) -> Allotted
 {
     Allotted {
         verdict,
-        requests: [0; 64],
-        gets: [0; 64],
-        unallotted: [0; 64],
+        requests: [0; Tree::CLASSES],
+        gets: [0; Tree::CLASSES],
+        unallotted: [0; Tree::CLASSES],
     }
 }
 
 // The rates of a tree with everything in range.
-fn allot(tree: Tree, capacity: u64, table: [u64; 64]) -> Allotted
+fn allot(tree: Tree, capacity: u64, table: [u64; Tree::CLASSES]) -> Allotted
     requires { ⌜ InRange tree table ⌝ }
     ensures { λ r. ⌜ (r .verdict ≡ Passed) × Tables tree capacity table r ⌝ }
 {
@@ -272,7 +278,7 @@ fn allot(tree: Tree, capacity: u64, table: [u64; 64]) -> Allotted
 }
 
 // Which rates a tree, any tree whatever, gives for a capacity and a table of requests by class number, of which only the leaves' are read.
-pub fn rates(tree: Tree, capacity: u64, requests: [u64; 64]) -> Allotted
+pub fn rates(tree: Tree, capacity: u64, requests: [u64; Tree::CLASSES]) -> Allotted
     ensures { λ r. ⌜ Rates tree capacity requests r ⌝ }
 {
     if !tree::is_plan(tree) {

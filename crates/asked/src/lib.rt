@@ -11,6 +11,7 @@ use allot::Allotted;
 use checks::Verdict;
 use lines::Line;
 use plan::PlanRead;
+use tree::Tree;
 use words::Number;
 use words::Pair;
 
@@ -18,7 +19,7 @@ use words::Pair;
 pub struct Asked {
     pub good: bool,
     pub capacity: u64,
-    pub requests: [u64; 64],
+    pub requests: [u64; Tree::CLASSES],
 }
 
 // The answer: the last class that has a line, and the rates.
@@ -31,7 +32,7 @@ pub struct Answer {
 pub fn nothing() -> Asked
     ensures { λ r. ⌜ r ≡ notAsked ⌝ }
 {
-    let requests = [0u64; 64];
+    let requests = [0u64; Tree::CLASSES];
     Asked {
         good: false,
         capacity: 0,
@@ -46,7 +47,7 @@ pub fn open(word: &[u8]) -> Asked
     let number = words::read_number(word);
     match number {
         Number::Is(capacity) => {
-            let requests = [capacity; 64];
+            let requests = [capacity; Tree::CLASSES];
             Asked {
                 good: true,
                 capacity,
@@ -81,9 +82,9 @@ pub fn heed(asked: Asked, word: &[u8]) -> Asked
 fn refused(n: u8, p: usize) -> Answer
     ensures { λ r. ⌜ r ≡ refusedWith n p ⌝ }
 {
-    let requests = [0u64; 64];
-    let gets = [0u64; 64];
-    let unallotted = [0u64; 64];
+    let requests = [0u64; Tree::CLASSES];
+    let gets = [0u64; Tree::CLASSES];
+    let unallotted = [0u64; Tree::CLASSES];
     let verdict = Verdict::Refused(n, p);
     let allotted = Allotted {
         verdict,
@@ -105,7 +106,7 @@ fn last_of(verdict: Verdict, count: usize) -> usize
 }
 
 // The rates of a tree.
-fn of_tree(read: PlanRead, capacity: u64, requests: [u64; 64]) -> Answer
+fn of_tree(read: PlanRead, capacity: u64, requests: [u64; Tree::CLASSES]) -> Answer
     ensures { λ r. ⌜ OfPlan Passed read capacity requests r ⌝ }
 {
     let tree = read.tree;
@@ -116,7 +117,7 @@ fn of_tree(read: PlanRead, capacity: u64, requests: [u64; 64]) -> Answer
 }
 
 // What a plan that was read gives.
-fn of_plan(read: PlanRead, capacity: u64, requests: [u64; 64]) -> Answer
+fn of_plan(read: PlanRead, capacity: u64, requests: [u64; Tree::CLASSES]) -> Answer
     ensures { λ r. ⌜ OfPlan (read .verdict) read capacity requests r ⌝ }
 {
     let verdict = read.verdict;
@@ -127,7 +128,7 @@ fn of_plan(read: PlanRead, capacity: u64, requests: [u64; 64]) -> Answer
 }
 
 // What a program's input gives.
-pub fn rates_of(input: &[u8], capacity: u64, requests: [u64; 64]) -> Answer
+pub fn rates_of(input: &[u8], capacity: u64, requests: [u64; Tree::CLASSES]) -> Answer
     ensures { λ r. ⌜ Answered (now (input .entry)) capacity requests r ⌝ }
 {
     let long = checks::input_length(input.len());

@@ -17,7 +17,7 @@ fn backlogged(link: Link) -> Link
 {
     let mut link = link;
     let mut i: usize = 0;
-    while i < 63 {
+    while i < Tree::MOST {
         i += 1;
         let answered = link::arrive(link, i, Packet { length: 1, tag: 0 });
         link = answered.link;

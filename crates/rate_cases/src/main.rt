@@ -18,7 +18,7 @@ use words::Number;
 struct Case {
     tree: Tree,
     capacity: u64,
-    requests: [u64; 64],
+    requests: [u64; Tree::CLASSES],
 }
 
 // Prints a text.
@@ -64,7 +64,7 @@ fn begun(line: &[u8]) -> Case {
     word(line);
     word(b"\n");
     let tree = Tree::none();
-    let requests = [0u64; 64];
+    let requests = [0u64; Tree::CLASSES];
     Case {
         tree,
         capacity: 0,
@@ -108,7 +108,7 @@ fn with_capacity(mut case: Case, line: &[u8]) -> Case {
 // The same request at all 64 class numbers.
 fn with_every(mut case: Case, line: &[u8]) -> Case {
     let n = first(line);
-    let requests = [n; 64];
+    let requests = [n; Tree::CLASSES];
     case.requests = requests;
     case
 }
@@ -154,7 +154,7 @@ fn answered(case: Case) -> Case {
     let a = allot::rates(tree, case.capacity, requests);
     let verdict = a.verdict;
     let passed = print_stop(verdict);
-    for k in 0..64 {
+    for k in 0..Tree::CLASSES {
         print_rate(a, k, passed && k <= tree.count);
     }
     case

@@ -24,7 +24,7 @@ use units::Weight;
 // What a send changes beside the queues and the place: who is active, and the accounts.
 pub struct Books {
     pub active: u64,
-    pub accounts: [Account; 64],
+    pub accounts: [Account; Tree::CLASSES],
 }
 
 // A weight sum, and with it the weight of a class where that class is active.
@@ -39,12 +39,12 @@ fn with_active(sum: Weight, weight: Weight, on: bool) -> Weight
 }
 
 // The weight sums of all class numbers: one pass from the highest class down, each active class adding itself to its parent.
-pub fn weight_sums(tree: Tree, active: u64) -> [Weight; 64]
+pub fn weight_sums(tree: Tree, active: u64) -> [Weight; Tree::CLASSES]
     requires { ⌜ PlanRules tree ⌝ }
     ensures { λ r. ⌜ r ≡ weightSums tree active ⌝ }
 {
     let none = Weight(0);
-    let mut sums = [none; 64];
+    let mut sums = [none; Tree::CLASSES];
     let last = tree.count;
     let mut i = last;
     while 0 < i {
@@ -73,14 +73,14 @@ fn root_quota(tree: Tree, active: u64, sum: Weight, surplus: bool, root: Account
 pub fn quotas(
     tree: Tree,
     active: u64,
-    sums: [Weight; 64],
+    sums: [Weight; Tree::CLASSES],
     surplus: bool,
-    accounts: [Account; 64],
-) -> [u64; 64]
+    accounts: [Account; Tree::CLASSES],
+) -> [u64; Tree::CLASSES]
     requires { ⌜ (sums ≡ weightSums tree active) × CanOpen tree active accounts ⌝ }
     ensures { λ r. ⌜ r ≡ table (quota (kindIs surplus) tree active accounts) 64 ⌝ }
 {
-    let mut quotas = [0u64; 64];
+    let mut quotas = [0u64; Tree::CLASSES];
     let root = accounts[0];
     quotas[0] = root_quota(tree, active, sums[0], surplus, root);
     let mut i: usize = 1;
@@ -122,7 +122,7 @@ fn open_class(
     sum: Weight,
     i: usize,
     account: Account,
-    quotas: [u64; 64],
+    quotas: [u64; Tree::CLASSES],
 ) -> Account
     requires { ⌜ (sum .0 ≡ weightSum tree active i) × (i < 64) × (parentOf tree i < 64) × Fitting tree active (λ k. getD quotas k 0) i account ⌝ }
     ensures { λ r. ⌜ r ≡ openedBy tree active (λ k. getD quotas k 0) i account ⌝ }
@@ -143,10 +143,10 @@ fn open_class(
 pub fn open_accounts(
     tree: Tree,
     active: u64,
-    sums: [Weight; 64],
+    sums: [Weight; Tree::CLASSES],
     surplus: bool,
-    accounts: [Account; 64],
-) -> [Account; 64]
+    accounts: [Account; Tree::CLASSES],
+) -> [Account; Tree::CLASSES]
     requires { ⌜ (sums ≡ weightSums tree active) × CanOpen tree active accounts ⌝ }
     ensures { λ r. ⌜ r ≡ openedAccounts (kindIs surplus) tree active accounts ⌝ }
 {
@@ -178,7 +178,12 @@ fn class_surplus(tree: Tree, active: u64, sum: Weight, i: usize, account: Accoun
 }
 
 // Whether the round that opens is a surplus round: some active inner class has a surplus.
-pub fn is_surplus(tree: Tree, active: u64, sums: [Weight; 64], accounts: [Account; 64]) -> bool
+pub fn is_surplus(
+    tree: Tree,
+    active: u64,
+    sums: [Weight; Tree::CLASSES],
+    accounts: [Account; Tree::CLASSES],
+) -> bool
     requires { ⌜ (sums ≡ weightSums tree active) × CanOpen tree active accounts ⌝ }
     ensures { λ r. ⌜ kindIs r ≡ kindOf tree active accounts ⌝ }
 {
@@ -195,7 +200,7 @@ pub fn is_surplus(tree: Tree, active: u64, sums: [Weight; 64], accounts: [Accoun
 }
 
 // Whether class i is a leaf that holds a packet.
-pub fn holds_some(tree: Tree, held: [u8; 64], i: usize) -> bool
+pub fn holds_some(tree: Tree, held: [u8; Tree::CLASSES], i: usize) -> bool
     requires { ⌜ i < 64 ⌝ }
     ensures { λ r. ⌜ r ≡ holdsSome tree held i ⌝ }
 {
@@ -206,7 +211,7 @@ pub fn holds_some(tree: Tree, held: [u8; 64], i: usize) -> bool
 }
 
 // Whether class i is taken into a round, when the classes above it are: a class below it is, or it holds a packet.
-fn is_taken(tree: Tree, held: [u8; 64], active: u64, i: usize) -> bool
+fn is_taken(tree: Tree, held: [u8; Tree::CLASSES], active: u64, i: usize) -> bool
     requires { ⌜ i < 64 ⌝ }
     ensures { λ r. ⌜ r ≡ (has active i || holdsSome tree held i) ⌝ }
 {
@@ -217,7 +222,7 @@ fn is_taken(tree: Tree, held: [u8; 64], active: u64, i: usize) -> bool
 }
 
 // The active classes of a round: the leaves that hold a packet, and every class above one.
-pub fn round_active(tree: Tree, held: [u8; 64]) -> u64
+pub fn round_active(tree: Tree, held: [u8; Tree::CLASSES]) -> u64
     requires { ⌜ PlanRules tree ⌝ }
     ensures { λ r. ⌜ r ≡ upward tree (holdsSome tree held) ⌝ }
 {

@@ -26,12 +26,12 @@ pub fn next_leaf(link: Link) -> usize
     let mut at = link.place;
     loop {
         let i = sets::next(leaves, at);
-        if i == 64 {
-            return 64;
+        if i == Link::CLASSES {
+            return Link::CLASSES;
         }
         let account = link.accounts[i];
         let start = link.start[i] as usize;
-        if covers(account, link.lengths[i * 32 + start]) {
+        if covers(account, link.lengths[i * Link::PLACES + start]) {
             return i;
         }
         at = i + 1;

@@ -27,7 +27,7 @@ pub struct Sent {
 }
 
 // Leaf i loses what a packet costs, the root's balance gains it.
-fn pay(accounts: [Account; 64], i: usize, cost: Bytes) -> [Account; 64]
+fn pay(accounts: [Account; Link::CLASSES], i: usize, cost: Bytes) -> [Account; Link::CLASSES]
     requires { ⌜ Fit accounts × (i < 64) × (cost .0 ≤ balanceOf accounts i) ⌝ }
     ensures { λ r. ⌜ r ≡ paidBy accounts i (cost .0) ⌝ }
 {
@@ -114,7 +114,7 @@ pub fn send(link: Link) -> Sent
     let mut at = round::search::next_leaf(link);
     let mut open = link;
     let mut rounds: usize = 0;
-    while at == 64 {
+    while at == Link::CLASSES {
         open = open_round(open);
         rounds += 1;
         at = round::search::next_leaf(open);
