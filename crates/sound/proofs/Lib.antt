@@ -2,3 +2,4 @@ pub mod Flags
 pub mod Active
 pub mod Totals
 pub mod Views
+pub mod Places

@@ -10,7 +10,7 @@ use Rattle.tree.specs.declared.Tree.{Tree}
 use Rattle.tree.specs.Class.{parentOf, longestOf, isLeaf}
 use Rattle.state.specs.declared.Account.{Account}
 use Rattle.state.specs.declared.Link.{Link}
-use Rattle.state.specs.Account.{accountOf, balanceOf, residualOf}
+use Rattle.state.specs.Account.{accountOf}
 use Rattle.state.specs.Queue.{startOf, heldOf}
 use Rattle.sound.specs.declared.View.{View}
 
@@ -47,6 +47,11 @@ pub record ViewRight (v : View) : Type 0 where
   pub leaf : v .leaf ≡ true → v .account .residual .0 ≡ 0
   pub lacks : v .leaf ≡ true → v .active ≡ true → v .class < v .place → v .account .balance .0 < costOf (v .first)
 
+-- the packet at a place is within its range, where one waits there: the place's turn is one of those held
+pub record PlaceInRange (length turn held longest : ℕ) : Type 0 where
+  pub low : turn < held → 1 ≤ length
+  pub high : turn < held → length ≤ longest
+
 -- the waiting packets of a class are within its range
 pub record LengthsRight (lengths : List ℕ) (class start held longest : ℕ) : Type 0 where
   pub low : (j : ℕ) → j < held → 1 ≤ getD lengths (class * 32 + (start + j) % 32) 0
@@ -59,8 +64,3 @@ pub record ClassRight (l : Link) (parents i : ℕ) : Type 0 where
 
 pub record ClassesRight (l : Link) (parents : ℕ) : Type 0 where
   pub at : (i : ℕ) → i < 64 → ClassRight l parents i
-
--- no balance and no residual is above a number
-pub record Small (accounts : List Account) (size : ℕ) : Type 0 where
-  pub balance : (i : ℕ) → i < 64 → balanceOf accounts i ≤ size
-  pub residual : (i : ℕ) → i < 64 → residualOf accounts i ≤ size

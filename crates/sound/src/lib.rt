@@ -8,7 +8,7 @@ ghost use Rattle.checks.specs.Check.{Exactly};
 ghost use Rattle.units.specs.Cost.{costOf};
 ghost use Rattle.tree.specs.Rules.{PlanRules};
 ghost use Rattle.sound.specs.Sound.{total, SoundLink};
-ghost use Rattle.sound.specs.Steps.{parentsTo, ViewRight, LengthsRight, ClassesRight, Small};
+ghost use Rattle.sound.specs.Steps.{parentsTo, ViewRight, PlaceInRange, LengthsRight, ClassesRight};
 use state::Account;
 use state::Link;
 use tree::Tree;
@@ -165,29 +165,35 @@ fn view_is_right(v: View) -> bool
     behind_place(v)
 }
 
-// The waiting packets of a class are within its range.
-fn lengths_right(
-    lengths: &[u16; 2048],
-    class: usize,
-    start: usize,
-    held: usize,
-    longest: u16,
-) -> bool
+// 1 where a packet that waits is outside its range, and 0 where it is within or none waits: the turn of its place is past those held.
+fn outside(length: u16, turn: u16, held: u16, longest: u16) -> u16
+    ensures { λ r. ⌜ (r ≤ 1) × (r ≡ 0 → PlaceInRange length turn held longest) × (PlaceInRange length turn held longest → r ≡ 0) ⌝ }
+{
+    if held <= turn {
+        return 0;
+    }
+    if length < 1 {
+        return 1;
+    }
+    if longest < length {
+        return 1;
+    }
+    0
+}
+
+// The waiting packets of a class are within its range: place by place, without an early end.
+fn lengths_right(lengths: &[u16; 2048], class: usize, start: u16, held: u16, longest: u16) -> bool
     requires { ⌜ (class < 64) × (start ≤ 31) × (held ≤ 32) ⌝ }
     ensures { λ r. ⌜ Exactly r (LengthsRight (now (lengths .entry)) class start held longest) ⌝ }
 {
-    let mut j: usize = 0;
-    while j < held {
-        let length = lengths[class * Link::PLACES + (start + j) % Link::PLACES];
-        if length < 1 {
-            return false;
-        }
-        if longest < length {
-            return false;
-        }
-        j += 1;
+    let mut wrong: u16 = 0;
+    let mut k: u16 = 0;
+    while k < 32 {
+        let length = lengths[class * Link::PLACES + k as usize];
+        wrong += outside(length, (k + 32 - start) % 32, held, longest);
+        k += 1;
     }
-    true
+    wrong == 0
 }
 
 // Every class right, in its numbers and its packets.
@@ -217,7 +223,7 @@ fn classes_right(link: Link, parents: u64) -> bool
         if !view_is_right(v) {
             return false;
         }
-        if !lengths_right(&link.lengths, i, at, held as usize, tree.longest[i]) {
+        if !lengths_right(&link.lengths, i, start as u16, held as u16, tree.longest[i]) {
             return false;
         }
         i += 1;
@@ -225,49 +231,36 @@ fn classes_right(link: Link, parents: u64) -> bool
     true
 }
 
-// No balance and no residual is above the size.
-fn accounts_small(accounts: [Account; Link::CLASSES], size: Bytes) -> bool
-    ensures { λ r. ⌜ Exactly r (Small accounts (size .0)) ⌝ }
+// Neither the balance nor the residual is above the size.
+fn is_small(account: Account, size: Bytes) -> bool
+    ensures { λ r. ⌜ Exactly r ((account .balance .0 ≤ size .0) × (account .residual .0 ≤ size .0)) ⌝ }
 {
-    let mut i: usize = 0;
-    while i < Link::CLASSES {
-        let a = accounts[i];
-        if size.0 < a.balance.0 {
-            return false;
-        }
-        if size.0 < a.residual.0 {
-            return false;
-        }
-        i += 1;
+    if size.0 < account.balance.0 {
+        return false;
     }
-    true
+    account.residual.0 <= size.0
 }
 
-// All B and R together.
-fn accounts_total(accounts: [Account; Link::CLASSES]) -> Bytes
-    requires { ⌜ Small accounts mostSize ⌝ }
-    ensures { λ r. ⌜ r .0 ≡ total accounts ⌝ }
-{
-    let root = accounts[0];
-    let mut sum = root.held();
-    let mut i: usize = 1;
-    while i < Link::CLASSES {
-        let a = accounts[i];
-        sum = sum.plus(a.held());
-        i += 1;
-    }
-    sum
-}
-
-// All B and R add to the size.
+// All B and R add to the size: one above it ends the sum.
 fn adds_up(accounts: [Account; Link::CLASSES], size: Bytes) -> bool
     requires { ⌜ size .0 ≤ mostSize ⌝ }
     ensures { λ r. ⌜ Exactly r (total accounts ≡ size .0) ⌝ }
 {
-    if !accounts_small(accounts, size) {
+    let root = accounts[0];
+    if !is_small(root, size) {
         return false;
     }
-    accounts_total(accounts).0 == size.0
+    let mut sum = root.held();
+    let mut i: usize = 1;
+    while i < Link::CLASSES {
+        let a = accounts[i];
+        if !is_small(a, size) {
+            return false;
+        }
+        sum = sum.plus(a.held());
+        i += 1;
+    }
+    sum.0 == size.0
 }
 
 // Whether a link is sound.

@@ -3,9 +3,9 @@ use mathlib.Core.Bool.{Bool, true, false, _&&_, _||_, cond}
 use mathlib.Core.Path.{_≡_, refl}
 use Prim.Native.Nat.{ℕ, _≤_, _<_, zero-le}
 use lib.Dec.{leb}
-use borrow.Author.Tests.{le-leb, lt-leb, leb-true}
+use borrow.Author.Tests.{le-leb, lt-leb, leb-true, eq-eqb, ne-eqb}
 use Rattle.tree.specs.declared.Tree.{Tree}
-use Rattle.tree.specs.Class.{weightOf, isClass, isChild, childWeight}
+use Rattle.tree.specs.Class.{parentOf, weightOf, isClass, isChild, childWeight}
 use Rattle.checks.specs.Check.{firstBroken}
 use Rattle.checks.specs.declared.Verdict.the-variants.{Passed}
 use Rattle.checks.proofs.Laws.{passed-parts}
@@ -51,6 +51,15 @@ cond-le false x m h = zero-le
 pub child-light : (t : Tree) (p i : ℕ) → Light t → 1 ≤ i → i ≤ t .count → childWeight t p i ≤ 1_000_000
 unfolding childWeight
 child-light t p i l a b = cond-le (isChild t p i) (weightOf t i) 1_000_000 (l .light i (class-in t i a b))
+
+-- what a class adds to its parent's children, and to any other number's
+pub child-own : (t : Tree) (i : ℕ) → childWeight t (parentOf t i) i ≡ weightOf t i
+unfolding childWeight isChild
+child-own t i = rw (eq-eqb (parentOf t i) (parentOf t i) refl)
+
+pub child-other : (t : Tree) (i p : ℕ) → (parentOf t i ≡ p → ⊥) → childWeight t p i ≡ 0
+unfolding childWeight isChild
+child-other t i p ne = rw (ne-eqb (parentOf t i) p ne)
 
 -- the checks of a class pass exactly where none of its rows is broken
 pub class-passes : (t : Tree) (i p : ℕ) → badParent t i ≡ false → badWeight t i ≡ false → badLongest t i ≡ false → firstBroken (classChecks t i p) ≡ Passed

@@ -1,12 +1,17 @@
 // The class tree of document 01 as a value; the plan rules decided for any tree whatever; the round size.
 // Serves demand 1 (rows 3 to 9 of the table) and demand 3 (Q).
 ghost use mathlib.Core.Path.{_≡_};
-ghost use mathlib.Core.Bool.{true, false};
-ghost use Prim.Native.Nat.{_+_, _≤_, _<_};
+ghost use mathlib.Core.Bool.{true, false, _||_};
+ghost use Prim.Native.Nat.{ℕ, _+_, _≤_, _<_};
+ghost use lib.Dec.{eqb};
+ghost use lib.ListN.{getD};
 ghost use Rattle.checks.specs.Check.{firstBroken, Exactly};
-ghost use Rattle.tree.specs.Class.{noTree, added, isClass, isLeaf, longestOf, childWeight, childrenWeight, hasChild};
-ghost use Rattle.tree.specs.Rules.{badParent, badWeight, badLongest, tooHeavy, childless, classChecks, closingOf, closingChecks, Light, ClassesPass, NothingSet, UnsetIsZero, AllUnsetZero, PlanRules};
+ghost use Rattle.sets.specs.Set.{has};
+ghost use Rattle.tree.specs.declared.Tree.{Tree};
+ghost use Rattle.tree.specs.Class.{noTree, noWeight, added, parentOf, weightOf, longestOf, isClass, isLeaf, childrenWeight, hasChild};
+ghost use Rattle.tree.specs.Rules.{badParent, badWeight, badLongest, classChecks, closingOf, closingChecks, NothingSet, Light, PlanRules};
 ghost use Rattle.tree.specs.Size.{roundSize, allWeights, allLongest, longestCost};
+ghost use Rattle.tree.specs.Steps.{Numbers, RowsPass, NumberRight, NumbersRight};
 use checks::Verdict;
 use units::Bytes;
 use units::Weight;
@@ -70,38 +75,34 @@ impl Tree {
 }
 
 // Row 4: parent not lower than the class, or a leaf.
-fn bad_parent(tree: Tree, i: usize) -> bool
+fn bad_parent(leaves: u64, parent: u8, i: usize) -> bool
     requires { ⌜ i < 64 ⌝ }
-    ensures { λ r. ⌜ r ≡ badParent tree i ⌝ }
+    ensures { λ r. ⌜ ((t : Tree) → t .leaves ≡ leaves → parentOf t i ≡ parent → r ≡ badParent t i) ⌝ }
 {
-    let p = tree.parent[i] as usize;
+    let p = parent as usize;
     if i <= p {
         return true;
     }
-    sets::has(tree.leaves, p)
+    sets::has(leaves, p)
 }
 
 // Row 5: weight outside its range.
-fn bad_weight(tree: Tree, i: usize) -> bool
-    requires { ⌜ i < 64 ⌝ }
-    ensures { λ r. ⌜ r ≡ badWeight tree i ⌝ }
+fn bad_weight(weight: Weight) -> bool
+    ensures { λ r. ⌜ ((t : Tree) (i : ℕ) → weightOf t i ≡ weight .0 → r ≡ badWeight t i) ⌝ }
 {
-    let w = tree.weight[i];
-    if w.0 < 1 {
+    if weight.0 < 1 {
         return true;
     }
-    1_000_000 < w.0
+    1_000_000 < weight.0
 }
 
 // Row 6: longest outside its range.
-fn bad_longest(tree: Tree, i: usize) -> bool
-    requires { ⌜ i < 64 ⌝ }
-    ensures { λ r. ⌜ r ≡ badLongest tree i ⌝ }
+fn bad_longest(leaf: bool, longest: u16) -> bool
+    ensures { λ r. ⌜ ((t : Tree) (i : ℕ) → isLeaf t i ≡ leaf → longestOf t i ≡ longest → r ≡ badLongest t i) ⌝ }
 {
-    if !sets::has(tree.leaves, i) {
+    if !leaf {
         return false;
     }
-    let longest = tree.longest[i];
     if longest < 1 {
         return true;
     }
@@ -113,9 +114,10 @@ pub fn class_fault(tree: Tree, i: usize, place: usize) -> Verdict
     requires { ⌜ i < 64 ⌝ }
     ensures { λ r. ⌜ r ≡ firstBroken (classChecks tree i place) ⌝ }
 {
-    let parent = bad_parent(tree, i);
-    let weight = bad_weight(tree, i);
-    let longest = bad_longest(tree, i);
+    let w = tree.weight[i];
+    let parent = bad_parent(tree.leaves, tree.parent[i], i);
+    let weight = bad_weight(w);
+    let longest = bad_longest(sets::has(tree.leaves, i), tree.longest[i]);
     if parent {
         return Verdict::Refused(checks::PARENT, place);
     }
@@ -128,61 +130,69 @@ pub fn class_fault(tree: Tree, i: usize, place: usize) -> Verdict
     Verdict::Passed
 }
 
-// What class i adds to the weight of class p's children.
-fn child_weight(tree: Tree, p: usize, i: usize) -> Weight
-    requires { ⌜ i < 64 ⌝ }
-    ensures { λ r. ⌜ r .0 ≡ childWeight tree p i ⌝ }
+// A byte as a number.
+fn wide(byte: u8) -> usize
+    ensures { λ r. ⌜ (r ≡ byte) × (r < 256) ⌝ }
 {
-    if tree.parent[i] as usize == p {
-        return tree.weight[i];
-    }
-    Weight(0)
+    byte as usize
 }
 
-// What the children of class p weigh together.
-fn children_weight(tree: Tree, p: usize) -> Weight
+// What the children of each number weigh together, one pass from the highest class down: each class adds itself to its parent, which is any byte.
+fn children_weights(tree: Tree) -> [Weight; 256]
     requires { ⌜ Light tree ⌝ }
-    ensures { λ r. ⌜ r .0 ≡ childrenWeight tree p ⌝ }
+    ensures { λ r. ⌜ ((p : ℕ) → p < 256 → getD r p noWeight .0 ≡ childrenWeight tree p) ⌝ }
+{
+    let none = Weight(0);
+    let mut sums = [none; 256];
+    let last = tree.count;
+    let mut i = last;
+    while 0 < i {
+        let p = wide(tree.parent[i]);
+        let w = tree.weight[i];
+        let s = sums[p];
+        sums[p] = s.plus(w);
+        i -= 1;
+    }
+    sums
+}
+
+// The set with a parent put in; a byte that is no class number is left out.
+fn with_parent(parents: u64, parent: u8) -> u64
+    ensures { λ r. ⌜ ((p : ℕ) → p < 64 → has r p ≡ (has parents p || eqb parent p)) ⌝ }
+{
+    let p = parent as usize;
+    if Tree::CLASSES <= p {
+        return parents;
+    }
+    sets::with(parents, p)
+}
+
+// The class numbers that have a child, as a set.
+fn parents(tree: Tree) -> u64
+    requires { ⌜ tree .count ≤ 63 ⌝ }
+    ensures { λ r. ⌜ ((p : ℕ) → p < 64 → has r p ≡ hasChild tree p) ⌝ }
 {
     let last = tree.count;
-    let mut sum = Weight(0);
+    let mut parents: u64 = 0;
     let mut child: usize = 1;
     while child <= last {
-        sum = sum.plus(child_weight(tree, p, child));
+        parents = with_parent(parents, tree.parent[child]);
         child += 1;
     }
-    sum
-}
-
-// Whether class p has a child.
-fn has_child(tree: Tree, p: usize) -> bool
-    requires { ⌜ tree .count ≤ 63 ⌝ }
-    ensures { λ r. ⌜ r ≡ hasChild tree p ⌝ }
-{
-    let last = tree.count;
-    let mut i: usize = 1;
-    while i <= last {
-        if tree.parent[i] as usize == p {
-            return true;
-        }
-        i += 1;
-    }
-    false
+    parents
 }
 
 // Rows 8 and 7 of class i, in this order.
-fn closing_fault(tree: Tree, i: usize) -> Verdict
-    requires { ⌜ Light tree × (isClass tree i ≡ true) × (i < 64) ⌝ }
-    ensures { λ r. ⌜ r ≡ firstBroken (closingOf tree i) ⌝ }
+fn closing_fault(leaf: bool, child: bool, weight: Weight, children: Weight, i: usize) -> Verdict
+    ensures { λ r. ⌜ ((t : Tree) → isClass t i ≡ true → isLeaf t i ≡ leaf → hasChild t i ≡ child → weightOf t i ≡ weight .0 → childrenWeight t i ≡ children .0 → r ≡ firstBroken (closingOf t i)) ⌝ }
 {
-    if sets::has(tree.leaves, i) {
+    if leaf {
         return Verdict::Passed;
     }
-    if !has_child(tree, i) {
+    if !child {
         return Verdict::Refused(checks::CHILDLESS, i);
     }
-    let w = tree.weight[i];
-    if w.0 < children_weight(tree, i).0 {
+    if weight.0 < children.0 {
         return Verdict::Refused(checks::TOO_HEAVY, i);
     }
     Verdict::Passed
@@ -197,9 +207,15 @@ pub fn closing(tree: Tree) -> Verdict
     if last == 0 {
         return Verdict::Refused(checks::NO_CLASS, 0);
     }
+    let sums = children_weights(tree);
+    let parents = parents(tree);
     let mut i: usize = 1;
     while i <= last {
-        let v = closing_fault(tree, i);
+        let w = tree.weight[i];
+        let sum = sums[i];
+        let leaf = sets::has(tree.leaves, i);
+        let child = sets::has(parents, i);
+        let v = closing_fault(leaf, child, w, sum, i);
         if let Verdict::Refused(_, _) = v {
             return v;
         }
@@ -208,80 +224,90 @@ pub fn closing(tree: Tree) -> Verdict
     Verdict::Passed
 }
 
-// Rows 4, 5 and 6 of every class.
-fn classes_pass(tree: Tree) -> bool
-    requires { ⌜ tree .count ≤ 63 ⌝ }
-    ensures { λ r. ⌜ Exactly r (ClassesPass tree) ⌝ }
-{
-    let last = tree.count;
-    let mut i: usize = 1;
-    while i <= last {
-        let v = class_fault(tree, i, 0);
-        if let Verdict::Refused(_, _) = v {
-            return false;
-        }
-        i += 1;
-    }
-    true
-}
-
 // Whether i is the number of a class.
-fn is_class(tree: Tree, i: usize) -> bool
-    ensures { λ r. ⌜ r ≡ isClass tree i ⌝ }
+fn is_class(count: usize, i: usize) -> bool
+    ensures { λ r. ⌜ ((t : Tree) → t .count ≡ count → r ≡ isClass t i) ⌝ }
 {
     if i < 1 {
         return false;
     }
-    i <= tree.count
+    i <= count
 }
 
-// Whether nothing is set of class number i.
-fn nothing_set(tree: Tree, i: usize) -> bool
-    requires { ⌜ i < 64 ⌝ }
-    ensures { λ r. ⌜ Exactly r (NothingSet tree i) ⌝ }
+// Whether nothing is set of a class number.
+fn nothing_set(leaf: bool, parent: u8, weight: Weight) -> bool
+    ensures { λ r. ⌜ ((t : Tree) (i : ℕ) → isLeaf t i ≡ leaf → parentOf t i ≡ parent → weightOf t i ≡ weight .0 → Exactly r (NothingSet t i)) ⌝ }
 {
-    if sets::has(tree.leaves, i) {
+    if leaf {
         return false;
     }
-    if tree.parent[i] != 0 {
+    if parent != 0 {
         return false;
     }
-    let w = tree.weight[i];
-    w.0 == 0
+    weight.0 == 0
 }
 
-// Whether class number i has a longest packet only where it is a leaf.
-fn longest_unset(tree: Tree, i: usize) -> bool
-    requires { ⌜ i < 64 ⌝ }
-    ensures { λ r. ⌜ Exactly r (isLeaf tree i ≡ false → longestOf tree i ≡ 0) ⌝ }
+// Whether a class number has a longest packet only where it is a leaf.
+fn longest_unset(leaf: bool, longest: u16) -> bool
+    ensures { λ r. ⌜ Exactly r (leaf ≡ false → longest ≡ 0) ⌝ }
 {
-    if sets::has(tree.leaves, i) {
+    if leaf {
         return true;
     }
-    tree.longest[i] == 0
+    longest == 0
 }
 
-// Whether what a plan does not set is 0 at class number i.
-fn unset_is_zero(tree: Tree, i: usize) -> bool
+// Whether rows 4, 5 and 6 are broken at none of a class's numbers.
+fn rows_pass(leaves: u64, i: usize, parent: u8, weight: Weight, longest: u16) -> bool
     requires { ⌜ i < 64 ⌝ }
-    ensures { λ r. ⌜ Exactly r (UnsetIsZero tree i) ⌝ }
+    ensures { λ r. ⌜ ((t : Tree) → Numbers t i leaves parent (weight .0) longest → Exactly r (RowsPass t i)) ⌝ }
 {
-    if !longest_unset(tree, i) {
+    if bad_parent(leaves, parent, i) {
         return false;
     }
-    if is_class(tree, i) {
-        return true;
+    if bad_weight(weight) {
+        return false;
     }
-    nothing_set(tree, i)
+    !bad_longest(sets::has(leaves, i), longest)
 }
 
-// Whether what a plan does not set is 0.
-fn all_unset_zero(tree: Tree) -> bool
-    ensures { λ r. ⌜ Exactly r (AllUnsetZero tree) ⌝ }
+// Whether a class number is right: rows 4, 5 and 6 where it is a class, and what a plan does not set is 0.
+fn number_right(
+    count: usize,
+    leaves: u64,
+    i: usize,
+    parent: u8,
+    weight: Weight,
+    longest: u16,
+) -> bool
+    requires { ⌜ i < 64 ⌝ }
+    ensures { λ r. ⌜ ((t : Tree) → t .count ≡ count → Numbers t i leaves parent (weight .0) longest → Exactly r (NumberRight t i)) ⌝ }
+{
+    let leaf = sets::has(leaves, i);
+    if !longest_unset(leaf, longest) {
+        return false;
+    }
+    if !is_class(count, i) {
+        return nothing_set(leaf, parent, weight);
+    }
+    rows_pass(leaves, i, parent, weight, longest)
+}
+
+// Whether every class number is right.
+fn numbers_right(tree: Tree) -> bool
+    ensures { λ r. ⌜ Exactly r (NumbersRight tree) ⌝ }
 {
     let mut i: usize = 0;
     while i < Tree::CLASSES {
-        if !unset_is_zero(tree, i) {
+        let w = tree.weight[i];
+        if !number_right(
+            tree.count,
+            tree.leaves,
+            i,
+            tree.parent[i],
+            w,
+            tree.longest[i],
+        ) {
             return false;
         }
         i += 1;
@@ -296,10 +322,7 @@ pub fn is_plan(tree: Tree) -> bool
     if Tree::MOST < tree.count {
         return false;
     }
-    if !classes_pass(tree) {
-        return false;
-    }
-    if !all_unset_zero(tree) {
+    if !numbers_right(tree) {
         return false;
     }
     let v = closing(tree);
@@ -322,15 +345,13 @@ fn all_weights(tree: Tree) -> Weight
     sum
 }
 
-// What the longest packet of class i costs, where it is a leaf.
-fn longest_cost(tree: Tree, i: usize) -> Bytes
-    requires { ⌜ i < 64 ⌝ }
-    ensures { λ r. ⌜ r .0 ≡ longestCost tree i ⌝ }
+// What the longest packet of a class costs, where it is a leaf.
+fn longest_cost(leaf: bool, longest: u16) -> Bytes
+    ensures { λ r. ⌜ ((t : Tree) (i : ℕ) → isLeaf t i ≡ leaf → longestOf t i ≡ longest → r .0 ≡ longestCost t i) ⌝ }
 {
-    if !sets::has(tree.leaves, i) {
+    if !leaf {
         return Bytes(0);
     }
-    let longest = tree.longest[i];
     units::cost(longest)
 }
 
@@ -343,7 +364,8 @@ fn all_longest(tree: Tree) -> Bytes
     let mut sum = Bytes(0);
     let mut i: usize = 1;
     while i <= last {
-        sum = sum.plus(longest_cost(tree, i));
+        let leaf = sets::has(tree.leaves, i);
+        sum = sum.plus(longest_cost(leaf, tree.longest[i]));
         i += 1;
     }
     sum

@@ -80,6 +80,9 @@ returns c =
 cast-lengths-right : tie.Need-cast-lengths-right Inv-loop μ-loop
 cast-lengths-right c = search needs
 
+cast-lengths-right-2 : tie.Need-cast-lengths-right-2 Inv-loop μ-loop
+cast-lengths-right-2 c = search needs
+
 mul-lengths-right : tie.Need-mul-lengths-right Inv-loop μ-loop
 mul-lengths-right c = search needs
 
@@ -149,6 +152,7 @@ classes-right-spec =
     view-is-right-requires
     returns
     cast-lengths-right
+    cast-lengths-right-2
     mul-lengths-right
     element-copy-out-lengths-right
     lengths-right-requires

@@ -1,33 +1,35 @@
--- `sound::lengths_right` meets its contract.
-use Prim.Native.Nat.{ℕ, _+_, _-_, _*_, _%_, _≤_, _<_}
+-- `sound::lengths_right` meets its contract: place by place, and not in the order of the queue.
+use mathlib.Core.Path.{_≡_, refl}
+use Prim.Native.Nat.{ℕ, _-_, _≤_, _<_}
 use native.Mathlib.Omega.{arith}
-use lib.ListN.{getD}
 use borrow.Author.Count.{below-more}
-use Rattle.checks.proofs.Laws.{exactly-yes, exactly-no}
+use borrow.Author.Tests.{eq-eqb, eqb-true}
+use Rattle.sound.proofs.Places.{PlaceAt, places-queue, queue-places}
 use borrow.Author.Needs.{needs}
 use Rattle.sound.proofs.lengths_right.Statement.{statement}
 use Rattle.sound.proofs.lengths_right.Tie as tie
 
 abbrev Inv-loop : tie.InvT-loop
-Inv-loop lengths class start held longest j₀ j =
-    (j ≤ held)
-    × ((k : ℕ) → k < j → 1 ≤ getD lengths (class * 32 + (start + k) % 32) 0)
-    × ((k : ℕ) → k < j → getD lengths (class * 32 + (start + k) % 32) 0 ≤ longest)
+Inv-loop lengths class start held longest wrong₀ k₀ wrong k =
+    (k ≤ 32)
+    × (wrong ≤ k)
+    × (wrong ≡ 0 → (m : ℕ) → m < k → PlaceAt lengths class start held longest m)
+    × (((m : ℕ) → m < k → PlaceAt lengths class start held longest m) → wrong ≡ 0)
 
 abbrev μ-loop : tie.MeasureT-loop
-μ-loop lengths class start held longest j₀ j = held - j
+μ-loop lengths class start held longest wrong₀ k₀ wrong k = 32 - k
 
 loop-holds : tie.Need-loop-holds Inv-loop μ-loop
-loop-holds c = (omega arith, λ k u. absurd (omega arith), λ k u. absurd (omega arith))
+loop-holds c = (omega arith, omega arith, λ e m u. absurd (omega arith), λ all. refl)
 
 mul-length : tie.Need-mul-length Inv-loop μ-loop
 mul-length c = search needs
 
+cast-length : tie.Need-cast-length Inv-loop μ-loop
+cast-length c = search needs
+
 add-length : tie.Need-add-length Inv-loop μ-loop
 add-length c = search needs
-
-add-length-2 : tie.Need-add-length-2 Inv-loop μ-loop
-add-length-2 c = search needs
 
 mul-length-2 : tie.Need-mul-length-2 Inv-loop μ-loop
 mul-length-2 c = search needs
@@ -35,32 +37,43 @@ mul-length-2 c = search needs
 element-copy-out-length : tie.Need-element-copy-out-length Inv-loop μ-loop
 element-copy-out-length c = search needs
 
-returns : tie.Need-returns Inv-loop μ-loop
-returns c =
-    let h = c .before .before .before in
-    exactly-no (λ p. omega (arith, p .low (h .loop .j) (omega arith), c .if1 .taken))
+add-outside : tie.Need-add-outside Inv-loop μ-loop
+add-outside c = search needs
 
-returns-2 : tie.Need-returns-2 Inv-loop μ-loop
-returns-2 c =
-    let h = c .before .before .before .before in
-    exactly-no (λ p. omega (arith, p .high (h .loop .j) (omega arith), c .if2 .taken))
+sub-outside : tie.Need-sub-outside Inv-loop μ-loop
+sub-outside c = search needs
 
-add-j : tie.Need-add-j Inv-loop μ-loop
-add-j c = search needs
+outside-requires : tie.Need-outside-requires Inv-loop μ-loop
+outside-requires c κs = search needs
+
+add-wrong : tie.Need-add-wrong Inv-loop μ-loop
+add-wrong c = search needs
+
+add-k : tie.Need-add-k Inv-loop μ-loop
+add-k c = search needs
 
 loop-less : tie.Need-loop-less Inv-loop μ-loop
 loop-less c = search needs
 
 loop-again : tie.Need-loop-again Inv-loop μ-loop
 loop-again c =
-    let g = c .before in
-    let h = g .before .before .before in
-    (omega arith, below-more _ _ (h .loop .inv .1) (g .if1 .left), below-more _ _ (h .loop .inv .2) (c .if2 .left))
+    let o = c .outside .ensures in
+    let h = c .before .before .before in (
+      omega arith,
+      omega (arith, o .0),
+      λ e. below-more _ _ (h .loop .inv .2 (omega arith)) (o .1 (omega arith)),
+      λ all. omega (arith, h .loop .inv .3 (λ m u. all m (omega arith)), o .2 (all (h .loop .k) (omega arith))),
+    )
 
-returns-3 : tie.Need-returns-3 Inv-loop μ-loop
-returns-3 c =
+returns : tie.Need-returns Inv-loop μ-loop
+returns c =
     let h = c .before in
-    exactly-yes (record { low = λ k u. h .loop .inv .1 k (omega arith); high = λ k u. h .loop .inv .2 k (omega arith) })
+    let st = h .before in
+    let e : h .loop .k ≡ 32 = omega arith in
+    record {
+      sound = λ z. places-queue _ _ _ _ _ (st .pre .1) (st .pre .2) (λ k u. h .loop .inv .2 (eqb-true _ _ z) k (omega arith));
+      complete = λ p. eq-eqb _ _ (h .loop .inv .3 (λ k u. queue-places _ _ _ _ _ (st .pre .1) (st .pre .2) p k (omega arith)));
+    }
 
 pub lengths-right-spec : {M : Type 1} → statement M
 lengths-right-spec =
@@ -70,13 +83,15 @@ lengths-right-spec =
     μ-loop
     loop-holds
     mul-length
+    cast-length
     add-length
-    add-length-2
     mul-length-2
     element-copy-out-length
-    returns
-    returns-2
-    add-j
+    add-outside
+    sub-outside
+    outside-requires
+    add-wrong
+    add-k
     loop-less
     loop-again
-    returns-3)
+    returns)

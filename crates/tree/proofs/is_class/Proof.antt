@@ -6,11 +6,11 @@ use Rattle.tree.proofs.is_class.Tie as tie
 
 returns : tie.Need-returns
 unfolding isClass
-returns c = rw (lt-leb _ _ (c .if1 .taken))
+returns c = λ t e. rw (lt-leb _ _ (c .if1 .taken))
 
 returns-2 : tie.Need-returns-2
 unfolding isClass
-returns-2 c = rw (le-leb _ _ (c .before .if1 .left))
+returns-2 c = λ t e. rw (e, le-leb _ _ (c .if1 .left))
 
 pub is-class-spec : {M : Type 1} → statement M
 is-class-spec = tie.close (tie.spec returns returns-2)
