@@ -5,7 +5,7 @@
 //!   slots  0..=9   good plan, one event profile each (see `events_of`): backlogged, sparse, bursty, arrivals only,
 //!                  sends only, steady, hostile arrivals, hot leaves, rejoining leaves, trickle;
 //!                  the tree's shape goes round with the turn, so every profile meets every shape in 13 turns
-//!   slot  10       good plan, shape and profile both random
+//!   slot  10       good plan, shape and profile both random; every third turn a run in which a packet waits nearly its bound
 //!   slots 11, 12   light siblings: trees and events made so that surplus rounds open that send nothing (rounds = 2)
 //!   slots 13..=15  damaged or cut plan, one of 31 faults in turn (see `damaged_plan`), refusals 1 to 9
 //!   slot  16       good plan, damaged or cut events, one of 10 faults in turn (see `damaged_events`), refusals 1 and 2
@@ -14,9 +14,10 @@
 //!   slot  19       tiny trees in the manner of tree P with short random runs
 //! Sizes of a good run: 40% small (10 to 150 events), 40% middle (300 to 1,500), 20% large (2,000 to 6,000).
 //! Weights: tiny, huge, equal, random exact, random with room, heavy inner over light leaves, spread by powers of two.
-//! Longest packets: all 1, all 9,216, random, limits mixed, small, the two usual sizes 64 and 1,500, powers of two.
-//! Lengths within a run: all 1, all at the longest, any, 1 or longest, short; the share of bad arrivals (lengths 0,
-//! longest + 1, 65,535; the root, inner classes, numbers past the last up to 255) is 0, 2, 5, 15 or 60 of 100.
+//! Longest packets: all 1, all 9,216, random, limits mixed, small, the two usual sizes 64 and 1,500, powers of two, and
+//! 58 to 63, where padding ends: lengths up to 60 are charged alike, from 61 on each byte counts.
+//! Lengths within a run: all 1, all at the longest, any, 1 or longest, short, 58 to 63; the share of bad arrivals (lengths
+//! 0, longest + 1, 65,535; the root, inner classes, numbers past the last up to 255) is 0, 2, 5, 15 or 60 of 100.
 
 #[path = "random_plans.rs"]
 mod random_plans;
@@ -42,6 +43,7 @@ enum Lengths {
     Any,
     Limits,
     Short,
+    Padding,
 }
 
 /// Writes events and guesses how many packets wait (refusal 14 is not foreseen, so the guess may be too high).
@@ -61,8 +63,15 @@ impl<'a> Writer<'a> {
     /// A writer with random lengths and a random share of bad arrivals.
     fn new(random: &'a mut Random, tree: &'a Tree, room: usize) -> Writer<'a> {
         let leaves = (1..tree.len()).filter(|&c| tree[c].leaf).collect();
-        let lengths =
-            random.pick(&[Lengths::One, Lengths::Longest, Lengths::Any, Lengths::Any, Lengths::Limits, Lengths::Short]);
+        let lengths = random.pick(&[
+            Lengths::One,
+            Lengths::Longest,
+            Lengths::Any,
+            Lengths::Any,
+            Lengths::Limits,
+            Lengths::Short,
+            Lengths::Padding,
+        ]);
         let hostile = random.pick(&[0, 0, 2, 5, 15]);
         Writer { random, tree, leaves, lengths, hostile, bytes: Vec::new(), room, events: 0, waiting: 0 }
     }
@@ -112,6 +121,7 @@ impl<'a> Writer<'a> {
             Lengths::Any => self.random.from_to(1, longest),
             Lengths::Limits => self.random.pick(&[1, longest]),
             Lengths::Short => self.random.from_to(1, (longest / 8).max(1)),
+            Lengths::Padding => self.random.from_to(58, 63).min(longest),
         }
     }
 
@@ -403,13 +413,18 @@ fn any_good_input(random: &mut Random) -> Vec<u8> {
     good_input(random, shape, profile)
 }
 
+/// The heavy leaves' longest packet and the most that they weigh, for light siblings.
+const LIGHT_SIBLINGS: [(u64, u64); 6] =
+    [(100, 7), (1_500, 25), (MOST_LONGEST, 60), (1_500, 2), (MOST_LONGEST, 3), (MOST_LONGEST, 5)];
+
 /// Light siblings over a tree made for them: the leaves weigh 1 or more, and only the heavy ones take long packets, so
 /// that Q is hardly more than one long packet for each heavy leaf; a heavy weight is at most the root of the length, so
-/// that what a light leaf gives back (about length / weight) reaches the weight sum and opens a surplus round.
+/// that what a light leaf gives back (about length / weight) reaches the weight sum and opens a surplus round. Where the
+/// heavy weight is small beside the length, that round also pays for a light packet, which is charged 84.
 fn light_siblings_tree(random: &mut Random) -> Tree {
     let shape = random.pick(&[5, 6, 7, 8, 10]);
     let mut tree = if random.chance(75) { groups(random) } else { shape_of(random, shape) };
-    let (longest, most_heavy) = random.pick(&[(100, 7), (1_500, 25), (MOST_LONGEST, 60)]);
+    let (longest, most_heavy) = random.pick(&LIGHT_SIBLINGS);
     let heavy = random.from_to(2, most_heavy);
     let light_percent = random.pick(&[30, 50]);
     weigh_upward(random, &mut tree, &mut |r| if r.chance(light_percent) { 1 } else { heavy }, 0);
@@ -437,7 +452,7 @@ fn tiny_input(random: &mut Random) -> Vec<u8> {
     weigh_upward(random, &mut tree, &mut |r| r.from_to(1, equal), 1);
     for class in 1..tree.len() {
         if tree[class].leaf {
-            tree[class].longest = random.from_to(1, 12);
+            tree[class].longest = if random.chance(50) { random.from_to(1, 12) } else { random.from_to(50, 200) };
         }
     }
     assert_good(&tree);
@@ -567,6 +582,7 @@ fn input_of(seed: u64) -> Vec<u8> {
     let (slot, turn) = (seed % 20, seed / 20);
     match slot {
         0..=9 => good_input(random, (slot + turn) % SHAPES, slot),
+        10 if turn % 3 == 2 => any_near_bound_input(random),
         10 => any_good_input(random),
         11 | 12 => light_siblings_input(random),
         13..=15 => damaged_plan(random, (3 * turn + slot - 13) % PLAN_FAULTS),
@@ -577,19 +593,48 @@ fn input_of(seed: u64) -> Vec<u8> {
     }
 }
 
-/// Leaves of weights 1,000 and 1, longest 1: leaf 1 is kept backlogged, and a packet to leaf 2 just after the first send waits nearly its bound.
-fn near_bound_input() -> Vec<u8> {
-    let mut input = vec![2, 0, 0, 0, 3, 232, 0, 1, 2, 0, 0, 0, 0, 1, 0, 1, 0];
+/// Two leaves under the root, the first kept backlogged with its longest packets; a packet to the second just after the
+/// first send waits nearly its bound: Q is hardly more than the first's weight, so that each main round gives the second
+/// its weight and no more, and the first sends nearly Q bytes in it.
+fn near_bound_run(tree: &Tree, length: u64, sends: u64) -> Vec<u8> {
+    let mut input = plan(tree);
     for tag in 0..32 {
-        input.extend(arrival_record(1, 1, tag));
+        input.extend(arrival_record(1, tree[1].longest, tag));
     }
     input.push(17);
-    input.extend(arrival_record(2, 1, 999_999));
-    for tag in 32..2_132 {
-        input.extend(arrival_record(1, 1, tag));
+    input.extend(arrival_record(2, length, 999_999));
+    for tag in 32..32 + sends {
+        input.extend(arrival_record(1, tree[1].longest, tag));
         input.push(17);
     }
     input
+}
+
+/// A tree of two leaves, with weight and longest packet of each.
+fn two_leaves(leaves: [(u64, u64); 2]) -> Tree {
+    let mut tree = flat(2);
+    for (class, (weight, longest)) in leaves.into_iter().enumerate() {
+        tree[class + 1].weight = weight;
+        tree[class + 1].longest = longest;
+    }
+    assert_good(&tree);
+    tree
+}
+
+/// The recorded near case: weights 1,000,000 and 84, longest 1,000 and 1, so charges 1,024 and 84 and a bound of 2 Q.
+fn near_bound_input() -> Vec<u8> {
+    near_bound_run(&two_leaves([(MOST_WEIGHT, 1_000), (84, 1)]), 1, 2_000)
+}
+
+/// As above with random numbers: the second leaf needs 1 to 7 main rounds, at times one more as its weight is one less.
+fn any_near_bound_input(random: &mut Random) -> Vec<u8> {
+    let heavy = random.pick(&[100_000, 300_000, 700_000, MOST_WEIGHT]);
+    let longest = random.pick(&[1_000, 1_500, 5_000, MOST_LONGEST]);
+    let light = random.pick(&[84, 42, 28, 21, 14, 12, 83, 27]);
+    let length = random.from_to(1, 61);
+    let tree = two_leaves([(heavy, longest), (light, 61)]);
+    let sends = (heavy / longest + 2) * (84_u64.div_ceil(light) + 1);
+    near_bound_run(&tree, length, sends.min(6_000))
 }
 
 /// Reads the seed and writes the input; a reader that stops early is no fault.

@@ -1,5 +1,5 @@
 //! The class tree, the plan reader, the refusals and the reading of standard input: what the programs that take a plan share.
-//! Written from the words of document 01 only; each program uses a part of it.
+//! Written from the words of document 01 and of request E2 of document 02 only; each program uses a part of it.
 #![allow(dead_code)]
 
 use std::io::Read;
@@ -13,6 +13,12 @@ pub const MOST_WEIGHT: u64 = 1_000_000;
 pub const MOST_LONGEST: u64 = 9_216;
 /// "the program's input exceeds 65,536 bytes".
 pub const MOST_INPUT: usize = 65_536;
+/// E2: lengths come "without the frame check sequence. On Ethernet (IEEE 802.3) that adds 4 bytes".
+pub const CHECK_SEQUENCE: u64 = 4;
+/// E2: "frames are padded to 64".
+pub const LEAST_FRAME: u64 = 64;
+/// E2: "preamble, start delimiter and interframe gap take 20 more".
+pub const AROUND_FRAME: u64 = 20;
 /// "Class 0 is the root".
 pub const ROOT: usize = 0;
 
@@ -37,6 +43,14 @@ pub fn mul(a: u64, b: u64) -> u64 {
 /// Divides and rounds down; an active class always has an active child, so the weight sum isn't 0.
 pub fn div(a: u64, b: u64) -> u64 {
     a.checked_div(b).expect("a weight sum is 0")
+}
+
+// ---------------------------------------------------------------------------------------------
+// What a packet costs.
+
+/// E2: "The charge is therefore the larger of length + 4 and 64, plus 20."
+pub fn charge(length: u64) -> u64 {
+    add(add(length, CHECK_SEQUENCE).max(LEAST_FRAME), AROUND_FRAME)
 }
 
 // ---------------------------------------------------------------------------------------------
@@ -86,7 +100,7 @@ impl Tree {
         Tree { classes: vec![Class { sort: Sort::Root, parent: 0, weight: 0, longest: 0 }] }
     }
 
-    /// How many classes the plan named; the root is not counted ("link 4 40" for tree P).
+    /// How many classes the plan named; the root is not counted ("link 4 262" for tree P).
     pub fn count(&self) -> usize {
         self.classes.len() - 1
     }
@@ -106,13 +120,14 @@ impl Tree {
         (1..self.classes.len()).filter(|&c| self.classes[c].parent == parent).collect()
     }
 
-    /// "The round size Q is the sum of all weights plus the sum of all leaves' longest packets."
+    /// "The round size Q is the sum of all weights plus the sum of all leaves' longest packets"; E2: "Q adds the charge of
+    /// each longest packet".
     pub fn round_size(&self) -> u64 {
         let mut size = 0;
         for class in &self.classes {
             size = add(size, class.weight);
             if class.sort == Sort::Leaf {
-                size = add(size, class.longest);
+                size = add(size, charge(class.longest));
             }
         }
         size

@@ -322,9 +322,9 @@ pub fn weigh(random: &mut Random, tree: &mut Tree) {
     }
 }
 
-/// Gives each leaf its longest packet, by one of seven mixes.
+/// Gives each leaf its longest packet, by one of eight mixes; up to 60 bytes all packets are charged alike, from 61 on by length.
 pub fn lengthen(random: &mut Random, tree: &mut Tree) {
-    let mix = random.from_to(0, 6);
+    let mix = random.from_to(0, 7);
     for class in 1..tree.len() {
         if tree[class].leaf {
             tree[class].longest = match mix {
@@ -334,6 +334,7 @@ pub fn lengthen(random: &mut Random, tree: &mut Tree) {
                 3 => random.pick(&[1, 2, MOST_LONGEST - 1, MOST_LONGEST]),
                 4 => random.from_to(1, 30),
                 5 => random.pick(&[64, 1_500]),
+                6 => random.from_to(58, 63),
                 _ => 1 << random.from_to(0, 13),
             };
         }

@@ -1,4 +1,5 @@
-//! Records runs of the second program: record FOLDER GENERATE SECOND writes FOLDER/stdin (the inputs) and FOLDER/stdout (what their lines come to).
+//! Records runs of the second program: record FOLDER GENERATE SECOND writes FOLDER/stdin (the inputs) and FOLDER/stdout
+//! (what their lines come to). Run 0 is the one in which a packet waits nearly its bound.
 //! The proved program `recorded` reads the first and must print the second. Build: rustc -O --edition 2021 record.rs
 
 use std::io::Write;

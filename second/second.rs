@@ -1,8 +1,11 @@
-//! The second, independent program for the class link, written from the words of document 01 only.
+//! The second, independent program for the class link, written from the words of document 01 and of request E2 of document 02 only.
 //! It reads a plan and events from standard input and prints the lines of "A whole run".
 //! It is slow and plain on purpose: every sum is scanned again, every call is followed by a full check.
+//! With words it prints a run worked step by step, for docs/by-hand.md (see by_hand.rs).
 //! Build: rustc -O --edition 2021 second.rs; test: rustc -O --edition 2021 --test second.rs -o second_test
 
+#[path = "by_hand.rs"]
+mod by_hand;
 #[path = "plan.rs"]
 mod plan;
 
@@ -31,6 +34,13 @@ struct Packet {
     tag: u64,
 }
 
+impl Packet {
+    /// What the packet costs on the wire.
+    fn charge(&self) -> u64 {
+        charge(self.length)
+    }
+}
+
 /// The whole state; the vectors are indexed by class number, and a queue's first packet is at position 0.
 #[derive(Clone, PartialEq, Eq, Debug)]
 struct Link {
@@ -42,7 +52,7 @@ struct Link {
     queues: Vec<Vec<Packet>>,
 }
 
-/// The answer to a send: "class, length, tag and the number of rounds opened in that call".
+/// The answer to a send: "class, length, tag and the number of rounds opened in that call"; the length is bare.
 #[derive(Clone, PartialEq, Eq, Debug)]
 struct Sent {
     class: usize,
@@ -53,7 +63,7 @@ struct Sent {
     surplus: Vec<bool>,
 }
 
-/// What an opening did, kept so that the tests can see the quotas of M2, M4 and M5.
+/// What an opening did, kept so that the tests can see the quotas.
 #[derive(Clone, PartialEq, Eq, Debug)]
 struct Opening {
     surplus: bool,
@@ -132,9 +142,9 @@ impl Link {
         self.numbers().any(|leaf| self.tree.is_leaf(leaf) && self.active[leaf] && self.is_above(class, leaf))
     }
 
-    /// Whether a leaf's balance covers its first packet.
+    /// Whether a leaf's balance covers its first packet; E2: "every comparison with a first packet" reads the charge.
     fn covers_first(&self, leaf: usize) -> bool {
-        self.accounts[leaf].balance >= self.queues[leaf][0].length
+        self.accounts[leaf].balance >= self.queues[leaf][0].charge()
     }
 
     /// Gives the first rule of "A state is sound when" that is broken, or nothing for a sound state.
@@ -217,7 +227,7 @@ fn arrival(link: &mut Link, class: usize, length: u64, tag: u64) -> Result<(), R
     if !link.tree.is_leaf(class) {
         return refuse(12, class);
     }
-    // 13: "length 0 or above the leaf's longest"
+    // 13: "length 0 or above the leaf's longest"; E2: "Refusal 13 still reads lengths"
     if length == 0 || length > link.tree.classes[class].longest {
         return refuse(13, class);
     }
@@ -273,11 +283,11 @@ fn search(link: &mut Link) -> Option<usize> {
     }
 }
 
-/// Step 1's sending: "the leaf loses the length, the root's balance gains it, the place becomes that leaf".
+/// Step 1's sending: the leaf loses the charge, "the root's balance gains it, the place becomes that leaf".
 fn send_first(link: &mut Link, leaf: usize) -> Packet {
     let packet = link.queues[leaf].remove(0);
-    link.accounts[leaf].balance = sub(link.accounts[leaf].balance, packet.length);
-    link.accounts[ROOT].balance = add(link.accounts[ROOT].balance, packet.length);
+    link.accounts[leaf].balance = sub(link.accounts[leaf].balance, packet.charge());
+    link.accounts[ROOT].balance = add(link.accounts[ROOT].balance, packet.charge());
     link.place = leaf;
     // Step 2: "If the sent packet was the leaf's last, the leaf turns inactive at once"
     if link.queues[leaf].is_empty() {
@@ -423,7 +433,7 @@ struct Counts {
     wait_thousandths: u64,
 }
 
-/// A packet whose wait is watched: its bound, and what the link had sent when it was accepted.
+/// A packet whose wait is watched: its bound, and what the link had charged when it was accepted.
 struct Watched {
     bound: u64,
     sent_before: u64,
@@ -434,7 +444,7 @@ struct Watched {
 struct Run {
     lines: Vec<String>,
     counts: Counts,
-    /// All bytes sent so far, and each class's waiting packets in order, for the bounded wait.
+    /// All bytes charged so far, and each class's waiting packets in order, for the bounded wait.
     sent: u64,
     watched: std::collections::BTreeMap<usize, std::collections::VecDeque<Watched>>,
 }
@@ -487,16 +497,17 @@ impl Run {
         }
     }
 
-    /// Demand 3: the link sends at most "(D/w rounded up, plus 1) times Q bytes" until the accepted packet has gone.
+    /// Demand 3: the link sends at most "(D/w rounded up, plus 1) times Q bytes" until the accepted packet has gone; D and
+    /// those bytes are charges.
     fn watch(&mut self, link: &Link, class: usize) {
-        let waiting: u64 = link.queues[class].iter().map(|packet| packet.length).sum();
+        let waiting: u64 = link.queues[class].iter().map(|packet| packet.charge()).sum();
         let bound = mul(add(waiting.div_ceil(link.tree.classes[class].weight), 1), link.size);
         self.watched.entry(class).or_default().push_back(Watched { bound, sent_before: self.sent });
     }
 
     /// The first packet of a class has left.
     fn left(&mut self, class: usize, length: u64) {
-        self.sent = add(self.sent, length);
+        self.sent = add(self.sent, charge(length));
         let first = self.watched.get_mut(&class).and_then(|waiting| waiting.pop_front()).expect("a packet left that never came");
         self.counts.wait_thousandths = self.counts.wait_thousandths.max(waited(&first, self.sent));
     }
@@ -545,7 +556,7 @@ impl Run {
 /// Checks a packet's bound, and gives the share of it that was used, in thousandths.
 fn waited(watched: &Watched, sent: u64) -> u64 {
     let since = sub(sent, watched.sent_before);
-    assert!(since <= watched.bound, "{since} bytes were sent while a packet waited, above its bound {}", watched.bound);
+    assert!(since <= watched.bound, "{since} bytes were charged while a packet waited, above its bound {}", watched.bound);
     div(mul(since, 1000), watched.bound)
 }
 
@@ -608,10 +619,25 @@ fn print(run: &Run) -> std::io::Result<()> {
     Ok(())
 }
 
+/// The lines of a run worked by hand: the words are `tables FROM TABLE` or `waits FROM`.
+fn worked(words: &[String], input: &[u8]) -> Vec<String> {
+    let number = |position: usize| words.get(position).and_then(|word| word.parse().ok()).expect("tables FROM TABLE, or waits FROM");
+    match words[0].as_str() {
+        "tables" => by_hand::tables(input, number(1), number(2)),
+        _ => by_hand::waits(input, number(1)),
+    }
+}
+
 /// Reads, runs, prints; input or output that fails ends with 1, a failed assertion (its message is on standard error) with 2.
 fn main() {
+    let words: Vec<String> = std::env::args().skip(1).collect();
     let Ok(input) = read_input() else { std::process::exit(1) };
-    let Ok(run) = std::panic::catch_unwind(|| run(&input)) else { std::process::exit(2) };
+    let Ok(run) = std::panic::catch_unwind(|| match words.is_empty() {
+        true => run(&input),
+        false => Run { lines: worked(&words, &input), ..Run::default() },
+    }) else {
+        std::process::exit(2)
+    };
     if print(&run).is_err() {
         std::process::exit(1);
     }
@@ -677,12 +703,23 @@ mod tests {
         (refusal.number, refusal.place)
     }
 
+    /// What is kept of each of so many sends: tag, rounds, and which of them were surplus rounds.
+    fn sends(link: &mut Link, count: usize) -> Vec<(u64, usize, Vec<bool>)> {
+        (0..count).map(|_| send(link).unwrap()).map(|s| (s.tag, s.rounds, s.surplus)).collect()
+    }
+
+    #[test]
+    fn charges() {
+        let charged: Vec<u64> = [1, 59, 60, 61, 9_216].into_iter().map(charge).collect();
+        assert_eq!(charged, [84, 84, 84, 85, 9_240]);
+    }
+
     #[test]
     fn m1_plan_p() {
         let (tree, used) = read_plan(&plan_p(3)).unwrap();
-        assert_eq!((tree.round_size(), used, tree.count()), (40, 31, 4));
+        assert_eq!((tree.round_size(), used, tree.count()), (262, 31, 4));
         let link = link_p();
-        assert_eq!((balances(&link), link.place), (vec![40, 0, 0, 0, 0], 64));
+        assert_eq!((balances(&link), link.place), (vec![262, 0, 0, 0, 0], 64));
         assert_eq!(link.broken_rule(), None);
     }
 
@@ -691,51 +728,80 @@ mod tests {
         let mut link = loaded_p();
         assert_eq!(search(&mut link), None);
         let opening = open_round(&mut link);
-        assert_eq!(opening, Opening { surplus: false, quotas: vec![5, 5, 0, 0, 0] });
-        assert_eq!(balances(&link), [5, 0, 5, 10, 20]);
+        assert_eq!(opening, Opening { surplus: false, quotas: vec![37, 37, 0, 0, 0] });
+        assert_eq!(balances(&link), [3, 0, 37, 74, 148]);
     }
 
     #[test]
     fn m3_first_send() {
         let mut link = loaded_p();
         let sent = send(&mut link).unwrap();
-        assert_eq!((sent.class, sent.length, sent.tag, sent.rounds), (2, 2, 1, 1));
-        assert_eq!((link.accounts[0].balance, link.accounts[1].residual), (7, 3));
+        assert_eq!((sent.class, sent.length, sent.tag, sent.rounds), (4, 10, 4, 1));
+        assert_eq!((balances(&link), residuals(&link)), (vec![87, 0, 37, 74, 0], vec![64, 0, 0, 0, 0]));
     }
 
     #[test]
-    fn m4_m5_m6_fourth_send() {
+    fn m4_m5_m6_the_other_sends() {
         let mut link = loaded_p();
-        let tags: Vec<u64> = (0..3).map(|_| send(&mut link).unwrap().tag).collect();
-        assert_eq!(tags, [1, 2, 4]);
-        let mut whole = link.clone();
-        // M4: the surplus round, opened by hand as the send would open it
-        assert_eq!(search(&mut link), None);
-        let opening = open_round(&mut link);
-        assert_eq!((opening.surplus, opening.quotas[0], opening.quotas[1]), (true, 0, 1));
-        assert_eq!((link.accounts[1].balance, link.accounts[3].balance), (1, 2));
-        // M5: the main round after it
-        assert_eq!(search(&mut link), None);
-        let opening = open_round(&mut link);
-        assert_eq!((opening.surplus, opening.quotas[0], opening.quotas[1]), (false, 12, 18));
-        assert_eq!((link.accounts[3].balance, link.accounts[1].balance, link.accounts[0].balance), (38, 1, 1));
-        assert_eq!(search(&mut link), Some(3));
-        send_first(&mut link, 3);
+        let first = sends(&mut link, 1);
+        // the second send's main round, opened by hand as the send would open it
+        let mut by_hand = link.clone();
+        assert_eq!(search(&mut by_hand), None);
+        let opening = open_round(&mut by_hand);
+        assert_eq!(opening, Opening { surplus: false, quotas: vec![50, 50, 0, 0, 0] });
+        assert_eq!((balances(&by_hand), residuals(&by_hand)), (vec![1, 0, 87, 174, 0], vec![0; 5]));
+        assert_eq!(search(&mut by_hand), Some(2));
+        send_first(&mut by_hand, 2);
+        let second = sends(&mut link, 1);
+        assert_eq!(link, by_hand);
+        let rest = sends(&mut link, 2);
+        let all = [first, second, rest].concat();
+        // "the fourth send opens no round any more"
+        assert_eq!(all, [(4, 1, vec![false]), (1, 1, vec![false]), (2, 0, vec![]), (3, 0, vec![])]);
         // M6: the end
-        assert_eq!((balances(&link), residuals(&link)), (vec![11, 0, 0, 0, 0], vec![29, 0, 0, 0, 0]));
-        let sent = send(&mut whole).unwrap();
-        assert_eq!((sent.tag, sent.rounds, whole.clone()), (3, 2, link));
-        assert_eq!(send(&mut whole), refuse(15, 0));
+        assert_eq!((balances(&link), residuals(&link)), (vec![253, 0, 0, 0, 0], vec![9, 0, 0, 0, 0]));
+        assert_eq!(send(&mut link), refuse(15, 0));
     }
 
     #[test]
-    fn m7_arrival_to_an_emptied_leaf() {
+    fn m7_two_rounds_in_a_send() {
         let mut link = loaded_p();
         send(&mut link).unwrap();
         arrival(&mut link, 2, 1, 5).unwrap();
-        let sent: Vec<Sent> = (0..3).map(|_| send(&mut link).unwrap()).collect();
-        assert_eq!(sent.iter().map(|s| s.tag).collect::<Vec<_>>(), [2, 4, 5]);
-        assert_eq!((sent[2].rounds, &sent[2].surplus), (1, &vec![true]));
+        assert_eq!(sends(&mut link, 3), [(1, 1, vec![false]), (2, 0, vec![]), (3, 0, vec![])]);
+        // one send longer: a surplus round that sends nothing, and then a main round, first by hand
+        let mut by_hand = link.clone();
+        assert_eq!(search(&mut by_hand), None);
+        let opening = open_round(&mut by_hand);
+        assert_eq!(opening, Opening { surplus: true, quotas: vec![0, 6, 0, 0, 0] });
+        assert_eq!(by_hand.accounts[2].balance, 9);
+        assert_eq!(search(&mut by_hand), None);
+        let opening = open_round(&mut by_hand);
+        assert_eq!(opening, Opening { surplus: false, quotas: vec![84, 252, 0, 0, 0] });
+        assert_eq!(sends(&mut link, 1), [(5, 2, vec![true, false])]);
+    }
+
+    #[test]
+    fn arrival_to_an_emptied_leaf() {
+        let mut link = loaded_p();
+        send(&mut link).unwrap();
+        let before = link.clone();
+        arrival(&mut link, 4, 10, 5).unwrap();
+        // only the queue changes: leaf 4 waits for the next round
+        assert_eq!((&link.accounts, &link.active, link.place), (&before.accounts, &before.active, before.place));
+        assert_eq!((link.active[4], search(&mut link.clone())), (false, None));
+        assert_eq!(sends(&mut link, 2), [(2, 1, vec![false]), (5, 0, vec![])]);
+    }
+
+    #[test]
+    fn surplus_round_that_sends() {
+        let mut link = link_p();
+        for (class, length, tag) in [(2, 10, 1), (2, 10, 2), (3, 10, 3)] {
+            arrival(&mut link, class, length, tag).unwrap();
+        }
+        assert_eq!(sends(&mut link, 2), [(1, 1, vec![false]), (3, 0, vec![])]);
+        assert_eq!(residuals(&link), [0, 90, 0, 0, 0]);
+        assert_eq!(sends(&mut link, 1), [(2, 1, vec![true])]);
     }
 
     #[test]
@@ -793,7 +859,7 @@ mod tests {
         assert_eq!(plan_refusal(&[leaf(0, 1, 1), leaf(1, 1, 1), vec![0]].concat()), (4, 8));
         let most = leaf(0, 1_000_000, 9_216).repeat(63);
         let (tree, used) = read_plan(&[most.clone(), vec![0]].concat()).unwrap();
-        assert_eq!((tree.count(), used, tree.round_size()), (63, 505, 63_580_608));
+        assert_eq!((tree.count(), used, tree.round_size()), (63, 505, 63_582_120));
         assert_eq!(plan_refusal(&[most.clone(), inner(200, 0), vec![0]].concat()), (3, 504));
         assert_eq!(plan_refusal(&[most.clone(), vec![2, 0]].concat()), (1, 504));
         assert_eq!(plan_refusal(&[most, vec![16]].concat()), (2, 504));
@@ -820,11 +886,11 @@ mod tests {
     fn events_cut_or_unknown() {
         let mut input = plan_p(3);
         input.extend([17, 16, 2, 0, 2, 0, 0, 0]);
-        assert_eq!(run(&input).lines, ["link 4 40", "none", "stop 1 32"]);
+        assert_eq!(run(&input).lines, ["link 4 262", "none", "stop 1 32"]);
         for kind in [0, 1, 2, 3, 255] {
             let mut input = plan_p(3);
             input.extend([17, kind]);
-            assert_eq!(run(&input).lines, ["link 4 40", "none", "stop 2 32"]);
+            assert_eq!(run(&input).lines, ["link 4 262", "none", "stop 2 32"]);
         }
     }
 
@@ -848,8 +914,8 @@ mod tests {
         // one state broken by hand for each of a few rules
         let breaks: [fn(&mut Link); 6] = [
             |l| l.place = 65,
-            |l| l.size = 41,
-            |l| l.accounts[0].balance = 39,
+            |l| l.size = 263,
+            |l| l.accounts[0].balance = 261,
             |l| l.active[2] = true,
             |l| l.queues[1].push(Packet { length: 1, tag: 1 }),
             |l| l.accounts[4] = Account { balance: 0, residual: 1 },

@@ -1,6 +1,7 @@
 // The calls of the library: a fresh link from a plan's tree, an arrival and a send. Entries for callers outside: they ask nothing.
 // Serves demand 1 (numbers 11 to 15, a refused call hands the record back unaltered) and demand 2.
 ghost use mathlib.Core.Path.{_≡_};
+ghost use lib.Dec.{ltb};
 ghost use Rattle.checks.specs.Check.{firstBroken};
 ghost use Rattle.link.specs.Fresh.{MakesFresh};
 ghost use Rattle.link.specs.Arrival.{Arrives};
@@ -42,6 +43,13 @@ pub fn fresh(tree: Tree) -> Answered
     Answered { verdict, link }
 }
 
+// Is the packet longer than the longest? 13 reads bare lengths, and no charge.
+fn is_longer(length: u16, longest: u16) -> bool
+    ensures { λ r. ⌜ r ≡ ltb longest length ⌝ }
+{
+    longest < length
+}
+
 // Checks 11, 12, 13 and 14 of an arrival, in this order.
 fn judge(sound: bool, leaf: bool, class: usize, length: u16, longest: u16, held: u8) -> Verdict
     ensures { λ r. ⌜ r ≡ firstBroken (judgeChecks sound leaf class length longest held) ⌝ }
@@ -55,7 +63,7 @@ fn judge(sound: bool, leaf: bool, class: usize, length: u16, longest: u16, held:
     if length < 1 {
         return Verdict::Refused(checks::LENGTH, class);
     }
-    if longest < length {
+    if is_longer(length, longest) {
         return Verdict::Refused(checks::LENGTH, class);
     }
     if Link::PLACES as u8 <= held {

@@ -1,4 +1,5 @@
--- The listing and the marked cases M1 to M12 of document 01, "A whole run": the input, the calls, and what each of them is to give. Demands 1 and 2.
+-- The listing and the marked cases M1 to M12 of document 01, "A whole run", worked anew with charges (document 02, E2), and three more for what M4, M5
+-- and M7 showed before: the input, the calls, and what each of them is to give. Demands 1 and 2.
 use mathlib.Core.List.{List, [], _∷_, _++_}
 use Prim.Native.Nat.{ℕ}
 use lib.ListN.{replicate}
@@ -48,22 +49,22 @@ treeWith weight =
     ++ (2 ∷ 0 ∷ 0 ∷ 0 ∷ 0 ∷ 4 ∷ 0 ∷ 10 ∷ [])
     ++ (0 ∷ [])
 
--- M1 the plan is accepted, Q 40, 31 bytes used.
+-- M1 the plan is accepted, Q 262, 31 bytes used.
 abbrev m1 : Entry
-m1 = record { input = treeWith 3; read = accepted 4 40 31; steps = [] }
+m1 = record { input = treeWith 3; read = accepted 4 262 31; steps = [] }
 
 -- The listing: four arrivals, five sends, and no packet left.
 abbrev arrivals : List Step
 arrivals = arrival 2 2 1 ⟶ taken ∷ arrival 3 10 2 ⟶ taken ∷ arrival 3 10 3 ⟶ taken ∷ arrival 4 10 4 ⟶ taken ∷ []
 
 abbrev firstSend : List Step
-firstSend = send ⟶ out 2 2 1 1 ∷ []
+firstSend = send ⟶ out 4 10 4 1 ∷ []
 
 abbrev twoMore : List Step
-twoMore = send ⟶ out 3 10 2 0 ∷ send ⟶ out 4 10 4 0 ∷ []
+twoMore = send ⟶ out 2 2 1 1 ∷ send ⟶ out 3 10 2 0 ∷ []
 
 abbrev fourthSend : List Step
-fourthSend = send ⟶ out 3 10 3 2 ∷ []
+fourthSend = send ⟶ out 3 10 3 0 ∷ []
 
 abbrev lastSend : List Step
 lastSend = send ⟶ none ∷ []
@@ -71,67 +72,116 @@ lastSend = send ⟶ none ∷ []
 abbrev listing : Entry
 listing = m1 then arrivals then firstSend then twoMore then fourthSend then lastSend then (end ⟶ waiting 0 ∷ [])
 
--- M2 the first opening: quotas 5 (root) and 5 (class 1); balances of classes 0 to 4: 5, 0, 5, 10, 20.
+-- M2 the first opening: quotas 37 (root) and 37 (class 1); balances of classes 0 to 4: 3, 0, 37, 74, 148.
 abbrev firstOpening : Opening
 firstOpening = record {
-  closed = record { B = these (40 ∷ 0 ∷ 0 ∷ 0 ∷ 0 ∷ []); R = nothing };
+  closed = record { B = these (262 ∷ 0 ∷ 0 ∷ 0 ∷ 0 ∷ []); R = nothing };
   kind = main;
-  quotas = 5 ∷ 5 ∷ [];
-  after = record { B = these (5 ∷ 0 ∷ 5 ∷ 10 ∷ 20 ∷ []); R = nothing };
+  quotas = 37 ∷ 37 ∷ [];
+  after = record { B = these (3 ∷ 0 ∷ 37 ∷ 74 ∷ 148 ∷ []); R = nothing };
 }
 
 abbrev m2 : Entry
 m2 = m1 then arrivals then (opening 0 ⟶ opened (firstOpening ∷ []) ∷ []) then firstSend
 
--- M3 after the first send: root B 7, class 1 R 3.
+-- M3 after the first send: root B 87, R 64; class 4 is inactive.
 abbrev afterFirst : Answer
-afterFirst = shown (0 ∷ 1 ∷ 3 ∷ 4 ∷ []) (record { B = these (7 ∷ 0 ∷ 0 ∷ 10 ∷ 20 ∷ []); R = these (0 ∷ 3 ∷ 0 ∷ 0 ∷ 0 ∷ []) })
+afterFirst = shown (0 ∷ 1 ∷ 2 ∷ 3 ∷ []) (record { B = these (87 ∷ 0 ∷ 37 ∷ 74 ∷ 0 ∷ []); R = these (64 ∷ 0 ∷ 0 ∷ 0 ∷ 0 ∷ []) })
 
 abbrev m3 : Entry
 m3 = m1 then arrivals then firstSend then (show ⟶ afterFirst ∷ [])
 
--- M4 the surplus round in the fourth send: class 1 quota 1, B 1; class 3 B 2.
-abbrev surplusOpening : Opening
-surplusOpening = record {
-  closed = record { B = these (27 ∷ 0 ∷ 0 ∷ 0 ∷ 0 ∷ []); R = these (10 ∷ 3 ∷ 0 ∷ 0 ∷ 0 ∷ []) };
-  kind = surplus;
-  quotas = 0 ∷ 1 ∷ [];
-  after = record { B = these (27 ∷ 1 ∷ 0 ∷ 2 ∷ 0 ∷ []); R = these (10 ∷ 0 ∷ 0 ∷ 0 ∷ 0 ∷ []) };
-}
-
+-- M4 the fourth send opens no surplus round: class 3 has B 90, and its packet costs 84; class 1 R 3.
 abbrev m4 : Entry
-m4 = m1 then arrivals then firstSend then twoMore then (opening 0 ⟶ opened (surplusOpening ∷ []) ∷ []) then fourthSend
+m4 = m1 then arrivals then firstSend then twoMore then
+    (show ⟶ shown (0 ∷ 1 ∷ 3 ∷ []) (record { B = these (169 ∷ 0 ∷ 0 ∷ 90 ∷ 0 ∷ []); R = these (0 ∷ 3 ∷ 0 ∷ 0 ∷ 0 ∷ []) })
+    ∷ opening 0 ⟶ opened []
+    ∷ [])
+    then fourthSend
 
--- M5 the main round after it: quotas 12 and 18; class 3 B 38, class 1 B 1, root B 1.
-abbrev mainOpening : Opening
-mainOpening = record {
-  closed = record { B = these (27 ∷ 1 ∷ 0 ∷ 2 ∷ 0 ∷ []); R = these (10 ∷ 0 ∷ 0 ∷ 0 ∷ 0 ∷ []) };
-  kind = main;
-  quotas = 12 ∷ 18 ∷ [];
-  after = record { B = these (1 ∷ 1 ∷ 0 ∷ 38 ∷ 0 ∷ []); R = nothing };
-}
-
+-- M5 nor does it open a main round after one.
 abbrev m5 : Entry
-m5 = m1 then arrivals then firstSend then twoMore then (opening 1 ⟶ opened (mainOpening ∷ []) ∷ []) then fourthSend
+m5 = m1 then arrivals then firstSend then twoMore then (opening 1 ⟶ opened [] ∷ []) then fourthSend
 
--- M6 at the end: root B 11, R 29, all else 0.
+-- M6 at the end: root B 253, R 9, all else 0.
 abbrev m6 : Entry
 m6 = m1 then arrivals then firstSend then twoMore then fourthSend then lastSend then
-    (show ⟶ shown [] (record { B = these (11 ∷ 0 ∷ 0 ∷ 0 ∷ 0 ∷ []); R = these (29 ∷ 0 ∷ 0 ∷ 0 ∷ 0 ∷ []) }) ∷ [])
+    (show ⟶ shown [] (record { B = these (253 ∷ 0 ∷ 0 ∷ 0 ∷ 0 ∷ []); R = these (9 ∷ 0 ∷ 0 ∷ 0 ∷ 0 ∷ []) }) ∷ [])
 
--- M7 an arrival (class 2, length 1, tag 5) after the first send: the next three sends give tags 2, 4, 5, the third with 1 round opened, a surplus round.
--- The arrival itself changes nothing that shows: class 2 stays inactive.
-abbrev laterOpening : Opening
-laterOpening = record {
-  closed = record { B = these (27 ∷ 0 ∷ 0 ∷ 0 ∷ 0 ∷ []); R = these (10 ∷ 3 ∷ 0 ∷ 0 ∷ 0 ∷ []) };
-  kind = surplus;
-  quotas = 0 ∷ 1 ∷ [];
-  after = record { B = these (27 ∷ 0 ∷ 1 ∷ 2 ∷ 0 ∷ []); R = these (10 ∷ 0 ∷ 0 ∷ 0 ∷ 0 ∷ []) };
+-- M7 an arrival (class 2, length 1, tag 5) after the first send: the next three sends give tags 1, 2, 3, the first with 1 round opened, a main round.
+-- The arrival itself changes nothing that shows.
+abbrev secondOpening : Opening
+secondOpening = record {
+  closed = record { B = these (87 ∷ 0 ∷ 37 ∷ 74 ∷ 0 ∷ []); R = these (64 ∷ 0 ∷ 0 ∷ 0 ∷ 0 ∷ []) };
+  kind = main;
+  quotas = 50 ∷ 50 ∷ [];
+  after = record { B = these (1 ∷ 0 ∷ 87 ∷ 174 ∷ 0 ∷ []); R = nothing };
 }
 
 abbrev m7 : Entry
-m7 = m1 then arrivals then firstSend then (arrival 2 1 5 ⟶ taken ∷ show ⟶ afterFirst ∷ []) then twoMore then
-    (opening 0 ⟶ opened (laterOpening ∷ []) ∷ send ⟶ out 2 1 5 1 ∷ [])
+m7 = m1 then arrivals then firstSend then
+    (arrival 2 1 5 ⟶ taken ∷ show ⟶ afterFirst ∷ opening 0 ⟶ opened (secondOpening ∷ []) ∷ [])
+    then twoMore then fourthSend
+
+-- Two rounds in a send: M7's run one send longer gives tag 5. Its surplus round sends nothing: class 1 quota 6, class 2 B 9; the main round after it has
+-- the quotas 84 and 252.
+abbrev surplusOpening : Opening
+surplusOpening = record {
+  closed = record { B = these (253 ∷ 0 ∷ 3 ∷ 0 ∷ 0 ∷ []); R = these (0 ∷ 6 ∷ 0 ∷ 0 ∷ 0 ∷ []) };
+  kind = surplus;
+  quotas = 0 ∷ 6 ∷ [];
+  after = record { B = these (253 ∷ 0 ∷ 9 ∷ 0 ∷ 0 ∷ []); R = nothing };
+}
+
+abbrev mainOpening : Opening
+mainOpening = record {
+  closed = record { B = these (253 ∷ 0 ∷ 9 ∷ 0 ∷ 0 ∷ []); R = nothing };
+  kind = main;
+  quotas = 84 ∷ 252 ∷ [];
+  after = record { B = these (1 ∷ 0 ∷ 261 ∷ 0 ∷ 0 ∷ []); R = nothing };
+}
+
+abbrev twoRounds : Entry
+twoRounds = m7 then (opening 0 ⟶ opened (surplusOpening ∷ []) ∷ opening 1 ⟶ opened (mainOpening ∷ []) ∷ send ⟶ out 2 1 5 2 ∷ [])
+
+-- A leaf that turned inactive: an arrival (class 4, length 10, tag 5) after the first send leaves class 4 inactive, and waits for the next round. That one
+-- opens in the next send, with class 4 in it: quotas 21 and 21, class 4 B 84.
+abbrev rejoins : Opening
+rejoins = record {
+  closed = record { B = these (87 ∷ 0 ∷ 37 ∷ 74 ∷ 0 ∷ []); R = these (64 ∷ 0 ∷ 0 ∷ 0 ∷ 0 ∷ []) };
+  kind = main;
+  quotas = 21 ∷ 21 ∷ [];
+  after = record { B = these (4 ∷ 0 ∷ 58 ∷ 116 ∷ 84 ∷ []); R = nothing };
+}
+
+abbrev nextRound : Entry
+nextRound = m1 then arrivals then firstSend then
+    (arrival 4 10 5 ⟶ taken
+    ∷ show ⟶ afterFirst
+    ∷ opening 0 ⟶ opened (rejoins ∷ [])
+    ∷ send ⟶ out 3 10 2 1
+    ∷ send ⟶ out 4 10 5 0
+    ∷ [])
+
+-- A surplus round that sends: what class 3 gave back when it turned inactive covers the second packet of class 2.
+abbrev surplusSends : Opening
+surplusSends = record {
+  closed = record { B = these (169 ∷ 0 ∷ 3 ∷ 0 ∷ 0 ∷ []); R = these (0 ∷ 90 ∷ 0 ∷ 0 ∷ 0 ∷ []) };
+  kind = surplus;
+  quotas = 0 ∷ 90 ∷ [];
+  after = record { B = these (169 ∷ 0 ∷ 93 ∷ 0 ∷ 0 ∷ []); R = nothing };
+}
+
+abbrev surplusRound : Entry
+surplusRound = m1 then
+    (arrival 2 10 1 ⟶ taken
+    ∷ arrival 3 10 2 ⟶ taken
+    ∷ arrival 2 10 3 ⟶ taken
+    ∷ send ⟶ out 2 10 1 1
+    ∷ send ⟶ out 3 10 2 0
+    ∷ opening 0 ⟶ opened (surplusSends ∷ [])
+    ∷ send ⟶ out 2 10 3 1
+    ∷ [])
 
 -- M8 empty input: 1 at 0.
 abbrev m8 : Entry
@@ -164,4 +214,4 @@ m12 = m1 then table (λ tag. arrival 4 10 tag ⟶ taken) 32 then
 
 -- the table
 unfoldable pub markedCases : List Entry
-markedCases = listing ∷ m1 ∷ m2 ∷ m3 ∷ m4 ∷ m5 ∷ m6 ∷ m7 ∷ m8 ∷ m9 ∷ m10 ∷ m11 ∷ m12 ∷ []
+markedCases = listing ∷ m1 ∷ m2 ∷ m3 ∷ m4 ∷ m5 ∷ m6 ∷ m7 ∷ twoRounds ∷ nextRound ∷ surplusRound ∷ m8 ∷ m9 ∷ m10 ∷ m11 ∷ m12 ∷ []

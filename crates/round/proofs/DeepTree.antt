@@ -1,5 +1,5 @@
--- Six sends on a tree three classes deep, computed from the definitions: a main round, a surplus round that sends, one that sends nothing with the
--- main round after it, and classes that turn inactive up to the root. It refuses a slip in the rules where they are made. Demand 2.
+-- Six sends on a tree three classes deep, computed from the definitions: a main round, a surplus round that sends nothing with the main round after
+-- it, one that sends, and classes that turn inactive up to the root. It refuses a slip in the rules where they are made. Demand 2.
 use mathlib.Core.Bool.{Bool, true, false}
 use mathlib.Core.List.{List, [], _∷_, _++_}
 use mathlib.Core.Path.{_≡_, refl}
@@ -24,20 +24,20 @@ use Rattle.round.specs.Sending.{ready, firstFrom, nextLeaf, givenUp, tur
 class : ℕ → ℕ → ℕ → Bool → Class
 class parent weight longest leaf = record { parent = parent; weight = record { 0 = weight }; longest = longest; leaf = leaf }
 
--- class 1 inner, weight 5; class 2 inner below it, weight 3; leaves 3 (weight 1, longest 4) and 4 (2, 6) below class 2, 5 (2, 5) below class 1,
--- 6 (4, 7) below the root
+-- class 1 inner, weight 5; class 2 inner below it, weight 3; leaves 3 (weight 1, longest 100) and 4 (2, 90) below class 2, 5 (2, 80) below
+-- class 1, 6 (4, 70) below the root
 tree : Tree
 tree =
     added
-    (added (added (added (added (added noTree (class 0 5 0 false)) (class 1 3 0 false)) (class 2 1 4 true)) (class 2 2 6 true)) (class 1 2 5 true))
-    (class 0 4 7 true)
+    (added (added (added (added (added noTree (class 0 5 0 false)) (class 1 3 0 false)) (class 2 1 100 true)) (class 2 2 90 true)) (class 1 2 80 true))
+    (class 0 4 70 true)
 
 arrive : State → ℕ → ℕ → ℕ → State
 arrive s i length tag = withQueue s i (queueAt s i ++ (record { length = length; tag = tag } ∷ []))
 
 -- six arrivals on a fresh link: class, length, tag
 start : State
-start = arrive (arrive (arrive (arrive (arrive (arrive (meaning (freshLink tree)) 3 4 1) 3 4 2) 4 4 3) 4 5 4) 5 4 5) 6 3 6
+start = arrive (arrive (arrive (arrive (arrive (arrive (meaning (freshLink tree)) 3 88 1) 3 28 2) 4 48 3) 4 75 4) 5 61 5) 6 59 6
 
 -- the state after n sends
 after : ℕ → State
@@ -73,46 +73,46 @@ opens-at-1 = refl
 
 six-sends : table seenOf 6
     ≡
-    ((3 ∷ 4 ∷ 1 ∷ 1 ∷ [])
-    ∷ (3 ∷ 127 ∷ [])
-    ∷ (7 ∷ 0 ∷ 0 ∷ 0 ∷ 8 ∷ 8 ∷ 16 ∷ [])
-    ∷ (0 ∷ 0 ∷ 0 ∷ 0 ∷ 0 ∷ 0 ∷ 0 ∷ [])
-    ∷ (4 ∷ 4 ∷ 4 ∷ [])
-    ∷ (3 ∷ 0 ∷ 0 ∷ 4 ∷ 8 ∷ 8 ∷ 16 ∷ [])
-    ∷ (0 ∷ 0 ∷ 0 ∷ 0 ∷ 0 ∷ 0 ∷ 0 ∷ [])
-    ∷ [])
-    ∷ ((4 ∷ 4 ∷ 3 ∷ 0 ∷ [])
+    ((4 ∷ 48 ∷ 3 ∷ 1 ∷ [])
     ∷ (4 ∷ 127 ∷ [])
-    ∷ (11 ∷ 0 ∷ 0 ∷ 0 ∷ 4 ∷ 8 ∷ 16 ∷ [])
+    ∷ (87 ∷ 0 ∷ 0 ∷ 50 ∷ 16 ∷ 100 ∷ 200 ∷ [])
+    ∷ (0 ∷ 0 ∷ 0 ∷ 0 ∷ 0 ∷ 0 ∷ 0 ∷ [])
+    ∷ (50 ∷ 50 ∷ 50 ∷ [])
+    ∷ (3 ∷ 0 ∷ 0 ∷ 50 ∷ 100 ∷ 100 ∷ 200 ∷ [])
     ∷ (0 ∷ 0 ∷ 0 ∷ 0 ∷ 0 ∷ 0 ∷ 0 ∷ [])
     ∷ [])
-    ∷ ((5 ∷ 4 ∷ 5 ∷ 0 ∷ [])
+    ∷ ((5 ∷ 61 ∷ 5 ∷ 0 ∷ [])
     ∷ (5 ∷ 95 ∷ [])
-    ∷ (15 ∷ 0 ∷ 0 ∷ 0 ∷ 4 ∷ 0 ∷ 16 ∷ [])
-    ∷ (0 ∷ 4 ∷ 0 ∷ 0 ∷ 0 ∷ 0 ∷ 0 ∷ [])
+    ∷ (172 ∷ 0 ∷ 0 ∷ 50 ∷ 16 ∷ 0 ∷ 200 ∷ [])
+    ∷ (0 ∷ 15 ∷ 0 ∷ 0 ∷ 0 ∷ 0 ∷ 0 ∷ [])
     ∷ [])
-    ∷ ((6 ∷ 3 ∷ 6 ∷ 0 ∷ [])
+    ∷ ((6 ∷ 59 ∷ 6 ∷ 0 ∷ [])
     ∷ (6 ∷ 31 ∷ [])
-    ∷ (18 ∷ 0 ∷ 0 ∷ 0 ∷ 4 ∷ 0 ∷ 0 ∷ [])
-    ∷ (13 ∷ 4 ∷ 0 ∷ 0 ∷ 0 ∷ 0 ∷ 0 ∷ [])
+    ∷ (256 ∷ 0 ∷ 0 ∷ 50 ∷ 16 ∷ 0 ∷ 0 ∷ [])
+    ∷ (116 ∷ 15 ∷ 0 ∷ 0 ∷ 0 ∷ 0 ∷ 0 ∷ [])
     ∷ [])
-    ∷ ((4 ∷ 5 ∷ 4 ∷ 1 ∷ [])
+    ∷ ((3 ∷ 88 ∷ 1 ∷ 2 ∷ [])
+    ∷ (3 ∷ 31 ∷ [])
+    ∷ (114 ∷ 1 ∷ 0 ∷ 66 ∷ 272 ∷ 0 ∷ 0 ∷ [])
+    ∷ (0 ∷ 0 ∷ 0 ∷ 0 ∷ 0 ∷ 0 ∷ 0 ∷ [])
+    ∷ (0 ∷ 5 ∷ 5 ∷ [])
+    ∷ (256 ∷ 0 ∷ 0 ∷ 55 ∷ 26 ∷ 0 ∷ 0 ∷ [])
+    ∷ (116 ∷ 0 ∷ 0 ∷ 0 ∷ 0 ∷ 0 ∷ 0 ∷ [])
+    ∷ (74 ∷ 123 ∷ 123 ∷ [])
+    ∷ (2 ∷ 1 ∷ 0 ∷ 178 ∷ 272 ∷ 0 ∷ 0 ∷ [])
+    ∷ (0 ∷ 0 ∷ 0 ∷ 0 ∷ 0 ∷ 0 ∷ 0 ∷ [])
+    ∷ [])
+    ∷ ((4 ∷ 75 ∷ 4 ∷ 0 ∷ [])
     ∷ (4 ∷ 15 ∷ [])
-    ∷ (23 ∷ 1 ∷ 0 ∷ 1 ∷ 0 ∷ 0 ∷ 0 ∷ [])
-    ∷ (13 ∷ 0 ∷ 1 ∷ 0 ∷ 0 ∷ 0 ∷ 0 ∷ [])
-    ∷ (0 ∷ 1 ∷ 1 ∷ [])
-    ∷ (18 ∷ 1 ∷ 0 ∷ 1 ∷ 6 ∷ 0 ∷ 0 ∷ [])
-    ∷ (13 ∷ 0 ∷ 0 ∷ 0 ∷ 0 ∷ 0 ∷ 0 ∷ [])
+    ∷ (213 ∷ 1 ∷ 0 ∷ 66 ∷ 0 ∷ 0 ∷ 0 ∷ [])
+    ∷ (0 ∷ 0 ∷ 173 ∷ 0 ∷ 0 ∷ 0 ∷ 0 ∷ [])
     ∷ [])
-    ∷ ((3 ∷ 4 ∷ 2 ∷ 2 ∷ [])
+    ∷ ((3 ∷ 28 ∷ 2 ∷ 1 ∷ [])
     ∷ (3 ∷ 0 ∷ [])
-    ∷ (5 ∷ 0 ∷ 0 ∷ 0 ∷ 0 ∷ 0 ∷ 0 ∷ [])
-    ∷ (34 ∷ 0 ∷ 0 ∷ 0 ∷ 0 ∷ 0 ∷ 0 ∷ [])
-    ∷ (0 ∷ 0 ∷ 1 ∷ [])
-    ∷ (23 ∷ 1 ∷ 0 ∷ 2 ∷ 0 ∷ 0 ∷ 0 ∷ [])
-    ∷ (13 ∷ 0 ∷ 0 ∷ 0 ∷ 0 ∷ 0 ∷ 0 ∷ [])
-    ∷ (7 ∷ 12 ∷ 36 ∷ [])
-    ∷ (1 ∷ 0 ∷ 0 ∷ 38 ∷ 0 ∷ 0 ∷ 0 ∷ [])
+    ∷ (297 ∷ 0 ∷ 0 ∷ 0 ∷ 0 ∷ 0 ∷ 0 ∷ [])
+    ∷ (156 ∷ 0 ∷ 0 ∷ 0 ∷ 0 ∷ 0 ∷ 0 ∷ [])
+    ∷ (0 ∷ 0 ∷ 173 ∷ [])
+    ∷ (213 ∷ 1 ∷ 0 ∷ 239 ∷ 0 ∷ 0 ∷ 0 ∷ [])
     ∷ (0 ∷ 0 ∷ 0 ∷ 0 ∷ 0 ∷ 0 ∷ 0 ∷ [])
     ∷ [])
     ∷ []

@@ -154,14 +154,14 @@ module _ (kind : Kind) (t : Tree) (active : ℕ) (accounts : List Account) (can 
               rw (none, zero-mul) (omega (arith, can .small (suc i) u))
 
   -- so every quota fits
-  pub quota-most : (i : ℕ) → i < 64 → quota kind t active accounts i ≤ 4_069_158_912
+  pub quota-most : (i : ℕ) → i < 64 → quota kind t active accounts i ≤ 64 * mostSize
   quota-most i u = go i u
     where
-      root : (k : Kind) → rootQuota k t active accounts ≤ 4_069_158_912
+      root : (k : Kind) → rootQuota k t active accounts ≤ 64 * mostSize
       root main = omega (arith, div-le-self (heldBy (accountOf accounts 0)) (weightSum t active 0), can .small 0 (omega arith))
       root surplus = zero-le
 
-      other : (i : ℕ) → suc i < 64 → (b : Bool) → has active (suc i) ≡ b → quota kind t active accounts (suc i) ≤ 4_069_158_912
+      other : (i : ℕ) → suc i < 64 → (b : Bool) → has active (suc i) ≡ b → quota kind t active accounts (suc i) ≤ 64 * mostSize
       other i u true on =
           let most = has-bound 63 (suc i) (omega arith) u (λ l. on) in
           rw (quota-step kind t active accounts (can .rules) (suc i) (omega arith) u) (omega (arith, most-of i most, div-le-self (heldBy (accountOf accounts (suc i)) + weightOf t (suc i) * quota kind t active accounts (parentOf t (suc i))) (weightSum t active (suc i))))
@@ -171,12 +171,12 @@ module _ (kind : Kind) (t : Tree) (active : ℕ) (accounts : List Account) (can 
           most-of i h = has-suc kind t active accounts i h
       other i u false off = omega (arith, quota-inactive (suc i) (omega arith) u off)
 
-      go : (i : ℕ) → i < 64 → quota kind t active accounts i ≤ 4_069_158_912
+      go : (i : ℕ) → i < 64 → quota kind t active accounts i ≤ 64 * mostSize
       go zero u = rw (quota-root kind t active accounts) (root kind)
       go (suc i) u = other i u (has active (suc i)) refl
 
   -- and so does every due
-  pub due-most : (i : ℕ) → i < 64 → weightOf t i * quota kind t active accounts (parentOf t i) ≤ 4_069_158_912_000_000
+  pub due-most : (i : ℕ) → i < 64 → weightOf t i * quota kind t active accounts (parentOf t i) ≤ 64 * mostSize * 1_000_000
   due-most i u =
       let low = parent-most t i (can .rules) u in
       omega (

@@ -33,7 +33,7 @@ openedBy t active q i a =
 
 -- what that step needs to fit its numbers
 pub record Fitting (t : Tree) (active : ℕ) (q : ℕ → ℕ) (i : ℕ) (a : Account) : Type 0 where
-  pub due : weightOf t i * q (parentOf t i) ≤ 4_069_158_912_000_000
+  pub due : weightOf t i * q (parentOf t i) ≤ 64 * mostSize * 1_000_000
   pub down : weightSum t active i * q i ≤ heldBy a + weightOf t i * q (parentOf t i)
   pub held : heldBy a ≤ mostSize
 

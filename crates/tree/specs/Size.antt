@@ -19,10 +19,10 @@ longestCost t i = cond (isLeaf t i) (costOf (longestOf t i)) 0
 unfoldable pub allLongest : Tree → ℕ
 allLongest t = sumTo (longestCost t) (t .count)
 
--- Q: the sum of all weights plus the sum of all leaves' longest packets
+-- Q: the sum of all weights plus the sum of what all leaves' longest packets cost
 unfoldable pub roundSize : Tree → ℕ
 roundSize t = sizeOf (allWeights t) (allLongest t)
 
--- Q is at most 63,580,608: 63 classes of the heaviest weight, each a leaf of the longest packet
+-- Q is at most 63,582,120: 63 classes of the heaviest weight, each a leaf of the longest packet
 abbrev pub mostSize : ℕ
 mostSize = 63 * 1_000_000 + 63 * mostCost

@@ -1,10 +1,11 @@
--- What a packet costs on the link, in bytes. Demands 2 and 3.
-use Prim.Native.Nat.{ℕ}
+-- What a packet costs on the link, in bytes: its charge (document 02, E2). Demands 2 and 3.
+use Prim.Native.Nat.{ℕ, _+_, max}
 
--- its bare length
+-- the charge of a length, as IEEE 802.3 puts it on the wire: 4 bytes of frame check sequence, a frame of at least 64 bytes, and 20 bytes of preamble,
+-- start delimiter and interframe gap
 unfoldable pub costOf : ℕ → ℕ
-costOf length = length
+costOf length = max (length + 4) 64 + 20
 
 -- what the longest packet costs, of 9,216 bytes
 abbrev pub mostCost : ℕ
-mostCost = 9_216
+mostCost = 9_240

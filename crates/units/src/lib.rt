@@ -1,7 +1,7 @@
 // Weights and bytes as two types, and the only four places where they meet (document 01, "The class tree"); what a packet costs.
 // Serves demand 2: a share is never taken for a byte count.
 ghost use mathlib.Core.Path.{_≡_};
-ghost use Prim.Native.Nat.{_+_, _-_, _*_, _^_, _<_, _≤_};
+ghost use Prim.Native.Nat.{_+_, _-_, _*_, _^_, _<_, _≤_, max};
 ghost use Rattle.units.specs.Unit.{dueOf, quotaOf, surplusOf, sizeOf};
 ghost use Rattle.units.specs.Cost.{costOf};
 
@@ -72,9 +72,19 @@ pub fn size(weights: Weight, packets: Bytes) -> Bytes
     Bytes(weights.0 as u64 + packets.0)
 }
 
-// What a packet of this length costs: the one way from a length to bytes.
+// The charge of a packet of this length: the one way from a length to bytes.
 pub fn cost(length: u16) -> Bytes
     ensures { λ r. ⌜ r .0 ≡ costOf length ⌝ }
 {
-    Bytes(length as u64)
+    Bytes(padded(length as u64 + 4) + 20)
+}
+
+// A frame on the wire has at least 64 bytes.
+fn padded(frame: u64) -> u64
+    ensures { λ r. ⌜ r ≡ max frame 64 ⌝ }
+{
+    if frame < 64 {
+        return 64;
+    }
+    frame
 }

@@ -37,17 +37,17 @@ one : Tree
 one = added noTree (leaf 1 10)
 
 pub tree : Tree
-tree = added one (leaf 2 10)
+tree = added one (leaf 1 10)
 
 grown : Grown tree
 unfolding leaf one tree
 grown =
-    added-grown one (leaf 2 10) (added-grown noTree (leaf 1 10) none-grown (omega arith) (λ f. absurd (not-true-and-false refl f))) (omega arith)
+    added-grown one (leaf 1 10) (added-grown noTree (leaf 1 10) none-grown (omega arith) (λ f. absurd (not-true-and-false refl f))) (omega arith)
     (λ f. absurd (not-true-and-false refl f))
 
 passes : ClassesPass tree
 unfolding leaf one tree badParent badWeight badLongest isLeaf has with
-passes = classes-kept one (leaf 2 10) (classes-kept noTree (leaf 1 10) none-pass refl refl refl) refl refl refl
+passes = classes-kept one (leaf 1 10) (classes-kept noTree (leaf 1 10) none-pass refl refl refl) refl refl refl
 
 closes : firstBroken (closingChecks tree) ≡ Passed
 unfolding leaf one tree firstBroken classByClass tooHeavy childless noClass isInner isClass isLeaf isChild childWeight childrenWeight hasChild sumTo someTo has with

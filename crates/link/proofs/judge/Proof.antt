@@ -20,11 +20,15 @@ returns-3 c =
     let e : (ltb (a .length) 1 || ltb (a .longest) (a .length)) ≡ true = rw (lt-ltb (a .length) 1 (c .if3 .taken)) in
     sym (pass-over _ _ (c .before .before .if1 .left) ∙ pass-over _ _ (c .before .if2 .left) ∙ decides _ _ e)
 
+is-longer-requires : tie.Need-is-longer-requires
+is-longer-requires c κs = search needs
+
 returns-4 : tie.Need-returns-4
 returns-4 c =
-    let h = c .before in
+    let g = c .before in
+    let h = g .before in
     let a = h .before .before .before .args in
-    let e : (ltb (a .length) 1 || ltb (a .longest) (a .length)) ≡ true = rw (le-ltb (a .length) 1 (h .if3 .left), lt-ltb (a .longest) (a .length) (c .if4 .taken)) in
+    let e : (ltb (a .length) 1 || ltb (a .longest) (a .length)) ≡ true = rw (le-ltb (a .length) 1 (h .if3 .left)) (sym (g .is-longer .ensures) ∙ c .if4 .taken) in
     sym (pass-over _ _ (h .before .before .if1 .left) ∙ pass-over _ _ (h .before .if2 .left) ∙ decides _ _ e)
 
 cast-if5 : tie.Need-cast-if5
@@ -32,10 +36,11 @@ cast-if5 c = search needs
 
 returns-5 : tie.Need-returns-5
 returns-5 c =
-    let g = c .before in
+    let k = c .before in
+    let g = k .before in
     let h = g .before in
     let a = h .before .before .before .args in
-    let e : (ltb (a .length) 1 || ltb (a .longest) (a .length)) ≡ false = rw (le-ltb (a .length) 1 (h .if3 .left), le-ltb (a .longest) (a .length) (g .if4 .left)) in
+    let e : (ltb (a .length) 1 || ltb (a .longest) (a .length)) ≡ false = rw (le-ltb (a .length) 1 (h .if3 .left)) (sym (g .is-longer .ensures) ∙ k .if4 .left) in
     sym
     (pass-over _ _ (h .before .before .if1 .left)
     ∙ pass-over _ _ (h .before .if2 .left)
@@ -44,10 +49,11 @@ returns-5 c =
 
 returns-6 : tie.Need-returns-6
 returns-6 c =
-    let g = c .before in
+    let k = c .before in
+    let g = k .before in
     let h = g .before in
     let a = h .before .before .before .args in
-    let e : (ltb (a .length) 1 || ltb (a .longest) (a .length)) ≡ false = rw (le-ltb (a .length) 1 (h .if3 .left), le-ltb (a .longest) (a .length) (g .if4 .left)) in
+    let e : (ltb (a .length) 1 || ltb (a .longest) (a .length)) ≡ false = rw (le-ltb (a .length) 1 (h .if3 .left)) (sym (g .is-longer .ensures) ∙ k .if4 .left) in
     sym
     (pass-over _ _ (h .before .before .if1 .left)
     ∙ pass-over _ _ (h .before .if2 .left)
@@ -56,4 +62,4 @@ returns-6 c =
     ∙ none-broken)
 
 pub judge-spec : {M : Type 1} → statement M
-judge-spec = tie.close (tie.spec returns returns-2 returns-3 returns-4 cast-if5 returns-5 returns-6)
+judge-spec = tie.close (tie.spec returns returns-2 returns-3 is-longer-requires returns-4 cast-if5 returns-5 returns-6)

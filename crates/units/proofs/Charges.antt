@@ -1,0 +1,9 @@
+-- The charges of five lengths, computed: the shortest packet, the last two that are padded, the first that is not, and the longest. Document 02, E2.
+use mathlib.Core.List.{List, [], _∷_, map}
+use mathlib.Core.Path.{_≡_, refl}
+use Prim.Native.Nat.{ℕ}
+use Rattle.units.specs.Cost.{costOf}
+
+pub charges : map costOf (1 ∷ 59 ∷ 60 ∷ 61 ∷ 9_216 ∷ []) ≡ 84 ∷ 84 ∷ 84 ∷ 85 ∷ 9_240 ∷ []
+unfolding costOf
+charges = refl

@@ -1,0 +1,391 @@
+//! A run worked by hand, as docs/by-hand.md shows it: `second tables FROM TABLE < input` prints each call from event FROM on, step by
+//! step with every balance, the first table being number TABLE; `second waits FROM < input` prints a row for each packet accepted from
+//! event FROM on that has gone: its bound and what was sent until then. Each step is taken here once more, one by one, and the state
+//! after a call must be the one that the call itself gives.
+
+use super::*;
+
+/// No line of prose is longer than this.
+const WIDTH: usize = 150;
+
+/// One event of an input.
+enum Event {
+    Arrival { class: usize, length: u64, tag: u64 },
+    Send,
+}
+
+/// What is printed so far, the number of the next table, and the rows of the table under way.
+struct Page {
+    lines: Vec<String>,
+    table: usize,
+    rows: Vec<String>,
+}
+
+/// "leaf 3", "class 1" or "the root".
+fn name(link: &Link, class: usize) -> String {
+    match class {
+        ROOT => "the root".to_string(),
+        _ if link.tree.is_leaf(class) => format!("leaf {class}"),
+        _ => format!("class {class}"),
+    }
+}
+
+/// With a capital letter.
+fn capital(text: &str) -> String {
+    text[..1].to_uppercase() + &text[1..]
+}
+
+/// "2", "2 and 3", "2, 3 and 4".
+fn listed(numbers: &[usize]) -> String {
+    let words: Vec<String> = numbers.iter().map(|n| n.to_string()).collect();
+    match words.split_last() {
+        None => "none".to_string(),
+        Some((last, [])) => last.clone(),
+        Some((last, others)) => format!("{} and {last}", others.join(", ")),
+    }
+}
+
+/// "1 + 2 = 3", and a single number alone.
+fn sum(parts: &[u64]) -> String {
+    let words: Vec<String> = parts.iter().map(|n| n.to_string()).collect();
+    let total = parts.iter().fold(0, |total, &part| add(total, part));
+    if parts.len() == 1 { words[0].clone() } else { format!("{} = {total}", words.join(" + ")) }
+}
+
+/// The weights of the active children of a class.
+fn weights(link: &Link, class: usize) -> Vec<u64> {
+    link.active_children(class).iter().map(|&c| link.tree.classes[c].weight).collect()
+}
+
+/// The class numbers that are active.
+fn active(link: &Link) -> Vec<usize> {
+    link.numbers().filter(|&c| link.active[c]).collect()
+}
+
+/// The packets that wait, leaf by leaf.
+fn waiting(link: &Link) -> String {
+    let mut queues = Vec::new();
+    for leaf in link.numbers().filter(|&c| !link.queues[c].is_empty()) {
+        let packets: Vec<String> = link.queues[leaf].iter().map(|p| format!("{} (tag {})", p.length, p.tag)).collect();
+        queues.push(format!("leaf {leaf}: {}", packets.join(", ")));
+    }
+    format!("**Waiting**: {}.", if queues.is_empty() { "none".to_string() } else { queues.join("; ") })
+}
+
+impl Page {
+    /// A paragraph, broken at WIDTH, and an empty line.
+    fn say(&mut self, text: &str) {
+        let mut line = String::new();
+        for word in text.split_whitespace() {
+            if !line.is_empty() && line.chars().count() + 1 + word.chars().count() > WIDTH {
+                self.lines.push(std::mem::take(&mut line));
+            }
+            if !line.is_empty() {
+                line.push(' ');
+            }
+            line.push_str(word);
+        }
+        self.lines.extend([line, String::new()]);
+    }
+
+    /// Adds the state after a step to the table under way.
+    fn row(&mut self, link: &Link, step: &str) {
+        let mut cells = vec![step.to_string()];
+        for class in link.numbers() {
+            cells.push(link.accounts[class].balance.to_string());
+            if !link.tree.is_leaf(class) {
+                cells.push(link.accounts[class].residual.to_string());
+            }
+        }
+        let numbers: Vec<String> = active(link).iter().map(|n| n.to_string()).collect();
+        let numbers = if numbers.is_empty() { "none".to_string() } else { numbers.join(", ") };
+        cells.extend([link.total().to_string(), numbers, link.place.to_string()]);
+        self.rows.push(format!("| {} |", cells.join(" | ")));
+    }
+
+    /// Prints the table under way.
+    fn end_table(&mut self, link: &Link) {
+        let mut heads = vec![format!("Table {}", self.table)];
+        for class in link.numbers() {
+            heads.push(format!("B {class}"));
+            if !link.tree.is_leaf(class) {
+                heads.push(format!("R {class}"));
+            }
+        }
+        heads.extend(["Sum", "Active", "Place"].map(str::to_string));
+        self.lines.push(format!("| {} |", heads.join(" | ")));
+        self.lines.push("|---".repeat(heads.len()) + "|");
+        self.lines.append(&mut self.rows);
+        self.lines.push(String::new());
+        self.table += 1;
+    }
+
+    /// Arrivals in a row: they change no balance, so that only the page's first table shows them.
+    fn arrivals(&mut self, link: &Link, lines: &[String], held: &[usize]) {
+        let word = if lines.len() == 1 { "Arrival" } else { "Arrivals" };
+        self.lines.extend([format!("### {word}: {}", lines.join(", ")), String::new()]);
+        let mut words = vec!["No balance changes.".to_string()];
+        for &class in held {
+            words.push(format!("{} is inactive and stays so until the next round opens.", capital(&name(link, class))));
+        }
+        self.say(&format!("{} {}", words.join(" "), waiting(link)));
+        if self.table == 1 {
+            self.row(link, if lines.len() == 1 { "after it" } else { "after them" });
+            self.end_table(link);
+        }
+    }
+
+    /// A send, step by step; `link` is the state before it and `after` the one that the call gave.
+    fn send(&mut self, mut link: Link, after: &Link, heading: &str) {
+        self.lines.extend([heading.to_string(), String::new()]);
+        if link.waiting() == 0 {
+            self.say("No packet waits: refusal 15. Nothing changes.");
+            return;
+        }
+        loop {
+            let place = link.place;
+            let (searched, found) = self.search(&mut link);
+            let Some(leaf) = found else {
+                if link.place != place {
+                    self.row(&link, "the round has closed");
+                }
+                self.open(&mut link, &searched);
+                continue;
+            };
+            let sent = self.sent(&mut link, leaf);
+            let turned = self.turn_inactive(&mut link, leaf);
+            self.say(&format!("{searched} {sent} {turned} {}", waiting(&link)));
+            break;
+        }
+        assert_eq!(&link, after, "the steps of a send give another state than the send");
+        self.end_table(&link);
+    }
+
+    /// The search, leaf by leaf.
+    fn search(&mut self, link: &mut Link) -> (String, Option<usize>) {
+        let mut words = vec![format!("**Search.** From place {}:", link.place)];
+        let real = search(&mut link.clone());
+        loop {
+            let Some(leaf) = (link.place..link.tree.classes.len()).find(|&c| link.tree.is_leaf(c) && link.active[c]) else {
+                let none = if active(link).is_empty() { "nothing is active" } else { "no active leaf is left" };
+                let none = if words.len() == 1 { none.to_string() } else { capital(none) };
+                words.push(format!("{none}, so the round has closed."));
+                assert_eq!(real, None);
+                return (words.join(" "), None);
+            };
+            let (balance, cost) = (link.accounts[leaf].balance, link.queues[leaf][0].charge());
+            let found = if words.len() == 1 { name(link, leaf) } else { capital(&name(link, leaf)) };
+            if balance >= cost {
+                words.push(format!("{found}, B {balance} covers {cost}."));
+                assert_eq!(real, Some(leaf));
+                return (words.join(" "), Some(leaf));
+            }
+            link.place = leaf + 1;
+            words.push(format!("{found}, B {balance} does not cover {cost}; the place becomes {}.", link.place));
+        }
+    }
+
+    /// The opening: its kind, the shares from the top down, and the state after it.
+    fn open(&mut self, link: &mut Link, searched: &str) {
+        let before = link.clone();
+        let opening = open_round(link);
+        let holding: Vec<usize> = link.numbers().filter(|&c| !link.queues[c].is_empty()).collect();
+        let leaves = if holding.len() == 1 { "Leaf" } else { "Leaves" };
+        let hold = if holding.len() == 1 { "holds a packet" } else { "hold packets" };
+        let mut words = vec![searched.to_string(), format!("**Kind.** {leaves} {} {hold}, so classes", listed(&holding))];
+        words.push(format!("{} are active.", listed(&active(link))));
+        for class in link.numbers().filter(|&c| link.tree.is_inner(c) && link.active[c]) {
+            let Account { balance, residual } = before.accounts[class];
+            let relation = if balance + residual >= link.active_weight_sum(class) { "at or above" } else { "below" };
+            let weights = sum(&weights(link, class));
+            words.push(format!("Class {class}: B + R = {} is {relation} W = {weights}.", sum(&[balance, residual])));
+        }
+        words.push(if opening.surplus { "Surplus round: the root's account stays." } else { "Main round." }.to_string());
+        self.say(&words.join(" "));
+        self.lines.extend(["| Class | X | W | F | Hands down | Keeps |".to_string(), "|---|---|---|---|---|---|".to_string()]);
+        for class in active(link).into_iter().filter(|&c| !link.tree.is_leaf(c) && !(opening.surplus && c == ROOT)) {
+            self.shares(&before, link, &opening, class);
+        }
+        self.lines.push(String::new());
+        self.row(link, if opening.surplus { "a surplus round is open" } else { "a main round is open" });
+    }
+
+    /// One class's line of an opening.
+    fn shares(&mut self, before: &Link, link: &Link, opening: &Opening, class: usize) {
+        let Account { balance, residual } = before.accounts[class];
+        let mut parts = vec![balance, residual];
+        if class != ROOT {
+            let Class { parent, weight, .. } = link.tree.classes[class];
+            parts.push(mul(weight, opening.quotas[parent]));
+        }
+        let (has, weight, quota) = (parts.iter().sum::<u64>(), link.active_weight_sum(class), opening.quotas[class]);
+        let given = mul(quota, weight);
+        let mut gets = Vec::new();
+        for child in link.active_children(class) {
+            let (weight, old) = (link.tree.classes[child].weight, before.accounts[child].balance);
+            let share = mul(weight, quota);
+            let grown = if link.tree.is_leaf(child) && old > 0 { format!(", now {}", sum(&[old, share])) } else { String::new() };
+            gets.push(format!("{} gets {weight} × {quota} = {share}{grown}", name(link, child)));
+        }
+        assert_eq!(sub(has, given), link.accounts[class].balance, "what class {class} keeps");
+        let sign = if given == has { '=' } else { '→' };
+        let cells = [
+            if class == ROOT { "root".to_string() } else { class.to_string() },
+            sum(&parts),
+            sum(&weights(link, class)),
+            format!("{has} ÷ {weight} {sign} {quota}"),
+            format!("{quota} × {weight} = {given}: {}", gets.join("; ")),
+            format!("{has} − {given} = {}", has - given),
+        ];
+        self.lines.push(format!("| {} |", cells.join(" | ")));
+    }
+
+    /// The packet goes; gives the words for it.
+    fn sent(&mut self, link: &mut Link, leaf: usize) -> String {
+        let packet = link.queues[leaf].remove(0);
+        let cost = packet.charge();
+        let (of_leaf, of_root) = (link.accounts[leaf].balance, link.accounts[ROOT].balance);
+        link.accounts[leaf].balance = sub(of_leaf, cost);
+        link.accounts[ROOT].balance = add(of_root, cost);
+        link.place = leaf;
+        self.row(link, &format!("leaf {leaf} sends {cost}"));
+        let mut words = format!("**Send.** Leaf {leaf}: {of_leaf} − {cost} = {}. Root: {}.", of_leaf - cost, sum(&[of_root, cost]));
+        if !link.queues[leaf].is_empty() {
+            words += &format!(" Leaf {leaf} holds another packet and stays active.");
+        }
+        words
+    }
+
+    /// A leaf without a packet turns inactive, and what is above it with it; gives the words for it.
+    fn turn_inactive(&mut self, link: &mut Link, leaf: usize) -> String {
+        if !link.queues[leaf].is_empty() {
+            return String::new();
+        }
+        let mut words = vec!["**Turn inactive.**".to_string()];
+        let mut class = leaf;
+        loop {
+            let parent = link.tree.classes[class].parent;
+            let Account { balance, residual } = link.accounts[class];
+            link.active[class] = false;
+            if class == ROOT {
+                words.push("The root has no active child left: it turns inactive and keeps its account.".to_string());
+                self.row(link, "the root turns inactive");
+                break;
+            }
+            let given = add(balance, residual);
+            link.accounts[class] = Account { balance: 0, residual: 0 };
+            link.accounts[parent].residual = add(link.accounts[parent].residual, given);
+            let to = if parent == ROOT { "the root's R".to_string() } else { format!("the R of class {parent}") };
+            words.push(match class == leaf {
+                true => format!("Leaf {leaf} is empty: its {given} go to {to}."),
+                false => format!("Class {class} has no active child left: its B + R = {} go to {to}.", sum(&[balance, residual])),
+            });
+            self.row(link, &format!("{} turns inactive", name(link, class)));
+            if !link.active_children(parent).is_empty() {
+                break;
+            }
+            class = parent;
+        }
+        words.join(" ")
+    }
+}
+
+/// The tree and the events of an input without a fault.
+fn parts_of(input: &[u8]) -> (Tree, Vec<Event>) {
+    let (tree, used) = read_plan(input).expect("a plan that is taken");
+    let (mut events, mut first) = (Vec::new(), used);
+    while first < input.len() {
+        if input[first] == 17 {
+            events.push(Event::Send);
+            first += 1;
+            continue;
+        }
+        assert_eq!(input[first], 16, "an event at {first}");
+        let body = body_of(input, first, 7).expect("a whole arrival");
+        let (class, length, tag) = (big_endian(&body[0..1]) as usize, big_endian(&body[1..3]), big_endian(&body[3..7]));
+        events.push(Event::Arrival { class, length, tag });
+        first += 8;
+    }
+    (tree, events)
+}
+
+/// The page's part for an input, from event `from` (counted from 1) on; its first table has the number `table`.
+pub fn tables(input: &[u8], from: usize, table: usize) -> Vec<String> {
+    let (tree, events) = parts_of(input);
+    let (mut link, _) = fresh_link(&tree);
+    let mut page = Page { lines: Vec::new(), table, rows: Vec::new() };
+    let (mut lines, mut held, mut sends) = (Vec::new(), Vec::new(), 0);
+    for (position, event) in events.iter().enumerate() {
+        let before = link.clone();
+        match *event {
+            Event::Arrival { class, length, tag } => {
+                let taken = arrival(&mut link, class, length, tag);
+                lines.push(match taken {
+                    Ok(()) => format!("`in {class} {length} {tag}`"),
+                    Err(refusal) => format!("`no {class} {length} {tag} {}`", refusal.number),
+                });
+                if taken.is_ok() && link.active[ROOT] && !link.active[class] {
+                    held.push(class);
+                }
+                let last = !matches!(events.get(position + 1), Some(Event::Arrival { .. }));
+                if last && position + 1 >= from {
+                    page.arrivals(&link, &lines, &held);
+                }
+                if last {
+                    lines.clear();
+                    held.clear();
+                }
+            }
+            Event::Send => {
+                sends += 1;
+                let line = match send(&mut link) {
+                    Ok(sent) => format!("out {} {} {} {}", sent.class, sent.length, sent.tag, sent.rounds),
+                    Err(_) => "none".to_string(),
+                };
+                if position + 1 >= from {
+                    page.send(before, &link, &format!("### Send {sends}: `{line}`"));
+                }
+            }
+        }
+    }
+    // no empty line at the end
+    page.lines.pop();
+    page.lines
+}
+
+/// A packet on its way: its row so far, and the charges of what was sent since it was accepted.
+struct Waiting {
+    tag: u64,
+    row: String,
+    since: Vec<u64>,
+}
+
+/// The rows of the table of waits, for packets accepted from event `from` on, in the order in which they go.
+pub fn waits(input: &[u8], from: usize) -> Vec<String> {
+    let (tree, events) = parts_of(input);
+    let (mut link, _) = fresh_link(&tree);
+    let (mut waiting, mut rows): (Vec<Waiting>, Vec<String>) = (Vec::new(), Vec::new());
+    for (position, event) in events.iter().enumerate() {
+        match *event {
+            Event::Arrival { class, length, tag } => {
+                if arrival(&mut link, class, length, tag).is_ok() && position + 1 >= from {
+                    let charges: Vec<u64> = link.queues[class].iter().map(Packet::charge).collect();
+                    let (all, weight) = (charges.iter().sum::<u64>(), link.tree.classes[class].weight);
+                    let (mains, size) = (all.div_ceil(weight), link.size);
+                    let bound = mul(add(mains, 1), size);
+                    let row = format!("| {tag} | {class} | {} | {weight} | ({mains} + 1) × {size} = {bound} |", sum(&charges));
+                    waiting.push(Waiting { tag, row, since: Vec::new() });
+                }
+            }
+            Event::Send => {
+                let Ok(sent) = send(&mut link) else { continue };
+                waiting.iter_mut().for_each(|w| w.since.push(charge(sent.length)));
+                if let Some(gone) = waiting.iter().position(|w| w.tag == sent.tag) {
+                    let gone = waiting.remove(gone);
+                    rows.push(format!("{} {} |", gone.row, sum(&gone.since)));
+                }
+            }
+        }
+    }
+    rows
+}
