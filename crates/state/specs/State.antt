@@ -2,6 +2,7 @@
 use mathlib.Core.List.{List, []}
 use Prim.Native.Nat.{ℕ}
 use lib.ListN.{getD, set, replicate}
+use Rattle.units.specs.declared.Bytes.{Bytes}
 use Rattle.tree.specs.declared.Tree.{Tree}
 use Rattle.tree.specs.Class.{noTree}
 use Rattle.tree.specs.Size.{roundSize}
@@ -48,6 +49,20 @@ withQueues s queues = record {
 
 abbrev pub withQueue : State → ℕ → List Packet → State
 withQueue s i q = withQueues s (set (s .queues) i q)
+
+-- the link that its parts make up
+abbrev pub linkOf : Tree → Bytes → ℕ → ℕ → List Account → List ℕ → List ℕ → List ℕ → List ℕ → Link
+linkOf tree size active place accounts start held lengths tags = record {
+  tree = tree;
+  size = size;
+  active = active;
+  place = place;
+  accounts = accounts;
+  start = start;
+  held = held;
+  lengths = lengths;
+  tags = tags;
+}
 
 -- a fresh link: root balance Q, every other B and R zero, queues empty, nothing active, place 64
 abbrev pub freshLink : Tree → Link

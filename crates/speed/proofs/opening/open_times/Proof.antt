@@ -1,13 +1,12 @@
--- `opening_speed::open_times` meets its contract.
+-- `speed::opening::open_times` meets its contract.
 use mathlib.Core.Path.{_≡_, sym, ap, _∙_}
 use Prim.Native.Nat.{ℕ, _-_, _≤_}
 use native.Mathlib.Omega.{arith}
 use lib.ListN.{length-map}
-use Rattle.opening_speed.specs.Openings.{openedTimes}
-use Rattle.opening_speed.proofs.Steps.{Opened, opened-none, opened-more}
-use borrow.Author.Needs.{needs}
-use Rattle.opening_speed.proofs.open_times.Statement.{statement}
-use Rattle.opening_speed.proofs.open_times.Tie as tie
+use Rattle.speed.specs.Openings.{openedTimes}
+use Rattle.speed.proofs.Steps.{Opened, opened-none, opened-more}
+use Rattle.speed.proofs.opening.open_times.Statement.{statement}
+use Rattle.speed.proofs.opening.open_times.Tie as tie
 
 abbrev Inv-loop : tie.InvT-loop
 Inv-loop times link₀ n₀ link n = (n ≤ times) × Opened link₀ n link

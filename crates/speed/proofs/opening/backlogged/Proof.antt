@@ -1,13 +1,13 @@
--- `opening_speed::backlogged` meets its contract.
+-- `speed::opening::backlogged` meets its contract.
 use mathlib.Core.Path.{_≡_, ap, _∙_}
 use Prim.Native.Nat.{ℕ, _-_, _≤_}
 use native.Mathlib.Omega.{arith}
 use Rattle.sound.specs.Sound.{SoundLink}
-use Rattle.opening_speed.specs.Openings.{offeredTo}
-use Rattle.opening_speed.proofs.Steps.{offered-none, offered-more}
+use Rattle.speed.specs.Openings.{offeredTo}
+use Rattle.speed.proofs.Steps.{offered-none, offered-more}
 use borrow.Author.Needs.{needs}
-use Rattle.opening_speed.proofs.backlogged.Statement.{statement}
-use Rattle.opening_speed.proofs.backlogged.Tie as tie
+use Rattle.speed.proofs.opening.backlogged.Statement.{statement}
+use Rattle.speed.proofs.opening.backlogged.Tie as tie
 
 abbrev Inv-loop : tie.InvT-loop
 Inv-loop link₀ i₀ link i = (i ≤ 63) × SoundLink link × (link ≡ offeredTo i link₀)

@@ -1,7 +1,7 @@
 -- One packet more offered, and one round more opened: the steps of the timed loop.
 use mathlib.Core.Bool.{true}
 use mathlib.Core.Path.{_≡_, refl, sym, ap, subst, _∙_}
-use Prim.Native.Nat.{ℕ, suc, _+_}
+use Prim.Native.Nat.{ℕ, _+_}
 use native.Mathlib.Numerals.{add-one}
 use lib.ListN.{length}
 use Rattle.state.specs.declared.Link.{Link}
@@ -13,7 +13,7 @@ use Rattle.sending.proofs.Meanings.{meaning-wide, opened-link-sound}
 use Rattle.link.specs.declared.Answered.{Answered}
 use Rattle.link.specs.Arrival.{Arrives, arrivalOf}
 use Rattle.link.proofs.Arrivals.{arrives-as}
-use Rattle.opening_speed.specs.Openings.{onePacket, offeredTo, openedTimes}
+use Rattle.speed.specs.Openings.{onePacket, offeredTo, openedTimes}
 
 pub offered-none : (l : Link) → l ≡ offeredTo 0 l
 unfolding offeredTo

@@ -1,2 +1,0 @@
--- What the timed loop does.
-pub mod Openings

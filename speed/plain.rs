@@ -1,0 +1,337 @@
+// The yardstick: the same scheduler written plainly in Rust for speed, from documents 01 and 02 (E2's charge), with no check of soundness
+// on a call. One struct of arrays. Sets of classes are 64-bit numbers: the leaves that a round has still to visit are kept as a set and
+// found by trailing zeros, a class turns off without a walk because each parent keeps the set of its children, and the leaves that hold a
+// packet are kept as a set too. The active set and its weight sums are worked out at an opening only where that last set has changed
+// since the opening before. Permits go down in two passes, inner classes first. Indexes are cut to the arrays' lengths, so that none is
+// checked on the way. Other shapes were tried and were slower: the place in place of the set to visit, lengths and tags apart, the first
+// packet's cost kept, one pass over all classes. It shares no line with the library or with the second program.
+
+const CLASSES: usize = 64;
+const PLACES: usize = 32;
+
+// A waiting packet.
+#[derive(Clone, Copy)]
+struct Packet {
+    length: u16,
+    tag: u32,
+}
+
+pub struct Plain {
+    // the plan
+    count: usize,
+    leaves: u64,
+    parent: [u8; CLASSES],
+    weight: [u32; CLASSES],
+    longest: [u16; CLASSES],
+    children: [u64; CLASSES],
+    // the running link
+    balance: [u64; CLASSES],
+    residual: [u64; CLASSES],
+    active: u64,
+    // the active leaves that this round has still to visit: those from the place on
+    left: u64,
+    // the leaves that hold a packet; those that held one at the last opening, with the active set and the weight sums that follow from
+    // them
+    waiting: u64,
+    opened_for: u64,
+    opened_active: u64,
+    sums: [u32; CLASSES],
+    // each class's packets, first in first out round its 32 places
+    start: [u8; CLASSES],
+    held: [u8; CLASSES],
+    packets: [Packet; CLASSES * PLACES],
+}
+
+// What a send gives.
+#[derive(Clone, Copy)]
+pub struct Sent {
+    pub class: usize,
+    pub length: u16,
+    pub tag: u32,
+    pub rounds: u32,
+}
+
+// An event of a recording.
+enum Event {
+    Arrival { class: usize, length: u16, tag: u32 },
+    Send,
+}
+
+// What the wire carries for a packet (E2).
+#[inline(always)]
+fn cost(length: u16) -> u64 {
+    (length as u64 + 4).max(64) + 20
+}
+
+// A send as one number; 1 where nothing waits.
+#[inline(always)]
+pub fn number(sent: Option<Sent>) -> u64 {
+    match sent {
+        Some(s) => (s.class as u64) << 50 | (s.length as u64) << 34 | (s.rounds as u64) << 32 | s.tag as u64,
+        None => 1,
+    }
+}
+
+// The event at a place and the place after it.
+#[inline(always)]
+fn event_at(input: &[u8], at: usize) -> Option<(Event, usize)> {
+    let rest = input.get(at..)?;
+    match rest.first()? {
+        16 => {
+            let body: &[u8; 8] = rest.first_chunk()?;
+            let length = u16::from_be_bytes([body[2], body[3]]);
+            let tag = u32::from_be_bytes([body[4], body[5], body[6], body[7]]);
+            Some((Event::Arrival { class: body[1] as usize, length, tag }, at + 8))
+        }
+        17 => Some((Event::Send, at + 1)),
+        _ => None,
+    }
+}
+
+impl Plain {
+    // A fresh link of a plan's bytes, and how many of them it used. The plan rules are taken for granted: recordings are made to obey
+    // them.
+    pub fn read(input: &[u8]) -> Option<(Plain, usize)> {
+        let mut link = Plain {
+            count: 0,
+            leaves: 0,
+            parent: [0; CLASSES],
+            weight: [0; CLASSES],
+            longest: [0; CLASSES],
+            children: [0; CLASSES],
+            balance: [0; CLASSES],
+            residual: [0; CLASSES],
+            active: 0,
+            left: 0,
+            waiting: 0,
+            opened_for: 0,
+            opened_active: 0,
+            sums: [0; CLASSES],
+            start: [0; CLASSES],
+            held: [0; CLASSES],
+            packets: [Packet { length: 0, tag: 0 }; CLASSES * PLACES],
+        };
+        let mut at = 0;
+        loop {
+            let rest = &input[at..];
+            let kind = *rest.first()?;
+            if kind == 0 {
+                return if link.count == 0 { None } else { Some((link, at + 1)) };
+            }
+            let i = link.count + 1;
+            if kind > 2 || i == CLASSES {
+                return None;
+            }
+            let body: &[u8; 6] = rest.first_chunk()?;
+            let parent = body[1] as usize;
+            if parent >= i {
+                return None;
+            }
+            link.count = i;
+            link.parent[i] = body[1];
+            link.weight[i] = u32::from_be_bytes([body[2], body[3], body[4], body[5]]);
+            link.children[parent] |= 1 << i;
+            link.balance[0] += link.weight[i] as u64;
+            at += 6;
+            if kind == 2 {
+                let longest: &[u8; 2] = rest[6..].first_chunk()?;
+                link.leaves |= 1 << i;
+                link.longest[i] = u16::from_be_bytes(*longest);
+                link.balance[0] += cost(link.longest[i]);
+                at += 2;
+            }
+        }
+    }
+
+    // An arrival: whether it is taken.
+    #[inline(always)]
+    pub fn arrive(&mut self, class: usize, length: u16, tag: u32) -> bool {
+        if class >= CLASSES || self.leaves >> class & 1 == 0 || length == 0 || length > self.longest[class] {
+            return false;
+        }
+        let held = self.held[class] as usize;
+        if held == PLACES {
+            return false;
+        }
+        let at = class * PLACES + (self.start[class] as usize + held) % PLACES;
+        self.packets[at] = Packet { length, tag };
+        self.held[class] += 1;
+        self.waiting |= 1 << class;
+        true
+    }
+
+    // Where the first packet of a class lies.
+    #[inline(always)]
+    fn first(&self, class: usize) -> usize {
+        class * PLACES + self.start[class] as usize % PLACES
+    }
+
+    // The lowest-numbered active leaf from the place on whose balance covers its first packet.
+    #[inline(always)]
+    fn next_leaf(&mut self) -> Option<usize> {
+        let mut left = self.left;
+        while left != 0 {
+            let i = left.trailing_zeros() as usize % CLASSES;
+            if cost(self.packets[self.first(i)].length) <= self.balance[i] {
+                self.left = left;
+                return Some(i);
+            }
+            left &= left - 1;
+        }
+        None
+    }
+
+    // The classes that are active when a round opens, and the weight sums of their active children.
+    #[cold]
+    #[inline(never)]
+    fn gather(&mut self) {
+        let mut active = self.waiting;
+        self.sums = [0; CLASSES];
+        for i in (1..=self.count % CLASSES).rev() {
+            if active >> i & 1 == 1 {
+                let p = self.parent[i] as usize % CLASSES;
+                active |= 1 << p;
+                self.sums[p] += self.weight[i];
+            }
+        }
+        self.opened_for = self.waiting;
+        self.opened_active = active;
+    }
+
+    // A round opens: surplus or main, then permits go down, parents before children.
+    #[inline(never)]
+    pub fn open(&mut self) {
+        if self.waiting != self.opened_for {
+            self.gather();
+        }
+        let active = self.opened_active;
+        self.active = active;
+        self.left = active & self.leaves;
+        let mut inner = active & !self.leaves & !1;
+        let mut surplus = false;
+        while inner != 0 {
+            let i = inner.trailing_zeros() as usize % CLASSES;
+            surplus |= self.balance[i] + self.residual[i] >= self.sums[i] as u64;
+            inner &= inner - 1;
+        }
+        let mut quotas = [0u64; CLASSES];
+        if !surplus {
+            let has = self.balance[0] + self.residual[0];
+            let sum = self.sums[0] as u64;
+            quotas[0] = has / sum;
+            self.balance[0] = has - quotas[0] * sum;
+            self.residual[0] = 0;
+        }
+        let mut inner = active & !self.leaves & !1;
+        while inner != 0 {
+            let i = inner.trailing_zeros() as usize % CLASSES;
+            let due = self.weight[i] as u64 * quotas[self.parent[i] as usize % CLASSES];
+            let has = self.balance[i] + self.residual[i] + due;
+            let sum = self.sums[i] as u64;
+            quotas[i] = has / sum;
+            self.balance[i] = has - quotas[i] * sum;
+            self.residual[i] = 0;
+            inner &= inner - 1;
+        }
+        let mut leaves = active & self.leaves;
+        while leaves != 0 {
+            let i = leaves.trailing_zeros() as usize % CLASSES;
+            self.balance[i] += self.weight[i] as u64 * quotas[self.parent[i] as usize % CLASSES];
+            leaves &= leaves - 1;
+        }
+    }
+
+    // A leaf without a packet turns inactive and gives its balance up; so does each class above with no active child left.
+    #[inline(always)]
+    fn turn_off(&mut self, leaf: usize) {
+        let mut i = leaf;
+        loop {
+            let p = self.parent[i] as usize % CLASSES;
+            self.residual[p] += self.balance[i] + self.residual[i];
+            self.balance[i] = 0;
+            self.residual[i] = 0;
+            self.active &= !(1 << i);
+            if self.active & self.children[p] != 0 {
+                return;
+            }
+            if p == 0 {
+                self.active &= !1;
+                return;
+            }
+            i = p;
+        }
+    }
+
+    // A send.
+    #[inline(always)]
+    pub fn send(&mut self) -> Option<Sent> {
+        let mut rounds = 0;
+        let i = match self.next_leaf() {
+            Some(i) => i,
+            None => {
+                if self.waiting == 0 {
+                    return None;
+                }
+                loop {
+                    self.open();
+                    rounds += 1;
+                    if let Some(i) = self.next_leaf() {
+                        break i;
+                    }
+                }
+            }
+        };
+        let Packet { length, tag } = self.packets[self.first(i)];
+        let cost = cost(length);
+        self.balance[i] -= cost;
+        self.balance[0] += cost;
+        self.start[i] = (self.start[i] + 1) % PLACES as u8;
+        self.held[i] -= 1;
+        if self.held[i] == 0 {
+            self.waiting &= !(1 << i);
+            self.left &= !(1 << i);
+            self.turn_off(i);
+        }
+        Some(Sent { class: i, length, tag, rounds })
+    }
+
+    // What is left with the root.
+    pub fn root(&self) -> u64 {
+        self.balance[0]
+    }
+}
+
+// The sends of a recording's first events, each as one number; how many.
+#[inline(never)]
+pub fn sends(input: &[u8], events: usize, out: &mut [u64]) -> usize {
+    let Some((mut link, mut at)) = Plain::read(input) else { return 0 };
+    let mut many = 0;
+    for _ in 0..events {
+        let Some((event, next)) = event_at(input, at) else { break };
+        at = next;
+        match event {
+            Event::Arrival { class, length, tag } => {
+                link.arrive(class, length, tag);
+            }
+            Event::Send => {
+                let Some(place) = out.get_mut(many) else { break };
+                *place = number(link.send());
+                many += 1;
+            }
+        }
+    }
+    many
+}
+
+// Rounds opened one over the other on a plan's link with a packet in every leaf; what is left with the root.
+#[inline(never)]
+pub fn openings(input: &[u8], times: usize) -> u64 {
+    let Some((mut link, _)) = Plain::read(input) else { return 0 };
+    for class in 1..CLASSES {
+        link.arrive(class, 1, 0);
+    }
+    for _ in 0..times {
+        link.open();
+    }
+    link.root()
+}
