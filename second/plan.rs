@@ -282,6 +282,25 @@ pub fn read_plan(input: &[u8]) -> Result<(Tree, usize), Refusal> {
     }
 }
 
+/// One event record; an arrival with its body.
+pub enum Event<'a> {
+    Arrival(&'a [u8]),
+    Send,
+}
+
+/// The event at a place of the input; none where it ends there: "the end of input between events is its normal end".
+pub fn event_at(input: &[u8], first: usize) -> Result<Option<Event<'_>>, Refusal> {
+    if first >= input.len() {
+        return Ok(None);
+    }
+    match input[first] {
+        16 => Ok(Some(Event::Arrival(body_of(input, first, 7)?))),
+        17 => Ok(Some(Event::Send)),
+        // "0, 1 and 2 unknown among events"
+        _ => refuse(2, first),
+    }
+}
+
 // ---------------------------------------------------------------------------------------------
 // Standard input.
 

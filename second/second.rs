@@ -584,22 +584,18 @@ fn run(input: &[u8]) -> Run {
 /// "Events follow the plan until the input ends"; "Places count from the input's first byte."
 fn run_events(mut run: Run, link: &mut Link, input: &[u8], used: usize) -> Run {
     let mut first = used;
-    // "the end of input between events is its normal end"
-    while first < input.len() {
-        match input[first] {
-            16 => match body_of(input, first, 7) {
-                Ok(body) => {
-                    run.arrive(link, body);
-                    first += 8;
-                }
-                Err(refusal) => return run.stop(refusal),
-            },
-            17 => {
+    loop {
+        match event_at(input, first) {
+            Ok(Some(Event::Arrival(body))) => {
+                run.arrive(link, body);
+                first += 8;
+            }
+            Ok(Some(Event::Send)) => {
                 run.send(link);
                 first += 1;
             }
-            // "0, 1 and 2 unknown among events"
-            _ => return run.stop(Refusal { number: 2, place: first }),
+            Ok(None) => break,
+            Err(refusal) => return run.stop(refusal),
         }
     }
     run.still_waiting();

@@ -8,7 +8,7 @@ use Rattle.tree.specs.Class.{isClass, isLeaf, isInner, isChild, childWeight, ch
 use Rattle.tree.specs.Sum.{sumTo, someTo}
 use Rattle.tree.specs.Rules.{tooMany, badParent, badWeight, badLongest, tooHeavy, childless, noClass}
 use Rattle.tree.specs.Size.{allWeights, longestCost, allLongest, roundSize}
-use Rattle.plan.specs.Kind
+use Rattle.plan.specs.Kind.{recordKind}
 use Rattle.plan.specs.Record.{kindAt, missing, unknown, cut, bodyOf, classAt}
 use Rattle.plan.specs.Reader.{recordChecks, after, treeOf, passes, inRow, passedOver, decidingChecks, planOf}
 use Rattle.state.specs.Queue.{table, queueOf}
@@ -28,7 +28,7 @@ unfolding markedCases found expected readOf accountsOf openingOf openingAt class
     firstBroken classByClass has with without costOf
     isClass isLeaf isInner isChild childWeight childrenWeight hasChild sumTo someTo allWeights longestCost allLongest roundSize
     tooMany badParent badWeight badLongest tooHeavy childless noClass
-    Rattle.plan.specs.Kind.kindOf kindAt missing unknown cut bodyOf classAt recordChecks after treeOf passes inRow passedOver decidingChecks planOf
+    recordKind kindAt missing unknown cut bodyOf classAt recordChecks after treeOf passes inRow passedOver decidingChecks planOf
     table queueOf climbs atOrBelow waits someWaits someBelow setOf upward roundActive activeChild activeWeight weightSum
     surplusAt hasSurplus kindOf quotaIn quota due handsDown openedLeaf openedInner openedAccount openedAccounts nextKind opened
     ready firstFrom nextLeaf givenUp turnsOff paid booksAfter sentState turnOf sends traceOf

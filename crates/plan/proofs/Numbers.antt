@@ -22,7 +22,7 @@ use Rattle.tree.proofs.Classes.{class-in, class-range, closing-passes, closing-
 use Rattle.plan.specs.declared.PlanRead.{PlanRead}
 use Rattle.plan.specs.declared.EventRead.{EventRead}
 use Rattle.plan.specs.Event.{eventAt}
-use Rattle.plan.specs.declared.Part.the-variants.{Plan}
+use Rattle.plan.specs.declared.kind.Section.the-variants.{Plan}
 use Rattle.plan.specs.Kind.{givesClass}
 use Rattle.plan.specs.Record.{kindAt, missing, unknown, cut, classAt}
 use Rattle.plan.specs.Reader.{newClassChecks, recordChecks, after, treeOf, checksOf, passes, inRow, passedOver, decidingChecks, outcome, planOf}

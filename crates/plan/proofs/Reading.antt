@@ -1,6 +1,6 @@
 -- Laws of the reader's definition: one record, the records passed over, and the record that decides. Demand 1.
 use mathlib.Core.Bool.{Bool, true, false, cond, _&&_}
-use mathlib.Core.List.{List, []}
+use mathlib.Core.List.{List, [], _++_}
 use mathlib.Core.Path.{_≡_, refl, sym, ap, _∙_}
 use Prim.Native.Nat.{ℕ, zero, suc, _+_, _-_, _≤_, _<_}
 use native.Mathlib.Decide.{decLt}
@@ -21,12 +21,12 @@ use Rattle.tree.specs.Rules.{tooMany, classChecks, closingChecks, ClassesPass, 
 use Rattle.tree.proofs.Classes.{both-true, class-passed}
 use Rattle.tree.proofs.Rules.{weight-range}
 use Rattle.tree.proofs.Growth.{Grown, Proper, none-grown, added-grown, classes-kept, none-pass}
-use Rattle.plan.specs.declared.Next.{Next}
-use Rattle.plan.specs.declared.Next.the-variants.{Stop, Ended, Onward}
-use Rattle.plan.specs.declared.Part.the-variants.{Plan}
-use Rattle.plan.specs.Kind.{bodyLength, givesClass, givesLeaf}
+use Rattle.plan.specs.declared.reader.Following.{Following}
+use Rattle.plan.specs.declared.reader.Following.the-variants.{Stop, Ended, Onward}
+use Rattle.plan.specs.declared.kind.Section.the-variants.{Plan}
+use Rattle.plan.specs.Kind.{givesClass, givesLeaf}
 use Rattle.plan.specs.Record.{kindAt, missing, unknown, cut, bodyOf, innerClass, leafClass, classAt}
-use Rattle.plan.specs.Reader.{newClassChecks, recordChecks, after, treeOf, checksOf, passes, inRow, passedOver, decidingChecks, outcome, planOf}
+use Rattle.plan.specs.Reader.{newClassChecks, recordChecks, after, treeOf, checksOf, passes, inRow, passedOver, decidingChecks, outcome, planOf, recordsOf, closed}
 use Rattle.plan.specs.Steps.{ClassSays, WholeSays, StepSays}
 
 -- ---- one record
@@ -79,14 +79,14 @@ module _ (s : List ℕ) (place : ℕ) (t : Tree) where
       ∙ none-broken
 
 -- what a class that was put to the tree says of its record
-pub class-to-whole : (rest : List ℕ) (place to : ℕ) (t t′ : Tree) (next : Next) → givesClass (kindAt rest) ≡ true
-    → to ≡ place + 1 + bodyLength (kindAt rest) → to ≤ place + length rest → ClassSays t (classAt rest) place to t′ next → WholeSays rest place t t′ next
+pub class-to-whole : (rest : List ℕ) (place to : ℕ) (t t′ : Tree) (next : Following) → givesClass (kindAt rest) ≡ true
+    → to ≡ place + 1 + kindAt rest .body → to ≤ place + length rest → ClassSays t (classAt rest) place to t′ next → WholeSays rest place t t′ next
 class-to-whole rest place to t t′ (Stop n p) g e u h = (g, h)
 class-to-whole rest place to t t′ Ended g e u h = absurd h
 class-to-whole rest place to t t′ (Onward next) g e u h = (g, h .0, h .1 ∙ e, omega (arith, h .1), h .2)
 
 -- and what a whole record says of the input
-pub whole-to-step : (s : List ℕ) (place : ℕ) (t t′ : Tree) (next : Next) → place ≤ length s
+pub whole-to-step : (s : List ℕ) (place : ℕ) (t t′ : Tree) (next : Following) → place ≤ length s
     → missing (drop place s) ≡ false → unknown Plan (drop place s) ≡ false → cut (drop place s) ≡ false → 1 ≤ length (drop place s)
     → WholeSays (drop place s) place t t′ next → StepSays s place t t′ next
 whole-to-step s place t t′ (Stop n p) u e f g l h = record-class s place t e f g (h .0) ∙ h .1
@@ -96,7 +96,7 @@ whole-to-step s place t t′ (Onward next) u e f g l h =
 
 -- ---- the records passed over
 
-pub after-next : (s : List ℕ) (k : ℕ) → after s (k + 1) ≡ after s k + 1 + bodyLength (kindAt (drop (after s k) s))
+pub after-next : (s : List ℕ) (k : ℕ) → after s (k + 1) ≡ after s k + 1 + kindAt (drop (after s k) s) .body
 unfolding after
 after-next s k = rw (add-one k)
 
@@ -179,6 +179,10 @@ tree-light s k u h = record {
   light = λ i is. weight-range (treeOf s k) i (tree-passes s k h .weights i is) .1;
 }
 
+none-light : (s : List ℕ) → Light noTree
+unfolding treeOf
+none-light s = tree-light s 0 (omega arith) (λ j u. absurd (omega arith))
+
 -- and what no record sets is 0
 pub class-proper : (rest : List ℕ) → Proper (classAt rest)
 unfolding classAt
@@ -256,25 +260,58 @@ passed-over s k u h e = go (decLt k 63)
         let is : k ≡ 63 = omega arith in
         row-all (passes s) 63 (λ j v. h j (omega arith)) ∙ sym is
 
+-- a plan is its records, and then closing
+pub plan-halves : (s : List ℕ) → planOf s ≡ closed (recordsOf s)
+unfolding planOf recordsOf decidingChecks
+plan-halves s = go (firstBroken (checksOf s k)) refl
+  where
+    k : ℕ
+    k = passedOver s
+
+    go : (v : Verdict)
+        → firstBroken (checksOf s k) ≡ v
+        → outcome (firstBroken (checksOf s k ++ closingChecks (treeOf s k))) (treeOf s k) (after s k + 1)
+        ≡ closed (outcome (firstBroken (checksOf s k)) (treeOf s k) (after s k + 1))
+    go Passed e =
+        rw e (ap (λ (v : Verdict). outcome v (treeOf s k) (after s k + 1)) (after-passed (checksOf s k) (closingChecks (treeOf s k)) e))
+    go (Refused n p) e =
+        rw e (ap (λ (v : Verdict). outcome v (treeOf s k) (after s k + 1)) (refused-before (checksOf s k) (closingChecks (treeOf s k)) e))
+
 module _ (s : List ℕ) (k : ℕ) (most : k ≤ 63) (below : (j : ℕ) → j < k → passes s j ≡ true) where
-  pub plan-decided : passes s k ≡ false → planOf s ≡ outcome (firstBroken (decidingChecks s k)) (treeOf s k) (after s k + 1)
-  unfolding planOf
-  plan-decided e = rw (passed-over s k most below e)
+  -- the records alone
+  records-decided : passes s k ≡ false → recordsOf s ≡ outcome (firstBroken (checksOf s k)) (treeOf s k) (after s k + 1)
+  unfolding recordsOf
+  records-decided e = rw (passed-over s k most below e)
 
-  -- refused by a check of the record
+  pub records-refused : {n p : ℕ} → firstBroken (checksOf s k) ≡ Refused n p → recordsOf s ≡ outcome (Refused n p) noTree 0
+  records-refused e =
+      records-decided (pass-refused s k e) ∙ ap (λ (v : Verdict). outcome v (treeOf s k) (after s k + 1)) e
+
+  pub records-ended : firstBroken (checksOf s k) ≡ Passed → givesClass (kindAt (drop (after s k) s)) ≡ false
+      → recordsOf s ≡ outcome Passed (treeOf s k) (after s k + 1)
+  records-ended e g =
+      records-decided (pass-no-class s k g) ∙ ap (λ (v : Verdict). outcome v (treeOf s k) (after s k + 1)) e
+
+  -- the whole plan: refused by a check of the record
   pub plan-refused : {n p : ℕ} → firstBroken (checksOf s k) ≡ Refused n p → planOf s ≡ outcome (Refused n p) noTree 0
-  unfolding decidingChecks
-  plan-refused {n} {p} e =
-      plan-decided (pass-refused s k e)
-      ∙ ap (λ (v : Verdict). outcome v (treeOf s k) (after s k + 1)) (refused-before (checksOf s k) (closingChecks (treeOf s k)) e)
+  plan-refused e = plan-halves s ∙ ap closed (records-refused e)
 
-  -- the end record: what the closing checks say
+  -- or after the end record, what the closing checks say
   pub plan-ended : firstBroken (checksOf s k) ≡ Passed → givesClass (kindAt (drop (after s k) s)) ≡ false
       → planOf s ≡ outcome (firstBroken (closingChecks (treeOf s k))) (treeOf s k) (after s k + 1)
-  unfolding decidingChecks
-  plan-ended e g =
-      plan-decided (pass-no-class s k g)
-      ∙ ap (λ (v : Verdict). outcome v (treeOf s k) (after s k + 1)) (after-passed (checksOf s k) (closingChecks (treeOf s k)) e)
+  plan-ended e g = plan-halves s ∙ ap closed (records-ended e g)
+
+-- so far no weight is past its range, whatever the records say
+pub records-light : (s : List ℕ) → Light (recordsOf s .tree)
+unfolding recordsOf passedOver
+records-light s = go (firstBroken (checksOf s k))
+  where
+    k : ℕ
+    k = inRow (passes s) 63
+
+    go : (v : Verdict) → Light (outcome v (treeOf s k) (after s k + 1) .tree)
+    go Passed = tree-light s k (row-of (passes s) 63 .most) (row-of (passes s) 63 .below)
+    go (Refused n p) = none-light s
 
 -- ---- the reader's state: some class records read, all of which pass
 
@@ -298,18 +335,15 @@ module _ (s : List ℕ) (t : Tree) (place : ℕ) (r : ReadTo s t place) where
   same-rest : drop place s ≡ drop (after s (t .count)) s
   same-rest = ap (λ (p : ℕ). drop p s) (r .at)
 
-  pub read-stop : {n p : ℕ} → firstBroken (recordChecks s place t) ≡ Refused n p → planOf s ≡ outcome (Refused n p) noTree 0
-  read-stop e = plan-refused s (t .count) (r .most) (r .below) (ap firstBroken (sym same-checks) ∙ e)
+  pub read-stop : {n p : ℕ} → firstBroken (recordChecks s place t) ≡ Refused n p → recordsOf s ≡ outcome (Refused n p) noTree 0
+  read-stop e = records-refused s (t .count) (r .most) (r .below) (ap firstBroken (sym same-checks) ∙ e)
 
   pub read-end : firstBroken (recordChecks s place t) ≡ Passed → givesClass (kindAt (drop place s)) ≡ false
-      → planOf s ≡ outcome (firstBroken (closingChecks t)) t (place + 1)
+      → recordsOf s ≡ outcome Passed t (place + 1)
   read-end e g =
-      plan-ended s (t .count) (r .most) (r .below) (ap firstBroken (sym same-checks) ∙ e) (ap (λ (x : List ℕ). givesClass (kindAt x)) (sym same-rest) ∙ g)
-      ∙ ap (λ (x : Tree). outcome (firstBroken (closingChecks x)) x (after s (t .count) + 1)) (sym (r .tree))
-      ∙ ap (λ (p : ℕ). outcome (firstBroken (closingChecks t)) t (p + 1)) (sym (r .at))
-
-  pub read-light : Light t
-  read-light = rw (r .tree) (tree-light s (t .count) (r .most) (r .below))
+      records-ended s (t .count) (r .most) (r .below) (ap firstBroken (sym same-checks) ∙ e) (ap (λ (x : List ℕ). givesClass (kindAt x)) (sym same-rest) ∙ g)
+      ∙ ap (λ (x : Tree). outcome Passed x (after s (t .count) + 1)) (sym (r .tree))
+      ∙ ap (λ (p : ℕ). outcome Passed t (p + 1)) (sym (r .at))
 
   pub read-onward : {next : ℕ} {t′ : Tree} → StepSays s place t t′ (Onward next) → (t′ .count ≡ t .count + 1) × ReadTo s t′ next
   read-onward {next} {t′} h =
@@ -325,8 +359,8 @@ module _ (s : List ℕ) (t : Tree) (place : ℕ) (r : ReadTo s t place) where
       in
       let on : next ≡ after s (t .count + 1) =
       h .2
-      ∙ ap (λ (x : List ℕ). place + 1 + bodyLength (kindAt x)) same-rest
-      ∙ ap (λ (p : ℕ). p + 1 + bodyLength (kindAt (drop (after s (t .count)) s))) (r .at)
+      ∙ ap (λ (x : List ℕ). place + 1 + kindAt x .body) same-rest
+      ∙ ap (λ (p : ℕ). p + 1 + kindAt (drop (after s (t .count)) s) .body) (r .at)
       ∙ sym (after-next s (t .count))
       in (
         more,

@@ -1,66 +1,63 @@
 -- Laws of records: the table of kinds, and what the head of a record says.
-use mathlib.Core.Bool.{true, false}
+use mathlib.Core.Bool.{Bool, true, false, cond, _&&_}
 use mathlib.Core.List.{List}
 use mathlib.Core.Path.{_≡_, refl, ap, _∙_}
 use Prim.Native.Nat.{ℕ, _+_, _-_, _≤_}
 use native.Mathlib.Omega.{arith}
 use lib.ListN.{length, take, drop, length-take, length-drop}
-use borrow.Author.Tests.{ltb-false, eqb-false}
-use Rattle.checks.proofs.Laws.{not-true-and-false}
-use Rattle.plan.specs.declared.Kind.{Kind}
-use Rattle.plan.specs.declared.Kind.the-variants.{End, Inner, Leaf, Arrival, Send, Unknown}
-use Rattle.plan.specs.Kind.{bodyLength, givesClass, givesLeaf, givesArrival}
-use Rattle.plan.specs.Record.{kindAt, missing, cut, bodyOf}
+use lib.Dec.{eqb}
+use borrow.Author.Tests.{ltb-false, eqb-true, eqb-false}
+use Rattle.tree.proofs.Classes.{both-true}
+use Rattle.plan.specs.declared.kind.RecordKind.{RecordKind}
+use Rattle.plan.specs.Kind.{recordKind, givesClass, givesLeaf, givesArrival}
+use Rattle.plan.specs.Record.{byteAt, kindAt, missing, cut, bodyOf}
 
--- the body lengths of the table
-pub body-at-most : (k : Kind) → bodyLength k ≤ 7
-body-at-most End = omega arith
-body-at-most Inner = omega arith
-body-at-most Leaf = omega arith
-body-at-most Arrival = omega arith
-body-at-most Send = omega arith
-body-at-most Unknown = omega arith
+-- a body is as long as its reader asks: 7 bytes of a leaf, 5 of an inner class, 7 of an arrival
+abbrev bodyFits : RecordKind → Bool
+bodyFits k = cond (givesClass k) (eqb (k .body) (cond (givesLeaf k) 7 5)) true && cond (givesArrival k) (eqb (k .body) 7) true
 
-pub leaf-body : (k : Kind) → givesLeaf k ≡ true → bodyLength k ≡ 7
-leaf-body End e = absurd (not-true-and-false e refl)
-leaf-body Inner e = absurd (not-true-and-false e refl)
-leaf-body Leaf e = refl
-leaf-body Arrival e = absurd (not-true-and-false e refl)
-leaf-body Send e = absurd (not-true-and-false e refl)
-leaf-body Unknown e = absurd (not-true-and-false e refl)
+-- so it is in every row of the table
+table-fits : (byte : ℕ) → bodyFits (recordKind byte) ≡ true
+unfolding recordKind
+table-fits byte =
+    either (eqb byte 0) _ _ refl
+    (either (eqb byte 1) _ _ refl
+    (either (eqb byte 2) _ _ refl
+    (either (eqb byte 16) _ _ refl
+    (either (eqb byte 17) _ _ refl refl))))
+  where
+    either : (b : Bool) (k l : RecordKind) → bodyFits k ≡ true → bodyFits l ≡ true → bodyFits (cond b k l) ≡ true
+    either true k l e f = e
+    either false k l e f = f
 
-pub inner-body : (k : Kind) → givesClass k ≡ true → givesLeaf k ≡ false → bodyLength k ≡ 5
-inner-body End e f = absurd (not-true-and-false e refl)
-inner-body Inner e f = refl
-inner-body Leaf e f = absurd (not-true-and-false refl f)
-inner-body Arrival e f = absurd (not-true-and-false e refl)
-inner-body Send e f = absurd (not-true-and-false e refl)
-inner-body Unknown e f = absurd (not-true-and-false e refl)
+row-fits : (rest : List ℕ)
+    → (cond (givesClass (kindAt rest)) (eqb (kindAt rest .body) (cond (givesLeaf (kindAt rest)) 7 5)) true ≡ true)
+    × (cond (givesArrival (kindAt rest)) (eqb (kindAt rest .body) 7) true ≡ true)
+unfolding kindAt
+row-fits rest = both-true _ _ (table-fits (byteAt rest 0))
 
-pub arrival-body : (k : Kind) → givesArrival k ≡ true → bodyLength k ≡ 7
-arrival-body End e = absurd (not-true-and-false e refl)
-arrival-body Inner e = absurd (not-true-and-false e refl)
-arrival-body Leaf e = absurd (not-true-and-false e refl)
-arrival-body Arrival e = refl
-arrival-body Send e = absurd (not-true-and-false e refl)
-arrival-body Unknown e = absurd (not-true-and-false e refl)
+pub class-body : (rest : List ℕ) → givesClass (kindAt rest) ≡ true → kindAt rest .body ≡ cond (givesLeaf (kindAt rest)) 7 5
+class-body rest e = eqb-true _ _ (rw e at (row-fits rest .0))
+
+pub arrival-body : (rest : List ℕ) → givesArrival (kindAt rest) ≡ true → kindAt rest .body ≡ 7
+arrival-body rest e = eqb-true _ _ (rw e at (row-fits rest .1))
 
 -- a record that is not cut is as long as its kind says
-pub whole-length : (rest : List ℕ) → cut rest ≡ false → 1 + bodyLength (kindAt rest) ≤ length rest
+pub whole-length : (rest : List ℕ) → cut rest ≡ false → 1 + kindAt rest .body ≤ length rest
 unfolding cut
-whole-length rest e = ltb-false (length rest) (1 + bodyLength (kindAt rest)) e
+whole-length rest e = ltb-false (length rest) (1 + kindAt rest .body) e
 
 -- the part of the rest from 1 to the end of the record is its body
-pub body-part : (rest : List ℕ) (end : ℕ) → end ≡ 1 + bodyLength (kindAt rest) → take (end - 1) (drop 1 rest) ≡ bodyOf rest
+pub body-part : (rest : List ℕ) (end : ℕ) → end ≡ 1 + kindAt rest .body → take (end - 1) (drop 1 rest) ≡ bodyOf rest
 unfolding bodyOf
 body-part rest end e =
-    let h : end - 1 ≡ bodyLength (kindAt rest) = omega arith in
+    let h : end - 1 ≡ kindAt rest .body = omega arith in
     ap (λ (n : ℕ). take n (drop 1 rest)) h
 
-pub body-length : (rest : List ℕ) → cut rest ≡ false → length (bodyOf rest) ≡ bodyLength (kindAt rest)
+pub body-length : (rest : List ℕ) → cut rest ≡ false → length (bodyOf rest) ≡ kindAt rest .body
 unfolding bodyOf
 body-length rest e =
-    length-take (bodyLength (kindAt rest)) (drop 1 rest) ∙ omega (arith, length-drop 1 rest, whole-length rest e)
+    length-take (kindAt rest .body) (drop 1 rest) ∙ omega (arith, length-drop 1 rest, whole-length rest e)
 
 -- a kind byte that is there makes the rest at least one byte long
 pub there-length : (rest : List ℕ) → missing rest ≡ false → 1 ≤ length rest

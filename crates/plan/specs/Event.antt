@@ -8,13 +8,13 @@ use Rattle.checks.specs.Check.{Check, check, firstBroken}
 use Rattle.plan.specs.declared.Arrived.{Arrived}
 use Rattle.plan.specs.declared.EventRead.{EventRead}
 use Rattle.plan.specs.declared.EventRead.the-variants.{NoMore, Arrive, SendNext, Fault}
-use Rattle.plan.specs.declared.Part.the-variants.{Events}
+use Rattle.plan.specs.declared.kind.Section.the-variants.{Events}
 use Rattle.plan.specs.Kind.{givesArrival}
 use Rattle.plan.specs.Record.{byteAt, number16, number32, kindAt, missing, unknown, cut, bodyOf}
 
 -- class 1, length 2, tag 4
-abbrev pub arrivalOf : List ℕ → Arrived
-arrivalOf body = record { class = byteAt body 0; length = number16 body 1; tag = number32 body 3 }
+abbrev pub arrivedOf : List ℕ → Arrived
+arrivedOf body = record { class = byteAt body 0; length = number16 body 1; tag = number32 body 3 }
 
 -- an event record is checked in the order 2, 1, at its first byte
 abbrev pub eventChecks : List ℕ → ℕ → List Check
@@ -36,7 +36,7 @@ usedOf (Fault n p) = 0
 
 -- the record that passed its checks
 unfoldable pub eventOf : List ℕ → EventRead
-eventOf rest = cond (givesArrival (kindAt rest)) (Arrive (arrivalOf (bodyOf rest))) SendNext
+eventOf rest = cond (givesArrival (kindAt rest)) (Arrive (arrivedOf (bodyOf rest))) SendNext
 
 abbrev pub judged : Verdict → EventRead → EventRead
 judged Passed e = e

@@ -1,68 +1,65 @@
--- The table of kinds (document 01, "The plan's bytes"): the kind byte, the length of the body, and where the kind may stand. Demand 1.
+-- The table of kinds (document 01, "The plan's bytes"): kind byte, length of the body, where the kind may stand, what its record
+-- gives. A kind is one row here, and one in the code's table (src/kind.rt). Demand 1.
 use mathlib.Core.Bool.{Bool, true, false, cond}
 use Prim.Native.Nat.{ℕ}
 use lib.Dec.{eqb}
-use Rattle.plan.specs.declared.Kind.{Kind}
-use Rattle.plan.specs.declared.Kind.the-variants.{End, Inner, Leaf, Arrival, Send, Unknown}
-use Rattle.plan.specs.declared.Part.{Part}
-use Rattle.plan.specs.declared.Part.the-variants.{Plan, Events}
+use Rattle.plan.specs.declared.kind.RecordKind.{RecordKind}
+use Rattle.plan.specs.declared.kind.Given.{Given}
+use Rattle.plan.specs.declared.kind.Given.the-variants.{End, Inner, Leaf, Arrival, Send, Nothing}
+use Rattle.plan.specs.declared.kind.Section.{Section}
+use Rattle.plan.specs.declared.kind.Section.the-variants.{Plan, Events}
 
--- the kind of a kind byte
-unfoldable pub kindOf : ℕ → Kind
-kindOf b =
-    cond (eqb b 0) End
-    (cond (eqb b 1) Inner
-    (cond (eqb b 2) Leaf
-    (cond (eqb b 16) Arrival
-    (cond (eqb b 17) Send Unknown))))
+-- a row: the length of the body, whether the kind may stand inside a plan, whether among events, and what its record gives
+abbrev pub kindRow : ℕ → Bool → Bool → Given → RecordKind
+kindRow body plan events gives = record { body = body; plan = plan; events = events; gives = gives }
 
--- the length of its body: parent 1, weight 4; and longest 2; class 1, length 2, tag 4
-abbrev pub bodyLength : Kind → ℕ
-bodyLength End = 0
-bodyLength Inner = 5
-bodyLength Leaf = 7
-bodyLength Arrival = 7
-bodyLength Send = 0
-bodyLength Unknown = 0
+-- the kind of a kind byte. Bodies: of an inner class parent 1, weight 4; of a leaf parent 1, weight 4, longest 2; of an arrival
+-- class 1, length 2, tag 4; of the others none. Any other byte is unknown
+unfoldable pub recordKind : ℕ → RecordKind
+recordKind byte =
+    cond (eqb byte 0) (kindRow 0 true false End)
+    (cond (eqb byte 1) (kindRow 5 true false Inner)
+    (cond (eqb byte 2) (kindRow 7 true false Leaf)
+    (cond (eqb byte 16) (kindRow 7 false true Arrival)
+    (cond (eqb byte 17) (kindRow 0 false true Send)
+    (kindRow 0 false false Nothing)))))
 
--- 16 and 17 are unknown inside a plan, and 0, 1 and 2 unknown among events
-abbrev pub standsIn : Part → Kind → Bool
-standsIn Plan End = true
-standsIn Plan Inner = true
-standsIn Plan Leaf = true
-standsIn Plan Arrival = false
-standsIn Plan Send = false
-standsIn Plan Unknown = false
-standsIn Events End = false
-standsIn Events Inner = false
-standsIn Events Leaf = false
-standsIn Events Arrival = true
-standsIn Events Send = true
-standsIn Events Unknown = false
+-- where a kind may stand
+abbrev pub standsIn : Section → RecordKind → Bool
+standsIn Plan k = k .plan
+standsIn Events k = k .events
 
--- a class record
-abbrev pub givesClass : Kind → Bool
-givesClass End = false
-givesClass Inner = true
-givesClass Leaf = true
-givesClass Arrival = false
-givesClass Send = false
-givesClass Unknown = false
+-- what is a class, what is a leaf, and what is an arrival
+abbrev pub classGiven : Given → Bool
+classGiven End = false
+classGiven Inner = true
+classGiven Leaf = true
+classGiven Arrival = false
+classGiven Send = false
+classGiven Nothing = false
 
--- that class is a leaf
-abbrev pub givesLeaf : Kind → Bool
-givesLeaf End = false
-givesLeaf Inner = false
-givesLeaf Leaf = true
-givesLeaf Arrival = false
-givesLeaf Send = false
-givesLeaf Unknown = false
+abbrev pub leafGiven : Given → Bool
+leafGiven End = false
+leafGiven Inner = false
+leafGiven Leaf = true
+leafGiven Arrival = false
+leafGiven Send = false
+leafGiven Nothing = false
 
--- a record of an arrival
-abbrev pub givesArrival : Kind → Bool
-givesArrival End = false
-givesArrival Inner = false
-givesArrival Leaf = false
-givesArrival Arrival = true
-givesArrival Send = false
-givesArrival Unknown = false
+abbrev pub arrivalGiven : Given → Bool
+arrivalGiven End = false
+arrivalGiven Inner = false
+arrivalGiven Leaf = false
+arrivalGiven Arrival = true
+arrivalGiven Send = false
+arrivalGiven Nothing = false
+
+-- so of the record of a kind
+abbrev pub givesClass : RecordKind → Bool
+givesClass k = classGiven (k .gives)
+
+abbrev pub givesLeaf : RecordKind → Bool
+givesLeaf k = leafGiven (k .gives)
+
+abbrev pub givesArrival : RecordKind → Bool
+givesArrival k = arrivalGiven (k .gives)

@@ -11,11 +11,11 @@ use Rattle.tree.specs.declared.Tree.{Tree}
 use Rattle.tree.specs.Class.{noTree, added}
 use Rattle.tree.specs.Rules.{tooMany, classChecks, closingChecks}
 use Rattle.plan.specs.declared.PlanRead.{PlanRead}
-use Rattle.plan.specs.declared.Part.the-variants.{Plan}
-use Rattle.plan.specs.Kind.{bodyLength, givesClass}
+use Rattle.plan.specs.declared.kind.Section.the-variants.{Plan}
+use Rattle.plan.specs.Kind.{givesClass}
 use Rattle.plan.specs.Record.{kindAt, missing, unknown, cut, classAt}
 
--- the record at a place is checked in the order 2, 1, 3, 4, 5, 6; a missing kind byte is 1, at the input's length
+-- the record at a place (the first stands at 0) is checked in the order 2, 1, 3, 4, 5, 6; a missing kind byte is 1, at the input's length
 abbrev pub headChecks : List ℕ → ℕ → List Check
 headChecks input place =
     let rest = drop place input in
@@ -33,7 +33,7 @@ recordChecks input place tree =
 -- the first byte after the first k records
 unfoldable pub after : List ℕ → ℕ → ℕ
 after input zero = 0
-after input (suc k) = after input k + 1 + bodyLength (kindAt (drop (after input k) input))
+after input (suc k) = after input k + 1 + kindAt (drop (after input k) input) .body
 
 -- the tree of the first k class records: the classes 1 to k, in plan order
 unfoldable pub treeOf : List ℕ → ℕ → Tree
@@ -66,7 +66,22 @@ abbrev pub outcome : Verdict → Tree → ℕ → PlanRead
 outcome Passed tree used = record { verdict = Passed; used = used; tree = tree }
 outcome (Refused n p) tree used = record { verdict = Refused n p; used = 0; tree = noTree }
 
+-- the whole plan
 unfoldable pub planOf : List ℕ → PlanRead
 planOf input =
     let k = passedOver input in
     outcome (firstBroken (decidingChecks input k)) (treeOf input k) (after input k + 1)
+
+-- the same in two halves (`plan-halves`, proofs/Reading). First the records alone, with no check after the end record
+unfoldable pub recordsOf : List ℕ → PlanRead
+recordsOf input =
+    let k = passedOver input in
+    outcome (firstBroken (checksOf input k)) (treeOf input k) (after input k + 1)
+
+-- then closing: records that broke no rule go on to 9, 8 and 7
+abbrev pub closedBy : Verdict → PlanRead → PlanRead
+closedBy Passed r = outcome (firstBroken (closingChecks (r .tree))) (r .tree) (r .used)
+closedBy (Refused n p) r = r
+
+abbrev pub closed : PlanRead → PlanRead
+closed r = closedBy (r .verdict) r

@@ -6,9 +6,9 @@ use Prim.Native.Nat.{ℕ, _+_, _*_}
 use lib.Dec.{eqb, ltb}
 use lib.ListN.{length, getD, take, drop}
 use Rattle.tree.specs.declared.Class.{Class}
-use Rattle.plan.specs.declared.Kind.{Kind}
-use Rattle.plan.specs.declared.Part.{Part}
-use Rattle.plan.specs.Kind.{kindOf, bodyLength, standsIn, givesLeaf}
+use Rattle.plan.specs.declared.kind.RecordKind.{RecordKind}
+use Rattle.plan.specs.declared.kind.Section.{Section}
+use Rattle.plan.specs.Kind.{recordKind, standsIn, givesLeaf}
 
 -- numbers are big-endian
 abbrev pub byteAt : List ℕ → ℕ → ℕ
@@ -21,24 +21,24 @@ abbrev pub number32 : List ℕ → ℕ → ℕ
 number32 s k = byteAt s k * 16_777_216 + byteAt s (k + 1) * 65_536 + byteAt s (k + 2) * 256 + byteAt s (k + 3)
 
 -- the kind of the record
-unfoldable pub kindAt : List ℕ → Kind
-kindAt rest = kindOf (byteAt rest 0)
+unfoldable pub kindAt : List ℕ → RecordKind
+kindAt rest = recordKind (byteAt rest 0)
 
 -- 1: the input ends before the kind byte
 unfoldable pub missing : List ℕ → Bool
 missing rest = eqb (length rest) 0
 
 -- 2: unknown kind
-unfoldable pub unknown : Part → List ℕ → Bool
-unknown part rest = not (standsIn part (kindAt rest))
+unfoldable pub unknown : Section → List ℕ → Bool
+unknown section rest = not (standsIn section (kindAt rest))
 
 -- 1: the input ends inside the body
 unfoldable pub cut : List ℕ → Bool
-cut rest = ltb (length rest) (1 + bodyLength (kindAt rest))
+cut rest = ltb (length rest) (1 + kindAt rest .body)
 
 -- the body is the part after the kind byte
 unfoldable pub bodyOf : List ℕ → List ℕ
-bodyOf rest = take (bodyLength (kindAt rest)) (drop 1 rest)
+bodyOf rest = take (kindAt rest .body) (drop 1 rest)
 
 -- the class of a body: parent 1, weight 4, and of a leaf longest 2
 abbrev pub innerClass : List ℕ → Class
@@ -47,9 +47,9 @@ innerClass body = record { parent = byteAt body 0; weight = record { 0 = number3
 abbrev pub leafClass : List ℕ → Class
 leafClass body = record { parent = byteAt body 0; weight = record { 0 = number32 body 1 }; longest = number16 body 5; leaf = true }
 
-abbrev pub classOf : Kind → List ℕ → Class
-classOf kind body = cond (givesLeaf kind) (leafClass body) (innerClass body)
+abbrev pub classOf : Bool → List ℕ → Class
+classOf leaf body = cond leaf (leafClass body) (innerClass body)
 
 -- the class that a class record gives
 unfoldable pub classAt : List ℕ → Class
-classAt rest = classOf (kindAt rest) (bodyOf rest)
+classAt rest = classOf (givesLeaf (kindAt rest)) (bodyOf rest)

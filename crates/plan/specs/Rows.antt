@@ -8,7 +8,7 @@ use lib.ListN.{length, drop}
 use Rattle.tree.specs.declared.Tree.{Tree}
 use Rattle.tree.specs.Class.{isClass}
 use Rattle.tree.specs.Rules.{tooMany, badParent, badWeight, badLongest, tooHeavy, childless, noClass}
-use Rattle.plan.specs.declared.Part.the-variants.{Plan}
+use Rattle.plan.specs.declared.kind.Section.the-variants.{Plan}
 use Rattle.plan.specs.Kind.{givesClass}
 use Rattle.plan.specs.Record.{kindAt, missing, unknown, cut}
 use Rattle.plan.specs.Reader.{after, treeOf, passes}

@@ -9,48 +9,48 @@ use Rattle.checks.specs.Check.{firstBroken}
 use Rattle.tree.specs.declared.Tree.{Tree}
 use Rattle.tree.specs.declared.Class.{Class}
 use Rattle.tree.specs.Class.{added}
-use Rattle.plan.specs.declared.Part.{Part}
-use Rattle.plan.specs.declared.Head.{Head}
-use Rattle.plan.specs.declared.Head.the-variants.{Missing, Strange, Cut, Whole}
-use Rattle.plan.specs.declared.Next.{Next}
-use Rattle.plan.specs.declared.Next.the-variants.{Stop, Ended, Onward}
-use Rattle.plan.specs.Kind.{bodyLength, givesClass}
+use Rattle.plan.specs.declared.kind.Section.{Section}
+use Rattle.plan.specs.declared.record.Head.{Head}
+use Rattle.plan.specs.declared.record.Head.the-variants.{Missing, Strange, Cut, Whole}
+use Rattle.plan.specs.declared.reader.Following.{Following}
+use Rattle.plan.specs.declared.reader.Following.the-variants.{Stop, Ended, Onward}
+use Rattle.plan.specs.Kind.{givesClass}
 use Rattle.plan.specs.Record.{kindAt, missing, unknown, cut, classAt}
 use Rattle.plan.specs.Reader.{recordChecks, newClassChecks}
 
 -- the head of a record: the first of rows 1, 2, 1 that is broken, or the kind
-abbrev pub HeadSays : Part → List ℕ → Head → Type 0
-HeadSays part rest Missing = missing rest ≡ true
-HeadSays part rest Strange = (missing rest ≡ false) × (unknown part rest ≡ true)
-HeadSays part rest Cut = (missing rest ≡ false) × (unknown part rest ≡ false) × (cut rest ≡ true)
-HeadSays part rest (Whole k) = (missing rest ≡ false) × (unknown part rest ≡ false) × (cut rest ≡ false) × (k ≡ kindAt rest)
+abbrev pub HeadSays : Section → List ℕ → Head → Type 0
+HeadSays section rest Missing = missing rest ≡ true
+HeadSays section rest Strange = (missing rest ≡ false) × (unknown section rest ≡ true)
+HeadSays section rest Cut = (missing rest ≡ false) × (unknown section rest ≡ false) × (cut rest ≡ true)
+HeadSays section rest (Whole k) = (missing rest ≡ false) × (unknown section rest ≡ false) × (cut rest ≡ false) × (k ≡ kindAt rest)
 
 -- a class put to a tree, at its record's place: refused by the first broken check, or taken
-abbrev pub ClassSays : Tree → Class → ℕ → ℕ → Tree → Next → Type 0
+abbrev pub ClassSays : Tree → Class → ℕ → ℕ → Tree → Following → Type 0
 ClassSays t c place to t′ (Stop n p) = firstBroken (newClassChecks (added t c) place) ≡ Refused n p
 ClassSays t c place to t′ Ended = ⊥
 ClassSays t c place to t′ (Onward next) = (firstBroken (newClassChecks (added t c) place) ≡ Passed) × (next ≡ to) × (t′ ≡ added t c)
 
 -- a whole record at a place: a class put to the tree, or the end of the plan
-abbrev pub WholeSays : List ℕ → ℕ → Tree → Tree → Next → Type 0
+abbrev pub WholeSays : List ℕ → ℕ → Tree → Tree → Following → Type 0
 WholeSays rest place t t′ (Stop n p) =
     (givesClass (kindAt rest) ≡ true) × (firstBroken (newClassChecks (added t (classAt rest)) place) ≡ Refused n p)
 WholeSays rest place t t′ Ended = givesClass (kindAt rest) ≡ false
 WholeSays rest place t t′ (Onward next) =
     (givesClass (kindAt rest) ≡ true)
     × (firstBroken (newClassChecks (added t (classAt rest)) place) ≡ Passed)
-    × (next ≡ place + 1 + bodyLength (kindAt rest))
+    × (next ≡ place + 1 + kindAt rest .body)
     × (next ≤ place + length rest)
     × (t′ ≡ added t (classAt rest))
 
 -- the record at a place, put to the tree so far: refused, the end record, or a class more and the place of the next record
-abbrev pub StepSays : List ℕ → ℕ → Tree → Tree → Next → Type 0
+abbrev pub StepSays : List ℕ → ℕ → Tree → Tree → Following → Type 0
 StepSays input place t t′ (Stop n p) = firstBroken (recordChecks input place t) ≡ Refused n p
 StepSays input place t t′ Ended =
     (firstBroken (recordChecks input place t) ≡ Passed) × (givesClass (kindAt (drop place input)) ≡ false) × (place + 1 ≤ length input)
 StepSays input place t t′ (Onward next) =
     (firstBroken (recordChecks input place t) ≡ Passed)
     × (givesClass (kindAt (drop place input)) ≡ true)
-    × (next ≡ place + 1 + bodyLength (kindAt (drop place input)))
+    × (next ≡ place + 1 + kindAt (drop place input) .body)
     × (next ≤ length input)
     × (t′ ≡ added t (classAt (drop place input)))

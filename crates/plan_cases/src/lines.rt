@@ -11,3 +11,9 @@ pub(crate) fn number(text: &[u8], n: u64) {
     word(text);
     io::print_decimal(STDOUT_FILENO, n);
 }
+
+// A refusal's number and place.
+pub(crate) fn refusal(n: u8, place: usize) {
+    number(b": refused ", n as u64);
+    number(b" ", place as u64);
+}

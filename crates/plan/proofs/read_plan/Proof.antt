@@ -1,92 +1,19 @@
--- `plan::read_plan` meets its contract: the answer is the one the rules give, for any bytes.
-use mathlib.Core.Path.{sym, _∙_}
-use Prim.Native.Nat.{_-_}
-use native.Mathlib.Omega.{arith}
-use Rattle.plan.proofs.Reading.{ReadTo, read-none, read-stop, read-end, read-light, read-onward}
+-- `plan::read_plan` meets its contract: the answer is the one the rules give, for any bytes. The records, and then closing.
+use mathlib.Core.Path.{sym, ap, _∙_}
 use borrow.Author.Needs.{needs}
+use Rattle.plan.specs.Reader.{closed}
+use Rattle.plan.proofs.Reading.{plan-halves, records-light}
 use Rattle.plan.proofs.read_plan.Statement.{statement}
 use Rattle.plan.proofs.read_plan.Tie as tie
 
-abbrev Inv-loop : tie.InvT-loop
-Inv-loop input tree₀ place₀ tree place = ReadTo input tree place
+read-records-requires : tie.Need-read-records-requires
+read-records-requires c κs = search needs
 
-abbrev μ-loop : tie.MeasureT-loop
-μ-loop input tree₀ place₀ tree place = 64 - tree .count
+close-plan-requires : tie.Need-close-plan-requires
+close-plan-requires c κs = rw (c .read-records .ensures) (records-light _)
 
-none-requires : tie.Need-none-requires Inv-loop μ-loop
-none-requires c κs = search needs
-
-loop-holds : tie.Need-loop-holds Inv-loop μ-loop
-loop-holds c = rw (c .none .ensures) (read-none _)
-
-take-record-requires : tie.Need-take-record-requires Inv-loop μ-loop
-take-record-requires c κs = c .loop .inv .within
-
-enum-known-next : tie.Need-enum-known-next Inv-loop μ-loop
-enum-known-next c = search needs
-
-refused-requires : tie.Need-refused-requires Inv-loop μ-loop
-refused-requires c κs = search needs
-
-returns : tie.Need-returns Inv-loop μ-loop
-returns c =
-    let f = c .before .before .before .before in
-    let h = f .before in
-    let says = rw (c .before .before .next .given .1) at (f .take-record .ensures) in
-    c .refused .ensures ∙ sym (read-stop _ _ _ (h .loop .inv) says)
-
-enum-told : tie.Need-enum-told Inv-loop μ-loop
-enum-told c = search needs
-
-add-close-plan : tie.Need-add-close-plan Inv-loop μ-loop
-add-close-plan c =
-    let f = c .before .before in
-    let says = rw (c .enum-told .given .1) at (f .take-record .ensures) in
-    omega (arith, says .2, f .before .before .before .before .good .0 .0)
-
-close-plan-requires : tie.Need-close-plan-requires Inv-loop μ-loop
-close-plan-requires c κs = read-light _ _ _ (c .before .before .before .loop .inv)
-
-returns-2 : tie.Need-returns-2 Inv-loop μ-loop
-returns-2 c =
-    let f = c .before .before .before in
-    let says = rw (c .before .enum-told .given .1) at (f .take-record .ensures) in
-    c .close-plan .ensures ∙ sym (read-end _ _ _ (f .before .loop .inv) (says .0) (says .1))
-
-enum-known-next-2 : tie.Need-enum-known-next-2 Inv-loop μ-loop
-enum-known-next-2 c = search needs
-
-loop-less : tie.Need-loop-less Inv-loop μ-loop
-loop-less c =
-    let f = c .before .before .before .before in
-    let h = f .before in
-    let says = rw (c .before .before .next2 .given .1) at (f .take-record .ensures) in
-    let on = read-onward _ _ _ (h .loop .inv) says in
-    omega (arith, on .0, h .loop .inv .most)
-
-loop-again : tie.Need-loop-again Inv-loop μ-loop
-loop-again c =
-    let f = c .before .before .before .before in
-    let h = f .before in
-    let says = rw (c .before .before .next2 .given .1) at (f .take-record .ensures) in
-    read-onward _ _ _ (h .loop .inv) says .1
+returns : tie.Need-returns
+returns c = c .close-plan .ensures ∙ ap closed (c .before .read-records .ensures) ∙ sym (plan-halves _)
 
 pub read-plan-spec : {M : Type 1} → statement M
-read-plan-spec =
-    tie.close
-    (tie.spec
-    Inv-loop
-    μ-loop
-    none-requires
-    loop-holds
-    take-record-requires
-    enum-known-next
-    refused-requires
-    returns
-    enum-told
-    add-close-plan
-    close-plan-requires
-    returns-2
-    enum-known-next-2
-    loop-less
-    loop-again)
+read-plan-spec = tie.close (tie.spec read-records-requires close-plan-requires returns)

@@ -1,0 +1,117 @@
+// The table of kinds: kind byte, length of the body, where the kind may stand, what its record gives.
+// A kind is one row here and one in specs/Kind.
+// Serves demand 1.
+ghost use mathlib.Core.Path.{_≡_};
+ghost use Prim.Native.Nat.{_+_, _≤_};
+ghost use Rattle.plan.specs.Kind.{kindRow, recordKind, standsIn, givesClass, givesLeaf, givesArrival};
+
+// What a record gives: the end of the plan, a class, an arrival, a send, or nothing where its kind is unknown.
+pub enum Given {
+    End,
+    Inner,
+    Leaf,
+    Arrival,
+    Send,
+    Nothing,
+}
+
+// A row of the table of kinds: the length of the body, whether the kind may stand inside a plan and among events, what its record
+// gives.
+pub struct RecordKind {
+    pub body: u8,
+    pub plan: bool,
+    pub events: bool,
+    pub gives: Given,
+}
+
+// Where a record stands.
+pub enum Section {
+    Plan,
+    Events,
+}
+
+// A row of the table.
+fn kind_row(body: u8, plan: bool, events: bool, gives: Given) -> RecordKind
+    ensures { λ r. ⌜ r ≡ kindRow body plan events gives ⌝ }
+{
+    RecordKind {
+        body,
+        plan,
+        events,
+        gives,
+    }
+}
+
+// The table of kinds.
+pub(crate) fn record_kind(byte: u8) -> RecordKind
+    ensures { λ r. ⌜ r ≡ recordKind byte ⌝ }
+{
+    match byte {
+        0 => kind_row(0, true, false, Given::End),
+        1 => kind_row(5, true, false, Given::Inner),
+        2 => kind_row(7, true, false, Given::Leaf),
+        16 => kind_row(7, false, true, Given::Arrival),
+        17 => kind_row(0, false, true, Given::Send),
+        _ => kind_row(0, false, false, Given::Nothing),
+    }
+}
+
+// Whether a kind may stand there.
+pub(crate) fn stands_in(section: Section, kind: RecordKind) -> bool
+    ensures { λ r. ⌜ r ≡ standsIn section kind ⌝ }
+{
+    match section {
+        Section::Plan => kind.plan,
+        Section::Events => kind.events,
+    }
+}
+
+// Whether a record gives a class, whether that class is a leaf, and whether it gives an arrival.
+pub(crate) fn gives_class(kind: RecordKind) -> bool
+    ensures { λ r. ⌜ r ≡ givesClass kind ⌝ }
+{
+    let gives = kind.gives;
+    match gives {
+        Given::End => false,
+        Given::Inner => true,
+        Given::Leaf => true,
+        Given::Arrival => false,
+        Given::Send => false,
+        Given::Nothing => false,
+    }
+}
+
+pub(crate) fn gives_leaf(kind: RecordKind) -> bool
+    ensures { λ r. ⌜ r ≡ givesLeaf kind ⌝ }
+{
+    let gives = kind.gives;
+    match gives {
+        Given::End => false,
+        Given::Inner => false,
+        Given::Leaf => true,
+        Given::Arrival => false,
+        Given::Send => false,
+        Given::Nothing => false,
+    }
+}
+
+pub(crate) fn gives_arrival(kind: RecordKind) -> bool
+    ensures { λ r. ⌜ r ≡ givesArrival kind ⌝ }
+{
+    let gives = kind.gives;
+    match gives {
+        Given::End => false,
+        Given::Inner => false,
+        Given::Leaf => false,
+        Given::Arrival => true,
+        Given::Send => false,
+        Given::Nothing => false,
+    }
+}
+
+// The bytes of a whole record.
+pub(crate) fn record_length(kind: RecordKind) -> usize
+    ensures { λ r. ⌜ (r ≡ 1 + kind .body) × (r ≤ 256) ⌝ }
+{
+    1 + kind.body as usize
+}

@@ -1,0 +1,84 @@
+// The parts of a packed command: its name, its body and their numbers, big-endian; what lies past the input's end reads as 0.
+// They run, and the answers are compared with the written-down ones.
+ghost use Prim.Native.Nat.{_≤_, _<_};
+
+// A byte, wide.
+fn wide(x: u8) -> u64
+    ensures { λ r. ⌜ r < 256 ⌝ }
+{
+    x as u64
+}
+
+// The byte at a place.
+pub(crate) fn number_8(s: &[u8], k: usize) -> u64
+    ensures { λ r. ⌜ r < 256 ⌝ }
+{
+    if s.len() <= k {
+        return 0;
+    }
+    wide(s[k])
+}
+
+// The number of two bytes at a place.
+pub(crate) fn number_16(s: &[u8], k: usize) -> u64
+    requires { ⌜ k < 1_024 ⌝ }
+    ensures { λ r. ⌜ r < 65_536 ⌝ }
+{
+    number_8(s, k) * 256 + number_8(s, k + 1)
+}
+
+// The number of four bytes at a place.
+fn number_32(s: &[u8], k: usize) -> u64
+    requires { ⌜ k < 32 ⌝ }
+    ensures { λ r. ⌜ r < 4_294_967_296 ⌝ }
+{
+    number_16(s, k) * 65_536 + number_16(s, k + 2)
+}
+
+// The number of eight bytes at a place.
+pub(crate) fn number_64(s: &[u8], k: usize) -> u64
+    requires { ⌜ k < 16 ⌝ }
+{
+    number_32(s, k) * 4_294_967_296 + number_32(s, k + 4)
+}
+
+// The bytes from one place to another; none where there are not so many.
+fn part(s: &[u8], from: usize, to: usize) -> &[u8] {
+    if s.len() < to {
+        return &s[..0];
+    }
+    if to < from {
+        return &s[..0];
+    }
+    &s[from..to]
+}
+
+// The bytes from a place on; none where there are not so many.
+pub(crate) fn from(s: &[u8], k: usize) -> &[u8] {
+    part(s, k, s.len())
+}
+
+// Where the name of a command ends.
+fn name_end(command: &[u8]) -> usize
+    ensures { λ r. ⌜ (2 ≤ r) × (r < 258) ⌝ }
+{
+    2 + number_8(command, 1) as usize
+}
+
+// Where its body ends, and the command.
+pub(crate) fn size(command: &[u8]) -> usize
+    ensures { λ r. ⌜ 1 ≤ r ⌝ }
+{
+    let end = name_end(command);
+    end + 2 + number_16(command, end) as usize
+}
+
+// The name of a command.
+pub(crate) fn name(command: &[u8]) -> &[u8] {
+    part(command, 2, name_end(command))
+}
+
+// Its body.
+pub(crate) fn body(command: &[u8]) -> &[u8] {
+    part(command, name_end(command) + 2, size(command))
+}
