@@ -1,10 +1,11 @@
 -- Laws of the weight sums of active children.
 use mathlib.Core.Bool.{Bool, true, false, cond, _&&_}
+use mathlib.Core.List.{List}
 use mathlib.Core.Path.{_≡_, refl, sym, ap, _∙_}
 use Prim.Native.Nat.{ℕ, _+_, _-_, _^_, _≤_, _<_, zero-le}
 use native.Mathlib.Omega.{arith}
 use lib.Dec.{eqb}
-use lib.ListN.{length, getD, set, replicate, length-replicate, getD-replicate}
+use lib.ListN.{getD, set, replicate}
 use lib.Seq.{ext-getD}
 use borrow.Author.Tests.{eq-eqb, ne-eqb, eqb-true}
 use Rattle.sets.specs.Set.{has}
@@ -14,9 +15,10 @@ use Rattle.tree.specs.Class.{noWeight, parentOf, weightOf, isClass, isChild}
 use Rattle.tree.specs.Rules.{Light}
 use Rattle.tree.specs.Sum.{sumTo}
 use Rattle.tree.proofs.Classes.{both-true, class-in, class-range}
-use Rattle.tree.proofs.Sums.{sum-none, sum-bound, sum-zero, sum-part, sum-above}
+use Rattle.tree.proofs.Sums.{sum-none, sum-bound, sum-zero, sum-part}
+use Rattle.tree.proofs.Down.{SumsAbove, sums-start, sums-more}
 use Rattle.state.specs.Queue.{table}
-use Rattle.state.proofs.Tables.{table-length, table-at, table-same, table-set}
+use Rattle.state.proofs.Tables.{table-length, table-at, table-same}
 use Rattle.round.specs.Active.{activeChild, activeWeight, weightSum, weightSums}
 
 -- no term is above the heaviest weight
@@ -63,16 +65,23 @@ abbrev pub sumAbove : Tree → ℕ → ℕ → ℕ → Weight
 sumAbove t active k p = record { 0 = sumTo (activeWeight t active p) (t .count) - sumTo (activeWeight t active p) k }
 
 module _ (t : Tree) (active : ℕ) where
+  -- the table of them is the sums of a pass downward, and the only one
+  table-sums : (k : ℕ) → SumsAbove (t .count) 64 (activeWeight t active) (table (sumAbove t active k) 64) k
+  table-sums k = record {
+    many = table-length (sumAbove t active k) 64;
+    at = λ p u. ap (λ (w : Weight). w .0) (table-at (sumAbove t active k) noWeight 64 p u);
+  }
+
+  sums-table : (sums : List Weight) (k : ℕ) → SumsAbove (t .count) 64 (activeWeight t active) sums k → sums ≡ table (sumAbove t active k) 64
+  sums-table sums k s =
+      ext-getD noWeight sums (table (sumAbove t active k) 64) (s .many ∙ sym (table-length (sumAbove t active k) 64))
+      (λ p m.
+      let u : p < 64 = omega (arith, s .many) in
+      ap (λ (n : ℕ). record { 0 = n }) (s .at p u) ∙ sym (table-at (sumAbove t active k) noWeight 64 p u))
+
   -- at first nothing
   pub sums-none : replicate 64 noWeight ≡ table (sumAbove t active (t .count)) 64
-  sums-none =
-      ext-getD noWeight (replicate 64 noWeight) (table (sumAbove t active (t .count)) 64)
-      (length-replicate 64 noWeight ∙ sym (table-length (sumAbove t active (t .count)) 64))
-      (λ k m.
-      let u : k < 64 = omega (arith, length-replicate 64 noWeight) in
-      getD-replicate 64 k noWeight noWeight u
-      ∙ ap (λ (n : ℕ). record { 0 = n }) (omega arith)
-      ∙ sym (table-at (sumAbove t active (t .count)) noWeight 64 k u))
+  sums-none = sums-table (replicate 64 noWeight) (t .count) (sums-start (t .count) 64 (activeWeight t active))
 
   -- at last all of it
   pub sums-all : table (sumAbove t active 0) 64 ≡ weightSums t active
@@ -95,13 +104,10 @@ module _ (t : Tree) (active : ℕ) where
         → x .0 ≡ getD (table (sumAbove t active i) 64) (parentOf t i) noWeight .0 + cond (has active i) (weightOf t i) 0
         → set (table (sumAbove t active i) 64) (parentOf t i) x ≡ table (sumAbove t active (i - 1)) 64
     sums-step x e =
-        let p = parentOf t i in
-        let split : (k : ℕ) → sumAbove t active (i - 1) k .0 ≡ sumAbove t active i k .0 + activeWeight t active k i =
-        λ k. sum-above (activeWeight t active k) (t .count) i l m
-        in
-        sym (table-set (sumAbove t active i) (sumAbove t active (i - 1)) 64 p x low
-        (ap (λ (n : ℕ). record { 0 = n }) (omega (arith, split p, active-own t active i, e, above-at)))
-        (λ k ne. ap (λ (n : ℕ). record { 0 = n }) (omega (arith, split k, active-other t active k i (λ z. ne (sym z))))))
+        sums-table _ (i - 1)
+        (sums-more (t .count) 64 (activeWeight t active) (table (sumAbove t active i) 64) i (parentOf t i) (cond (has active i)
+        (weightOf t i) 0) x
+        (table-sums i) l m low (active-own t active i) (λ k ne. active-other t active k i ne) e)
 
     -- which fits its number
     pub sums-fit : Light t → getD (table (sumAbove t active i) 64) (parentOf t i) noWeight .0 + weightOf t i < 2 ^ 32

@@ -1,4 +1,3 @@
-pub mod Flags
 pub mod Active
 pub mod Totals
 pub mod Views

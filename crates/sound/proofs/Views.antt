@@ -2,9 +2,9 @@
 use mathlib.Core.Bool.{Bool, true, false}
 use mathlib.Core.List.{List}
 use mathlib.Core.Path.{_≡_, refl, sym, ap, _∙_}
-use Prim.Native.Nat.{ℕ, _+_, _*_, _%_, _^_, _≤_, _<_}
+use Prim.Native.Nat.{ℕ, zero, suc, _+_, _*_, _%_, _^_, _≤_, _<_}
 use native.Mathlib.Nat.{add-zero}
-use native.Mathlib.Decide.{decLt}
+use native.Mathlib.Decide.{decLt, decLe}
 use native.Mathlib.Omega.{arith}
 use lib.ListN.{length, getD}
 use Rattle.checks.proofs.Laws.{not-true-and-false}
@@ -13,12 +13,13 @@ use Rattle.sets.proofs.Laws.{has-past}
 use Rattle.tree.specs.Class.{isLeaf}
 use Rattle.tree.specs.Rules.{PlanRules}
 use Rattle.tree.specs.Size.{roundSize}
-use Rattle.tree.proofs.Classes.{class-in, class-range}
-use Rattle.tree.proofs.Rules.{few-classes}
+use Rattle.tree.proofs.Classes.{class-in, class-range, class-past, root-no-class}
+use Rattle.tree.proofs.Rules.{few-classes, parent-lower}
 use Rattle.state.proofs.Queues.{queue-at}
 use Rattle.state.proofs.Meaning.{meaning-queue, meaning-held, meaning-first}
 use Rattle.state.specs.declared.Link.{Link}
 use Rattle.state.specs.declared.Packet.{Packet}
+use Rattle.state.specs.Account.{balanceOf, residualOf}
 use Rattle.state.specs.Queue.{noPacket, startOf, heldOf, packetAt}
 use Rattle.state.specs.State.{meaning, queueAt}
 use Rattle.sound.specs.Below.{Above}
@@ -32,8 +33,8 @@ unfolding viewOf
 view-held l parents i v u = (u, v .start, go (isLeaf (l .tree) i) refl)
   where
     go : (b : Bool) → isLeaf (l .tree) i ≡ b → heldOf l i ≤ 32
-    go true e = v .few e
-    go false e = omega (arith, v .other e)
+    go true e = v .leaf e .few
+    go false e = omega (arith, v .other e .none)
 
 -- ---- from the numbers to soundness
 
@@ -83,6 +84,25 @@ module _ (l : Link) (rules : PlanRules (l .tree)) where
           (record { child′ = w .0; class = class-in (l .tree) (w .0) (w .1) (w .2); parent = w .4; is-active = w .3 }))
           a)
 
+  -- a number past the last class is no parent and no leaf, nor is the root a leaf
+  past-parent : (i : ℕ) → l .tree .count < i → has parents i ≡ false
+  unfolding parents
+  past-parent i h = go (has (parentsTo (l .tree) (l .active) (l .tree .count)) i) refl
+    where
+      go : (b : Bool) → has (parentsTo (l .tree) (l .active) (l .tree .count)) i ≡ b → has (parentsTo (l .tree) (l .active)
+          (l .tree .count)) i ≡ false
+      go false p = p
+      go true p =
+          let w = parents-only (l .tree) (l .active) (l .tree .count) i p in
+          absurd (omega (arith, parent-lower (l .tree) (w .0) rules (class-in (l .tree) (w .0) (w .1) (w .2)), w .2, w .4))
+
+  past-leaf : (i : ℕ) → i < 64 → l .tree .count < i → isLeaf (l .tree) i ≡ false
+  past-leaf i u h = rules .unset .at i u .past (class-past (l .tree) i h) .leaf
+
+  leaf-low : (i : ℕ) → isLeaf (l .tree) i ≡ true → 1 ≤ i
+  leaf-low zero f = absurd (not-true-and-false f (rules .unset .at 0 (omega arith) .past (root-no-class (l .tree)) .leaf))
+  leaf-low (suc i) f = omega arith
+
   -- the first packet of a class, as the numbers have it
   first-is : (i : ℕ) → i < 64 → 1 ≤ heldOf l i → getD (queueAt (meaning l) i) 0 noPacket .length ≡ getD (l .lengths) (i * 32 + startOf l i % 32) 0
   first-is i u h =
@@ -97,37 +117,51 @@ module _ (l : Link) (rules : PlanRules (l .tree)) where
   unfolding viewOf parents
   right-to-sound size place adds word right =
       let view : (i : ℕ) → i < 64 → ViewRight (viewOf l (parentsTo (l .tree) (l .active) (l .tree .count)) i) = λ i u. right .at i u .view in
-      let by = child-to-leaf (l .tree) (l .active) rules (by-child (λ i u. view i u .above) (few-classes (l .tree) rules)) in
+      let by = child-to-leaf (l .tree) (l .active) rules (by-child (λ i u w f. view i u .other f .above) (few-classes (l .tree) rules)) in
       record {
         state =
             record {
               fits = record { tree = rules; size = size };
               holds =
                   λ i u. record {
-                    few = λ f. rw (meaning-held l i u) (view i u .few f);
+                    few = λ f. rw (meaning-held l i u) (view i u .leaf f .few);
                     range =
                         λ f j h.
                         let h′ : j < heldOf l i = rw (meaning-held l i u) at h in
                         rw (packet-is i j u h′) (record { low = right .at i u .lengths .low j h′; high = right .at i u .lengths .high j h′ });
-                    other = λ f. rw (meaning-held l i u) (view i u .other f);
+                    other = λ f. rw (meaning-held l i u) (view i u .other f .none);
                   };
-              waiting = λ i u. record { waits = λ f a. omega (arith, meaning-held l i u, view i u .waits f a) };
+              waiting = λ i u. record { waits = λ f a. omega (arith, meaning-held l i u, view i u .leaf f .waits a) };
               past = record { word = word; past = λ i h. none i h (decLt i 64) };
               above = λ i u. record { leaf-below = by .has-leaf i; active = by .from-leaf i };
-              zero = λ i u. record { balance = view i u .balance; residual = view i u .residual; leaf = view i u .leaf };
+              zero = λ i u. record {
+                balance = λ p a. balance i u p a (isLeaf (l .tree) i) refl;
+                residual = λ p a. residual i u p a (isLeaf (l .tree) i) refl;
+                leaf = λ f. view i u .leaf f .residual;
+              };
               adds = adds;
               place = place;
               behind =
                   λ i u. record {
-                    lacks = λ f a h. rw (first-is i u (view i u .waits f a)) (view i u .lacks f a h);
+                    lacks = λ f a h. rw (first-is i u (view i u .leaf f .waits a)) (view i u .leaf f .lacks a h);
                   };
             };
         starts = λ i u. record { start = view i u .start };
       }
     where
       none : (i : ℕ) → l .tree .count < i → Dec (i < 64) → has (l .active) i ≡ false
-      none i h (yes u) = right .at i u .view .past h
+      none i h (yes u) = right .at i u .view .other (past-leaf i u h) .above ∙ past-parent i h
       none i h (no u) = has-past (l .active) i word (omega arith)
+
+      balance : (i : ℕ) (u : i < 64) → 1 ≤ i → has (l .active) i ≡ false → (b : Bool) → isLeaf (l .tree) i ≡ b → balanceOf
+          (l .accounts) i ≡ 0
+      balance i u p a true f = right .at i u .view .leaf f .balance a
+      balance i u p a false f = right .at i u .view .other f .balance p a
+
+      residual : (i : ℕ) (u : i < 64) → 1 ≤ i → has (l .active) i ≡ false → (b : Bool) → isLeaf (l .tree) i ≡ b → residualOf
+          (l .accounts) i ≡ 0
+      residual i u p a true f = right .at i u .view .leaf f .residual
+      residual i u p a false f = right .at i u .view .other f .residual p a
 
   -- ---- from soundness to the numbers
 
@@ -153,23 +187,32 @@ module _ (l : Link) (rules : PlanRules (l .tree)) where
           go true f = rw (packet-is i j u h) at (st .holds i u .range f j (rw (meaning-held l i u) h))
           go false f = absurd (omega (arith, st .holds i u .other f, meaning-held l i u))
 
+      same : (i : ℕ) → isLeaf (l .tree) i ≡ false → Dec (i ≤ l .tree .count) → has (l .active) i ≡ has (parentsTo (l .tree) (l .active)
+          (l .tree .count)) i
+      same i f (yes u) = by-numbers by i u f
+      same i f (no u) = st .past .past i (omega arith) ∙ sym (past-parent i (omega arith))
+
       at : (i : ℕ) → i < 64 → ClassRight l (parentsTo (l .tree) (l .active) (l .tree .count)) i
       at i u = record {
         view =
             record {
               start = s .starts i u .start;
-              few = λ f. rw (meaning-held l i u) at (st .holds i u .few f);
-              other = λ f. rw (meaning-held l i u) at (st .holds i u .other f);
-              waits = λ f a. rw (meaning-held l i u) at (st .waiting i u .waits f a);
-              past = st .past .past i;
-              above = by-numbers by i;
-              balance = st .zero i u .balance;
-              residual = st .zero i u .residual;
-              leaf = st .zero i u .leaf;
-              lacks =
-                  λ f a h.
-                  let w : 1 ≤ heldOf l i = rw (meaning-held l i u) at (st .waiting i u .waits f a) in
-                  rw (first-is i u w) at (st .behind i u .lacks f a h);
+              leaf = λ f. record {
+                few = rw (meaning-held l i u) at (st .holds i u .few f);
+                waits = λ a. rw (meaning-held l i u) at (st .waiting i u .waits f a);
+                balance = λ a. st .zero i u .balance (leaf-low i f) a;
+                residual = st .zero i u .leaf f;
+                lacks =
+                    λ a h.
+                    let w : 1 ≤ heldOf l i = rw (meaning-held l i u) at (st .waiting i u .waits f a) in
+                    rw (first-is i u w) at (st .behind i u .lacks f a h);
+              };
+              other = λ f. record {
+                none = rw (meaning-held l i u) at (st .holds i u .other f);
+                above = same i f (decLe i (l .tree .count));
+                balance = st .zero i u .balance;
+                residual = st .zero i u .residual;
+              };
             };
         lengths = record { low = λ j h. range i u j h .low; high = λ j h. range i u j h .high };
       }

@@ -2,7 +2,7 @@
 use mathlib.Core.Bool.{true, false, cond}
 use mathlib.Core.List.{List}
 use mathlib.Core.Path.{_≡_}
-use Prim.Native.Nat.{ℕ, zero, suc, _+_, _*_, _%_, _≤_, _<_}
+use Prim.Native.Nat.{ℕ, zero, suc, _+_, _*_, _%_, _≤_, _<_, min}
 use lib.ListN.{getD}
 use Rattle.sets.specs.Set.{has, with}
 use Rattle.units.specs.Cost.{costOf}
@@ -23,7 +23,6 @@ parentsTo t active (suc n) = cond (has active (suc n)) (with (parentsTo t active
 unfoldable pub viewOf : Link → ℕ → ℕ → View
 viewOf l parents i = record {
   class = i;
-  count = l .tree .count;
   place = l .place;
   leaf = isLeaf (l .tree) i;
   active = has (l .active) i;
@@ -34,18 +33,25 @@ viewOf l parents i = record {
   account = accountOf (l .accounts) i;
 }
 
--- the clauses of soundness at one class, in its numbers
-pub record ViewRight (v : View) : Type 0 where
-  pub start : v .start ≤ 31
-  pub few : v .leaf ≡ true → v .held ≤ 32
-  pub other : v .leaf ≡ false → v .held ≡ 0
-  pub waits : v .leaf ≡ true → v .active ≡ true → 1 ≤ v .held
-  pub past : v .count < v .class → v .active ≡ false
-  pub above : v .class ≤ v .count → v .leaf ≡ false → v .active ≡ v .parent
+-- the clauses of soundness at a leaf, in its numbers
+pub record LeafRight (v : View) : Type 0 where
+  pub few : v .held ≤ 32
+  pub waits : v .active ≡ true → 1 ≤ v .held
+  pub balance : v .active ≡ false → v .account .balance .0 ≡ 0
+  pub residual : v .account .residual .0 ≡ 0
+  pub lacks : v .active ≡ true → v .class < v .place → v .account .balance .0 < costOf (v .first)
+
+-- and at any other number
+pub record OtherRight (v : View) : Type 0 where
+  pub none : v .held ≡ 0
+  pub above : v .active ≡ v .parent
   pub balance : 1 ≤ v .class → v .active ≡ false → v .account .balance .0 ≡ 0
   pub residual : 1 ≤ v .class → v .active ≡ false → v .account .residual .0 ≡ 0
-  pub leaf : v .leaf ≡ true → v .account .residual .0 ≡ 0
-  pub lacks : v .leaf ≡ true → v .active ≡ true → v .class < v .place → v .account .balance .0 < costOf (v .first)
+
+pub record ViewRight (v : View) : Type 0 where
+  pub start : v .start ≤ 31
+  pub leaf : v .leaf ≡ true → LeafRight v
+  pub other : v .leaf ≡ false → OtherRight v
 
 -- the packet at a place is within its range, where one waits there: the place's turn is one of those held
 pub record PlaceInRange (length turn held longest : ℕ) : Type 0 where
@@ -64,3 +70,7 @@ pub record ClassRight (l : Link) (parents i : ℕ) : Type 0 where
 
 pub record ClassesRight (l : Link) (parents : ℕ) : Type 0 where
   pub at : (i : ℕ) → i < 64 → ClassRight l parents i
+
+-- what an account holds, where neither its balance nor its residual counts for more than one above the size
+unfoldable pub cappedHeld : ℕ → Account → ℕ
+cappedHeld size a = min (a .balance .0) (size + 1) + min (a .residual .0) (size + 1)

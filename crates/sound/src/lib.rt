@@ -1,14 +1,16 @@
 // Whether a link record, any record of numbers whatever, is sound: the list of document 01, "The link's state", decided with no overflow and no fault.
 // Serves demand 1: refusal 11 rests on it.
 ghost use mathlib.Core.Path.{_≡_};
-ghost use mathlib.Core.Bool.{true, false};
-ghost use Prim.Native.Nat.{_^_, _≤_, _<_};
+ghost use mathlib.Core.List.{List};
+ghost use Prim.Native.Nat.{ℕ, _+_, _^_, _≤_, _<_, min};
 ghost use Rattle.tree.specs.Size.{mostSize};
 ghost use Rattle.checks.specs.Check.{Exactly};
-ghost use Rattle.units.specs.Cost.{costOf};
 ghost use Rattle.tree.specs.Rules.{PlanRules};
+ghost use Rattle.units.specs.declared.Bytes.{Bytes};
+ghost use Rattle.state.specs.State.{linkOf};
 ghost use Rattle.sound.specs.Sound.{total, SoundLink};
-ghost use Rattle.sound.specs.Steps.{parentsTo, ViewRight, PlaceInRange, LengthsRight, ClassesRight};
+ghost use Rattle.sound.specs.Steps.{parentsTo, cappedHeld};
+ghost use Rattle.sound.specs.Steps.{LeafRight, OtherRight, ViewRight, PlaceInRange, LengthsRight, ClassesRight};
 use state::Account;
 use state::Link;
 use tree::Tree;
@@ -17,7 +19,6 @@ use units::Bytes;
 // The numbers of one class that the clauses of soundness speak of.
 pub struct View {
     pub class: usize,
-    pub count: usize,
     pub place: usize,
     pub leaf: bool,
     pub active: bool,
@@ -44,90 +45,22 @@ fn parents_of(tree: Tree, active: u64) -> u64
     parents
 }
 
-// Each leaf holds 0 to 32 packets, and no other class holds any.
-fn holds_right(leaf: bool, held: u8) -> bool
-    ensures { λ r. ⌜ Exactly r ((leaf ≡ true → held ≤ 32) × (leaf ≡ false → held ≡ 0)) ⌝ }
+// The clauses of soundness at a leaf: it holds 0 to 32 packets, and one where it is active; R = 0, and B = 0 where it is not active; and an
+// active one that is numbered below the place has a balance smaller than its first packet.
+fn leaf_right(v: View) -> bool
+    ensures { λ r. ⌜ Exactly r (LeafRight v) ⌝ }
 {
-    if leaf {
-        return held <= Link::PLACES as u8;
-    }
-    held == 0
-}
-
-// Active leaves hold a packet.
-fn active_holds(leaf: bool, active: bool, held: u8) -> bool
-    ensures { λ r. ⌜ Exactly r (leaf ≡ true → active ≡ true → 1 ≤ held) ⌝ }
-{
-    if !leaf {
-        return true;
-    }
-    if !active {
-        return true;
-    }
-    1 <= held
-}
-
-// No number past the last class is active.
-fn none_past(class: usize, count: usize, active: bool) -> bool
-    ensures { λ r. ⌜ Exactly r (count < class → active ≡ false) ⌝ }
-{
-    if class <= count {
-        return true;
-    }
-    !active
-}
-
-// A class above is active exactly when a child of it is.
-fn above_active(v: View) -> bool
-    ensures { λ r. ⌜ Exactly r (v .class ≤ v .count → v .leaf ≡ false → v .active ≡ v .parent) ⌝ }
-{
-    if v.count < v.class {
-        return true;
-    }
-    if v.leaf {
-        return true;
-    }
-    if v.active {
-        return v.parent;
-    }
-    !v.parent
-}
-
-// Every inactive class except the root has B = R = 0.
-fn inactive_zero(class: usize, active: bool, account: Account) -> bool
-    ensures { λ r. ⌜ Exactly r ((1 ≤ class → active ≡ false → account .balance .0 ≡ 0) × (1 ≤ class → active ≡ false → account .residual .0 ≡ 0)) ⌝ }
-{
-    if class < 1 {
-        return true;
-    }
-    if active {
-        return true;
-    }
-    if account.balance.0 != 0 {
+    if (Link::PLACES as u8) < v.held {
         return false;
     }
-    account.residual.0 == 0
-}
-
-// Leaves have R = 0.
-fn leaf_zero(leaf: bool, account: Account) -> bool
-    ensures { λ r. ⌜ Exactly r (leaf ≡ true → account .residual .0 ≡ 0) ⌝ }
-{
-    if !leaf {
-        return true;
-    }
-    account.residual.0 == 0
-}
-
-// An active leaf numbered below the place has a balance smaller than its first packet.
-fn behind_place(v: View) -> bool
-    ensures { λ r. ⌜ Exactly r (v .leaf ≡ true → v .active ≡ true → v .class < v .place → v .account .balance .0 < costOf (v .first)) ⌝ }
-{
-    if !v.leaf {
-        return true;
+    if v.account.residual.0 != 0 {
+        return false;
     }
     if !v.active {
-        return true;
+        return v.account.balance.0 == 0;
+    }
+    if v.held < 1 {
+        return false;
     }
     if v.place <= v.class {
         return true;
@@ -136,33 +69,39 @@ fn behind_place(v: View) -> bool
     v.account.balance.0 < units::cost(first).0
 }
 
-// The clauses of soundness at one class, but for the range of its packets.
+// The clauses at any other number: it holds no packet, is active exactly when a child is, and inactive it has B = R = 0, but for the root.
+fn other_right(v: View) -> bool
+    ensures { λ r. ⌜ Exactly r (OtherRight v) ⌝ }
+{
+    if v.held != 0 {
+        return false;
+    }
+    if v.active {
+        return v.parent;
+    }
+    if v.parent {
+        return false;
+    }
+    if v.class < 1 {
+        return true;
+    }
+    if v.account.balance.0 != 0 {
+        return false;
+    }
+    v.account.residual.0 == 0
+}
+
+// The clauses of soundness at one class number, but for the range of its packets.
 fn view_is_right(v: View) -> bool
     ensures { λ r. ⌜ Exactly r (ViewRight v) ⌝ }
 {
-    let account = v.account;
     if 31 < v.start {
         return false;
     }
-    if !holds_right(v.leaf, v.held) {
-        return false;
+    if v.leaf {
+        return leaf_right(v);
     }
-    if !active_holds(v.leaf, v.active, v.held) {
-        return false;
-    }
-    if !none_past(v.class, v.count, v.active) {
-        return false;
-    }
-    if !above_active(v) {
-        return false;
-    }
-    if !inactive_zero(v.class, v.active, account) {
-        return false;
-    }
-    if !leaf_zero(v.leaf, account) {
-        return false;
-    }
-    behind_place(v)
+    other_right(v)
 }
 
 // 1 where a packet that waits is outside its range, and 0 where it is within or none waits: the turn of its place is past those held.
@@ -181,11 +120,14 @@ fn outside(length: u16, turn: u16, held: u16, longest: u16) -> u16
     0
 }
 
-// The waiting packets of a class are within its range: place by place, without an early end.
+// The waiting packets of a class, if any, are within its range: place by place, without an early end.
 fn lengths_right(lengths: &[u16; 2048], class: usize, start: u16, held: u16, longest: u16) -> bool
     requires { ⌜ (class < 64) × (start ≤ 31) × (held ≤ 32) ⌝ }
     ensures { λ r. ⌜ Exactly r (LengthsRight (now (lengths .entry)) class start held longest) ⌝ }
 {
+    if held == 0 {
+        return true;
+    }
     let mut wrong: u16 = 0;
     let mut k: u16 = 0;
     while k < 32 {
@@ -197,33 +139,40 @@ fn lengths_right(lengths: &[u16; 2048], class: usize, start: u16, held: u16, lon
 }
 
 // Every class right, in its numbers and its packets.
-fn classes_right(link: Link, parents: u64) -> bool
-    ensures { λ r. ⌜ Exactly r (ClassesRight link parents) ⌝ }
+fn classes_right(
+    tree: Tree,
+    active: u64,
+    place: usize,
+    accounts: [Account; Link::CLASSES],
+    start: [u8; Link::CLASSES],
+    held: [u8; Link::CLASSES],
+    lengths: &[u16; 2048],
+    parents: u64,
+) -> bool
+    ensures { λ r. ⌜ ((size : Bytes) (tags : List ℕ) → Exactly r (ClassesRight (linkOf tree size active place accounts start held (now (lengths .entry)) tags) parents)) ⌝ }
 {
-    let tree = link.tree;
     let mut i: usize = 0;
     while i < Link::CLASSES {
-        let start = link.start[i];
-        let held = link.held[i];
-        let account = link.accounts[i];
-        let at = start as usize;
-        let first = link.lengths[i * Link::PLACES + at % Link::PLACES];
+        let s = start[i];
+        let h = held[i];
+        let account = accounts[i];
+        let at = s as usize;
+        let first = lengths[i * Link::PLACES + at % Link::PLACES];
         let v = View {
             class: i,
-            count: tree.count,
-            place: link.place,
+            place,
             leaf: sets::has(tree.leaves, i),
-            active: sets::has(link.active, i),
+            active: sets::has(active, i),
             parent: sets::has(parents, i),
-            start,
-            held,
+            start: s,
+            held: h,
             first,
             account,
         };
         if !view_is_right(v) {
             return false;
         }
-        if !lengths_right(&link.lengths, i, start as u16, held as u16, tree.longest[i]) {
+        if !lengths_right(lengths, i, s as u16, h as u16, tree.longest[i]) {
             return false;
         }
         i += 1;
@@ -231,36 +180,82 @@ fn classes_right(link: Link, parents: u64) -> bool
     true
 }
 
-// Neither the balance nor the residual is above the size.
-fn is_small(account: Account, size: Bytes) -> bool
-    ensures { λ r. ⌜ Exactly r ((account .balance .0 ≤ size .0) × (account .residual .0 ≤ size .0)) ⌝ }
+// A byte count, or one more than the size where it is above that.
+fn capped(bytes: Bytes, size: Bytes) -> Bytes
+    requires { ⌜ size .0 ≤ mostSize ⌝ }
+    ensures { λ r. ⌜ r .0 ≡ min (bytes .0) (size .0 + 1) ⌝ }
 {
-    if size.0 < account.balance.0 {
-        return false;
+    if bytes.0 <= size.0 {
+        return bytes;
     }
-    account.residual.0 <= size.0
+    Bytes(size.0 + 1)
 }
 
-// All B and R add to the size: one above it ends the sum.
+// What an account holds, its balance and its residual each capped.
+fn capped_held(account: Account, size: Bytes) -> Bytes
+    requires { ⌜ size .0 ≤ mostSize ⌝ }
+    ensures { λ r. ⌜ r .0 ≡ cappedHeld (size .0) account ⌝ }
+{
+    let balance = account.balance;
+    let residual = account.residual;
+    capped(balance, size).plus(capped(residual, size))
+}
+
+// All B and R add to the size: capped, so that no sum is too large for its number, and one above the size still makes the sum too large.
 fn adds_up(accounts: [Account; Link::CLASSES], size: Bytes) -> bool
     requires { ⌜ size .0 ≤ mostSize ⌝ }
     ensures { λ r. ⌜ Exactly r (total accounts ≡ size .0) ⌝ }
 {
     let root = accounts[0];
-    if !is_small(root, size) {
-        return false;
-    }
-    let mut sum = root.held();
+    let mut sum = capped_held(root, size);
     let mut i: usize = 1;
     while i < Link::CLASSES {
         let a = accounts[i];
-        if !is_small(a, size) {
-            return false;
-        }
-        sum = sum.plus(a.held());
+        sum = sum.plus(capped_held(a, size));
         i += 1;
     }
     sum.0 == size.0
+}
+
+// Whether the link that these parts make up is sound; its tags have no say.
+pub fn is_sound_of(
+    tree: Tree,
+    size: Bytes,
+    active: u64,
+    place: usize,
+    accounts: [Account; Link::CLASSES],
+    start: [u8; Link::CLASSES],
+    held: [u8; Link::CLASSES],
+    lengths: &[u16; 2048],
+) -> bool
+    ensures { λ r. ⌜ ((tags : List ℕ) → Exactly r (SoundLink (linkOf tree size active place accounts start held (now (lengths .entry)) tags))) ⌝ }
+{
+    let plan = tree::plan_size(tree);
+    if !plan.right {
+        return false;
+    }
+    if plan.size.0 != size.0 {
+        return false;
+    }
+    if place < 1 {
+        return false;
+    }
+    if Link::CLASSES < place {
+        return false;
+    }
+    if !adds_up(accounts, size) {
+        return false;
+    }
+    classes_right(
+        tree,
+        active,
+        place,
+        accounts,
+        start,
+        held,
+        lengths,
+        parents_of(tree, active),
+    )
 }
 
 // Whether a link is sound.
@@ -270,20 +265,17 @@ pub fn is_sound(link: Link) -> bool
     let tree = link.tree;
     let size = link.size;
     let accounts = link.accounts;
-    if !tree::is_plan(tree) {
-        return false;
-    }
-    if tree::round_size(tree).0 != size.0 {
-        return false;
-    }
-    if link.place < 1 {
-        return false;
-    }
-    if Link::CLASSES < link.place {
-        return false;
-    }
-    if !adds_up(accounts, size) {
-        return false;
-    }
-    classes_right(link, parents_of(tree, link.active))
+    let start = link.start;
+    let held = link.held;
+    let lengths = link.lengths;
+    is_sound_of(
+        tree,
+        size,
+        link.active,
+        link.place,
+        accounts,
+        start,
+        held,
+        &lengths,
+    )
 }

@@ -9,7 +9,7 @@ use Rattle.tree.specs.Class.{parentOf, weightOf, isClass, isChild, child
 use Rattle.checks.specs.Check.{firstBroken}
 use Rattle.checks.specs.declared.Verdict.the-variants.{Passed}
 use Rattle.checks.proofs.Laws.{passed-parts}
-use Rattle.tree.specs.Rules.{badParent, badWeight, badLongest, childless, tooHeavy, classChecks, closingOf, Light}
+use Rattle.tree.specs.Rules.{badParent, badWeight, badLongest, childless, tooHeavy, classChecks, closingOf}
 
 -- both tests, or one of them
 pub both-true : (a b : Bool) → (a && b) ≡ true → (a ≡ true) × (b ≡ true)
@@ -48,9 +48,9 @@ cond-le : (b : Bool) (x m : ℕ) → x ≤ m → cond b x 0 ≤ m
 cond-le true x m h = h
 cond-le false x m h = zero-le
 
-pub child-light : (t : Tree) (p i : ℕ) → Light t → 1 ≤ i → i ≤ t .count → childWeight t p i ≤ 1_000_000
+pub child-light : (t : Tree) (p i m : ℕ) → weightOf t i ≤ m → childWeight t p i ≤ m
 unfolding childWeight
-child-light t p i l a b = cond-le (isChild t p i) (weightOf t i) 1_000_000 (l .light i (class-in t i a b))
+child-light t p i m h = cond-le (isChild t p i) (weightOf t i) m h
 
 -- what a class adds to its parent's children, and to any other number's
 pub child-own : (t : Tree) (i : ℕ) → childWeight t (parentOf t i) i ≡ weightOf t i

@@ -1,6 +1,6 @@
 -- Sums of what each class adds to its parent, all made in one pass from the highest class down. Demands 1 to 3.
 use mathlib.Core.List.{List}
-use mathlib.Core.Path.{_≡_, sym, ap, _∙_}
+use mathlib.Core.Path.{_≡_, sym, ap, subst, _∙_}
 use Prim.Native.Nat.{ℕ, _+_, _-_, _≤_, _<_}
 use native.Mathlib.Decide.{ℕ-discrete}
 use native.Mathlib.Omega.{arith}
@@ -10,6 +10,14 @@ use Rattle.units.specs.declared.Weight.{Weight}
 use Rattle.tree.specs.Class.{noWeight}
 use Rattle.tree.specs.Sum.{sumTo}
 use Rattle.tree.proofs.Sums.{sum-none, sum-above}
+
+-- what holds of the classes after class i, and of class i
+pub after-more : (P : ℕ → Type 0) (n i : ℕ) → ((k : ℕ) → i < k → k ≤ n → P k) → P i → (k : ℕ) → i - 1 < k → k ≤ n → P k
+after-more P n i all own k l u = go (ℕ-discrete i k)
+  where
+    go : Dec (i ≡ k) → P k
+    go (yes e) = subst P e own
+    go (no e) = all k (omega arith) u
 
 -- the sums of m numbers hold what the classes above class k, of n classes, add to them; class i adds f p i to number p
 pub record SumsAbove (n m : ℕ) (f : ℕ → ℕ → ℕ) (sums : List Weight) (k : ℕ) : Type 0 where

@@ -2,8 +2,8 @@ pub mod Sums
 pub mod Down
 pub mod Classes
 pub mod Rules
-pub mod Numbers
 pub mod Below
 pub mod ByParent
+pub mod Children
 pub mod AfterEnd
 pub mod Growth

@@ -36,9 +36,12 @@ leaf-number t i r leaf = go (decLt i 64)
     go (no u) = absurd (not-true-and-false leaf (has-past (t .leaves) i (r .unset .word) (omega arith)))
 
 -- 4: the parent is lower, and no leaf
-pub parent-lower : (t : Tree) (i : ℕ) → PlanRules t → isClass t i ≡ true → parentOf t i < i
+pub lower-parent : (t : Tree) (i : ℕ) → badParent t i ≡ false → parentOf t i < i
 unfolding badParent
-parent-lower t i r h = leb-false i (parentOf t i) (neither-true (leb i (parentOf t i)) _ (r .each .parents i h) .0)
+lower-parent t i e = leb-false i (parentOf t i) (neither-true (leb i (parentOf t i)) _ e .0)
+
+pub parent-lower : (t : Tree) (i : ℕ) → PlanRules t → isClass t i ≡ true → parentOf t i < i
+parent-lower t i r h = lower-parent t i (r .each .parents i h)
 
 pub parent-no-leaf : (t : Tree) (i : ℕ) → PlanRules t → isClass t i ≡ true → isLeaf t (parentOf t i) ≡ false
 unfolding badParent
@@ -73,12 +76,12 @@ rules-light t r = record {
   light = λ i h. weight-range t i (r .each .weights i h) .1;
 }
 
-pub longest-cost-bound : (t : Tree) (i : ℕ) → PlanRules t → 1 ≤ i → i ≤ t .count → longestCost t i ≤ mostCost
+pub longest-cost-bound : (t : Tree) (i : ℕ) → badLongest t i ≡ false → longestCost t i ≤ mostCost
 unfolding longestCost
-longest-cost-bound t i r l u = go (isLeaf t i) refl
+longest-cost-bound t i r = go (isLeaf t i) refl
   where
     go : (b : Bool) → isLeaf t i ≡ b → cond b (costOf (longestOf t i)) 0 ≤ mostCost
-    go true e = cost-ceiling (longestOf t i) (longest-range t i (r .each .longests i (class-in t i l u)) e .1)
+    go true e = cost-ceiling (longestOf t i) (longest-range t i r e .1)
     go false e = zero-le
 
 -- the ceiling of document 01
@@ -93,7 +96,7 @@ pub longest-ceiling : (t : Tree) → PlanRules t → allLongest t ≤ 63 * mostC
 unfolding allLongest
 longest-ceiling t r =
     let few = few-classes t r in
-    let sum = sum-bound (longestCost t) mostCost (t .count) (λ i l u. longest-cost-bound t i r l u) in
+    let sum = sum-bound (longestCost t) mostCost (t .count) (λ i l u. longest-cost-bound t i (r .each .longests i (class-in t i l u))) in
     omega arith
 
 pub size-ceiling : (t : Tree) → PlanRules t → roundSize t ≤ mostSize

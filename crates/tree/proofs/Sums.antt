@@ -137,6 +137,23 @@ sum-above f n i l u =
     let e : i + 1 - 1 ≡ i = omega arith in
     omega (arith, rw e at (sum-step f i l), sum-grows f i n u)
 
+-- what comes after term i, none of it above m
+pub sum-rest : (f : ℕ → ℕ) (m n i : ℕ) → i ≤ n → ((k : ℕ) → i < k → k ≤ n → f k ≤ m) → sumTo f n ≤ sumTo f i + n * m
+unfolding sumTo
+sum-rest f m zero i u h =
+    let e : i ≡ 0 = omega arith in
+    rw e (omega arith)
+sum-rest f m (suc n) i u h = go (decLe i n) (λ v. sum-rest f m n i v (λ k a b. h k a (omega arith)))
+  where
+    open-suc : suc n * m ≡ n * m + m
+    open-suc = suc-mul n m
+
+    go : Dec (i ≤ n) → (i ≤ n → sumTo f n ≤ sumTo f i + n * m) → sumTo f n + f (suc n) ≤ sumTo f i + suc n * m
+    go (yes v) ih = omega (arith, ih v, open-suc, h (suc n) (omega arith) (omega arith))
+    go (no v) ih =
+        let e : i ≡ suc n = omega arith in
+        rw (e, sumTo) (omega arith)
+
 pub some-none : (f : ℕ → Bool) → someTo f 0 ≡ false
 unfolding someTo
 some-none f = refl

@@ -1,10 +1,11 @@
 -- What the inner functions of the decision say, of a class number and of all; no rule of its own.
 use mathlib.Core.Bool.{true, false}
 use mathlib.Core.Path.{_≡_}
-use Prim.Native.Nat.{ℕ, _^_, _<_}
+use Prim.Native.Nat.{ℕ, _-_, _≤_, _<_}
 use Rattle.tree.specs.declared.Tree.{Tree}
-use Rattle.tree.specs.Class.{parentOf, weightOf, longestOf, isClass}
-use Rattle.tree.specs.Rules.{badParent, badWeight, badLongest, UnsetIsZero}
+use Rattle.tree.specs.Class.{parentOf, weightOf, longestOf, isClass, isLeaf, childWeight}
+use Rattle.tree.specs.Rules.{badParent, badWeight, badLongest, NothingSet}
+use Rattle.tree.specs.Sum.{sumTo}
 
 -- these are the numbers of class number i
 pub record Numbers (t : Tree) (i leaves parent weight longest : ℕ) : Type 0 where
@@ -13,17 +14,32 @@ pub record Numbers (t : Tree) (i leaves parent weight longest : ℕ) : Type 0 wh
   pub weight-is : weightOf t i ≡ weight
   pub longest-is : longestOf t i ≡ longest
 
--- rows 4, 5 and 6 are not broken at class i
-pub record RowsPass (t : Tree) (i : ℕ) : Type 0 where
+-- nothing is set of class number i
+pub record NumberUnset (t : Tree) (i : ℕ) : Type 0 where
+  pub nothing : NothingSet t i
+  pub longest : longestOf t i ≡ 0
+
+-- nor of the root and the numbers past the last class
+pub record RestUnset (t : Tree) : Type 0 where
+  pub root : NumberUnset t 0
+  pub past : (i : ℕ) → t .count < i → i < 64 → NumberUnset t i
+
+-- an inner class of this weight has no longest packet, and its children weigh this much together
+pub record InnerRight (weight longest children : ℕ) : Type 0 where
+  pub unset : longest ≡ 0
+  pub some : 1 ≤ children
+  pub share : children ≤ weight
+
+-- rows 4, 5 and 6 are not broken at class i, and where it is inner its children weigh this much together
+pub record ClassRight (t : Tree) (i children : ℕ) : Type 0 where
   pub parent : badParent t i ≡ false
   pub weight : badWeight t i ≡ false
   pub longest : badLongest t i ≡ false
+  pub inner : isLeaf t i ≡ false → InnerRight (weightOf t i) (longestOf t i) children
 
--- class number i obeys rows 4, 5 and 6 where it is a class, and what a plan does not set of it is 0
-pub record NumberRight (t : Tree) (i : ℕ) : Type 0 where
-  pub rows : isClass t i ≡ true → RowsPass t i
-  pub unset : UnsetIsZero t i
+-- what the classes after class i add to its children
+abbrev pub childrenAfter : Tree → ℕ → ℕ
+childrenAfter t i = sumTo (childWeight t i) (t .count) - sumTo (childWeight t i) i
 
-pub record NumbersRight (t : Tree) : Type 0 where
-  pub at : (i : ℕ) → i < 64 → NumberRight t i
-  pub word : t .leaves < 2 ^ 64
+pub record ClassesRight (t : Tree) : Type 0 where
+  pub at : (i : ℕ) → isClass t i ≡ true → ClassRight t i (childrenAfter t i)

@@ -9,9 +9,9 @@ ghost use Rattle.checks.specs.Check.{firstBroken, Exactly};
 ghost use Rattle.sets.specs.Set.{has};
 ghost use Rattle.tree.specs.declared.Tree.{Tree};
 ghost use Rattle.tree.specs.Class.{noTree, noWeight, added, parentOf, weightOf, longestOf, isClass, isLeaf, childrenWeight, hasChild};
-ghost use Rattle.tree.specs.Rules.{badParent, badWeight, badLongest, classChecks, closingOf, closingChecks, NothingSet, Light, PlanRules};
+ghost use Rattle.tree.specs.Rules.{badParent, badWeight, badLongest, classChecks, closingOf, closingChecks, Light, PlanRules};
 ghost use Rattle.tree.specs.Size.{roundSize, allWeights, allLongest, longestCost};
-ghost use Rattle.tree.specs.Steps.{Numbers, RowsPass, NumberRight, NumbersRight};
+ghost use Rattle.tree.specs.Steps.{Numbers, NumberUnset, RestUnset, InnerRight, ClassRight, ClassesRight};
 use checks::Verdict;
 use units::Bytes;
 use units::Weight;
@@ -31,6 +31,19 @@ pub struct Class {
     pub weight: Weight,
     pub longest: u16,
     pub leaf: bool,
+}
+
+// What a walk over the classes gives: whether all are right, and if so all weights and what all leaves' longest packets cost.
+pub struct Walked {
+    pub right: bool,
+    pub weights: Weight,
+    pub packets: Bytes,
+}
+
+// Whether a tree obeys the plan rules, and if so its round size.
+pub struct Judged {
+    pub right: bool,
+    pub size: Bytes,
 }
 
 impl Tree {
@@ -224,19 +237,9 @@ pub fn closing(tree: Tree) -> Verdict
     Verdict::Passed
 }
 
-// Whether i is the number of a class.
-fn is_class(count: usize, i: usize) -> bool
-    ensures { λ r. ⌜ ((t : Tree) → t .count ≡ count → r ≡ isClass t i) ⌝ }
-{
-    if i < 1 {
-        return false;
-    }
-    i <= count
-}
-
 // Whether nothing is set of a class number.
-fn nothing_set(leaf: bool, parent: u8, weight: Weight) -> bool
-    ensures { λ r. ⌜ ((t : Tree) (i : ℕ) → isLeaf t i ≡ leaf → parentOf t i ≡ parent → weightOf t i ≡ weight .0 → Exactly r (NothingSet t i)) ⌝ }
+fn number_unset(leaf: bool, parent: u8, weight: Weight, longest: u16) -> bool
+    ensures { λ r. ⌜ ((t : Tree) (i : ℕ) → isLeaf t i ≡ leaf → parentOf t i ≡ parent → weightOf t i ≡ weight .0 → longestOf t i ≡ longest → Exactly r (NumberUnset t i)) ⌝ }
 {
     if leaf {
         return false;
@@ -244,70 +247,32 @@ fn nothing_set(leaf: bool, parent: u8, weight: Weight) -> bool
     if parent != 0 {
         return false;
     }
-    weight.0 == 0
-}
-
-// Whether a class number has a longest packet only where it is a leaf.
-fn longest_unset(leaf: bool, longest: u16) -> bool
-    ensures { λ r. ⌜ Exactly r (leaf ≡ false → longest ≡ 0) ⌝ }
-{
-    if leaf {
-        return true;
+    if weight.0 != 0 {
+        return false;
     }
     longest == 0
 }
 
-// Whether rows 4, 5 and 6 are broken at none of a class's numbers.
-fn rows_pass(leaves: u64, i: usize, parent: u8, weight: Weight, longest: u16) -> bool
-    requires { ⌜ i < 64 ⌝ }
-    ensures { λ r. ⌜ ((t : Tree) → Numbers t i leaves parent (weight .0) longest → Exactly r (RowsPass t i)) ⌝ }
+// Whether nothing is set of the root, nor of any number past the last class.
+fn rest_unset(tree: Tree) -> bool
+    requires { ⌜ tree .count ≤ 63 ⌝ }
+    ensures { λ r. ⌜ Exactly r (RestUnset tree) ⌝ }
 {
-    if bad_parent(leaves, parent, i) {
+    let last = tree.count;
+    let none = tree.weight[0];
+    if !number_unset(
+        sets::has(tree.leaves, 0),
+        tree.parent[0],
+        none,
+        tree.longest[0],
+    ) {
         return false;
     }
-    if bad_weight(weight) {
-        return false;
-    }
-    !bad_longest(sets::has(leaves, i), longest)
-}
-
-// Whether a class number is right: rows 4, 5 and 6 where it is a class, and what a plan does not set is 0.
-fn number_right(
-    count: usize,
-    leaves: u64,
-    i: usize,
-    parent: u8,
-    weight: Weight,
-    longest: u16,
-) -> bool
-    requires { ⌜ i < 64 ⌝ }
-    ensures { λ r. ⌜ ((t : Tree) → t .count ≡ count → Numbers t i leaves parent (weight .0) longest → Exactly r (NumberRight t i)) ⌝ }
-{
-    let leaf = sets::has(leaves, i);
-    if !longest_unset(leaf, longest) {
-        return false;
-    }
-    if !is_class(count, i) {
-        return nothing_set(leaf, parent, weight);
-    }
-    rows_pass(leaves, i, parent, weight, longest)
-}
-
-// Whether every class number is right.
-fn numbers_right(tree: Tree) -> bool
-    ensures { λ r. ⌜ Exactly r (NumbersRight tree) ⌝ }
-{
-    let mut i: usize = 0;
+    let mut i = last + 1;
     while i < Tree::CLASSES {
         let w = tree.weight[i];
-        if !number_right(
-            tree.count,
-            tree.leaves,
-            i,
-            tree.parent[i],
-            w,
-            tree.longest[i],
-        ) {
+        let leaf = sets::has(tree.leaves, i);
+        if !number_unset(leaf, tree.parent[i], w, tree.longest[i]) {
             return false;
         }
         i += 1;
@@ -315,34 +280,45 @@ fn numbers_right(tree: Tree) -> bool
     true
 }
 
-// Whether a tree, any tree whatever, obeys the plan rules.
-pub fn is_plan(tree: Tree) -> bool
-    ensures { λ r. ⌜ Exactly r (PlanRules tree) ⌝ }
+// Whether an inner class has no longest packet, and children that weigh at least 1 and at most what it weighs.
+fn inner_right(weight: Weight, longest: u16, children: Weight) -> bool
+    ensures { λ r. ⌜ Exactly r (InnerRight (weight .0) longest (children .0)) ⌝ }
 {
-    if Tree::MOST < tree.count {
+    if longest != 0 {
         return false;
     }
-    if !numbers_right(tree) {
+    if children.0 < 1 {
         return false;
     }
-    let v = closing(tree);
-    if let Verdict::Passed = v { true } else { false }
+    children.0 <= weight.0
 }
 
-// The sum of all weights.
-fn all_weights(tree: Tree) -> Weight
-    requires { ⌜ Light tree ⌝ }
-    ensures { λ r. ⌜ r .0 ≡ allWeights tree ⌝ }
+// Whether a class is right: rows 4, 5 and 6, and where it is inner what its children weigh, which all come after it.
+fn class_right(
+    leaves: u64,
+    i: usize,
+    parent: u8,
+    weight: Weight,
+    longest: u16,
+    children: Weight,
+) -> bool
+    requires { ⌜ i < 64 ⌝ }
+    ensures { λ r. ⌜ ((t : Tree) → Numbers t i leaves parent (weight .0) longest → Exactly r (ClassRight t i (children .0))) ⌝ }
 {
-    let last = tree.count;
-    let mut sum = Weight(0);
-    let mut i: usize = 1;
-    while i <= last {
-        let w = tree.weight[i];
-        sum = sum.plus(w);
-        i += 1;
+    let leaf = sets::has(leaves, i);
+    if bad_parent(leaves, parent, i) {
+        return false;
     }
-    sum
+    if bad_weight(weight) {
+        return false;
+    }
+    if bad_longest(leaf, longest) {
+        return false;
+    }
+    if leaf {
+        return true;
+    }
+    inner_right(weight, longest, children)
 }
 
 // What the longest packet of a class costs, where it is a leaf.
@@ -355,20 +331,82 @@ fn longest_cost(leaf: bool, longest: u16) -> Bytes
     units::cost(longest)
 }
 
-// The sum of what all leaves' longest packets cost.
-fn all_longest(tree: Tree) -> Bytes
-    requires { ⌜ PlanRules tree ⌝ }
-    ensures { λ r. ⌜ r .0 ≡ allLongest tree ⌝ }
+// The classes from the highest down, each adding its weight to its parent's sum: whether all are right, and what goes into the round size.
+fn walk(tree: Tree) -> Walked
+    requires { ⌜ tree .count ≤ 63 ⌝ }
+    ensures { λ r. ⌜ Exactly (r .right) (ClassesRight tree) × (r .right ≡ true → (r .weights .0 ≡ allWeights tree) × (r .packets .0 ≡ allLongest tree)) ⌝ }
 {
+    let none = Weight(0);
+    let mut sums = [none; Tree::CLASSES];
+    let mut weights = Weight(0);
+    let mut packets = Bytes(0);
     let last = tree.count;
-    let mut sum = Bytes(0);
-    let mut i: usize = 1;
-    while i <= last {
-        let leaf = sets::has(tree.leaves, i);
-        sum = sum.plus(longest_cost(leaf, tree.longest[i]));
-        i += 1;
+    let mut i = last;
+    while 1 <= i {
+        let w = tree.weight[i];
+        let children = sums[i];
+        if !class_right(tree.leaves, i, tree.parent[i], w, tree.longest[i], children) {
+            return Walked {
+                right: false,
+                weights,
+                packets,
+            };
+        }
+        let p = wide(tree.parent[i]);
+        let s = sums[p];
+        sums[p] = s.plus(w);
+        weights = weights.plus(w);
+        packets = packets.plus(longest_cost(sets::has(tree.leaves, i), tree.longest[i]));
+        i -= 1;
     }
-    sum
+    Walked {
+        right: true,
+        weights,
+        packets,
+    }
+}
+
+// Whether a tree, any tree whatever, obeys the plan rules, and then its round size.
+pub fn plan_size(tree: Tree) -> Judged
+    ensures { λ r. ⌜ Exactly (r .right) (PlanRules tree) × (r .right ≡ true → r .size .0 ≡ roundSize tree) ⌝ }
+{
+    let none = Bytes(0);
+    if Tree::MOST < tree.count {
+        return Judged {
+            right: false,
+            size: none,
+        };
+    }
+    if tree.count == 0 {
+        return Judged {
+            right: false,
+            size: none,
+        };
+    }
+    if !rest_unset(tree) {
+        return Judged {
+            right: false,
+            size: none,
+        };
+    }
+    let walked = walk(tree);
+    let weights = walked.weights;
+    let packets = walked.packets;
+    if !walked.right {
+        return Judged {
+            right: false,
+            size: none,
+        };
+    }
+    let size = units::size(weights, packets);
+    Judged { right: true, size }
+}
+
+// Whether a tree, any tree whatever, obeys the plan rules.
+pub fn is_plan(tree: Tree) -> bool
+    ensures { λ r. ⌜ Exactly r (PlanRules tree) ⌝ }
+{
+    plan_size(tree).right
 }
 
 // The round size Q.
@@ -376,5 +414,6 @@ pub fn round_size(tree: Tree) -> Bytes
     requires { ⌜ PlanRules tree ⌝ }
     ensures { λ r. ⌜ r .0 ≡ roundSize tree ⌝ }
 {
-    units::size(all_weights(tree), all_longest(tree))
+    let judged = plan_size(tree);
+    judged.size
 }

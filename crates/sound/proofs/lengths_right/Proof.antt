@@ -4,6 +4,7 @@ use Prim.Native.Nat.{ℕ, _-_, _≤_, _<_}
 use native.Mathlib.Omega.{arith}
 use borrow.Author.Count.{below-more}
 use borrow.Author.Tests.{eq-eqb, eqb-true}
+use Rattle.checks.proofs.Laws.{exactly-yes}
 use Rattle.sound.proofs.Places.{PlaceAt, places-queue, queue-places}
 use borrow.Author.Needs.{needs}
 use Rattle.sound.proofs.lengths_right.Statement.{statement}
@@ -18,6 +19,9 @@ Inv-loop lengths class start held longest wrong₀ k₀ wrong k =
 
 abbrev μ-loop : tie.MeasureT-loop
 μ-loop lengths class start held longest wrong₀ k₀ wrong k = 32 - k
+
+returns : tie.Need-returns Inv-loop μ-loop
+returns c = exactly-yes (record { low = λ j u. absurd (omega (arith, c .if1 .taken)); high = λ j u. absurd (omega (arith, c .if1 .taken)) })
 
 loop-holds : tie.Need-loop-holds Inv-loop μ-loop
 loop-holds c = (omega arith, omega arith, λ e m u. absurd (omega arith), λ all. refl)
@@ -65,10 +69,10 @@ loop-again c =
       λ all. omega (arith, h .loop .inv .3 (λ m u. all m (omega arith)), o .2 (all (h .loop .k) (omega arith))),
     )
 
-returns : tie.Need-returns Inv-loop μ-loop
-returns c =
+returns-2 : tie.Need-returns-2 Inv-loop μ-loop
+returns-2 c =
     let h = c .before in
-    let st = h .before in
+    let st = h .before .before in
     let e : h .loop .k ≡ 32 = omega arith in
     record {
       sound = λ z. places-queue _ _ _ _ _ (st .pre .1) (st .pre .2) (λ k u. h .loop .inv .2 (eqb-true _ _ z) k (omega arith));
@@ -81,6 +85,7 @@ lengths-right-spec =
     (tie.spec
     Inv-loop
     μ-loop
+    returns
     loop-holds
     mul-length
     cast-length
@@ -94,4 +99,4 @@ lengths-right-spec =
     add-k
     loop-less
     loop-again
-    returns)
+    returns-2)

@@ -1,10 +1,9 @@
 -- `tree::children_weights` meets its contract: class by class downward, each adds itself to its parent's sum.
 use mathlib.Core.Path.{_≡_, sym, _∙_}
-use Prim.Native.Nat.{ℕ, _+_, _-_, _^_, _≤_, _<_}
+use Prim.Native.Nat.{_+_, _-_, _^_, _≤_, _<_}
 use native.Mathlib.Omega.{arith}
 use lib.ListN.{getD}
 use Rattle.tree.specs.Class.{noWeight, parentOf, weightOf, childWeight, childrenWeight}
-use Rattle.tree.specs.Sum.{sumTo}
 use Rattle.tree.proofs.Classes.{class-in, child-light, child-own, child-other}
 use Rattle.tree.proofs.Sums.{sum-bound}
 use Rattle.tree.proofs.Down.{SumsAbove, sums-start, sums-more, sums-end}
@@ -54,7 +53,7 @@ plus-requires c κs =
       st .pre .few,
       st .pre .light i (class-in t i (omega (arith, g .loop-test .taken)) (h .loop .inv .0)),
       h .loop .inv .1 .at p (v .wide .ensures .1),
-      sum-bound (childWeight t p) 1_000_000 (t .count) (λ k a b. child-light t p k (st .pre) a b),
+      sum-bound (childWeight t p) 1_000_000 (t .count) (λ k a b. child-light t p k 1_000_000 (st .pre .light k (class-in t k a b))),
     )
     in
     fits

@@ -1,5 +1,4 @@
 -- `tree::class_fault` meets its contract: rows 4, 5 and 6 in this order.
-use mathlib.Core.Bool.{true, false}
 use mathlib.Core.Path.{_≡_, refl, sym, _∙_}
 use Rattle.checks.proofs.Laws.{decides, pass-over, none-broken}
 use Rattle.tree.specs.Class.{isLeaf}

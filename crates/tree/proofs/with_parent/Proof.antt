@@ -1,7 +1,7 @@
 -- `tree::with_parent` meets its contract.
-use mathlib.Core.Bool.{Bool, _||_, or-true, or-false}
-use mathlib.Core.Path.{_≡_, refl, sym, _∙_}
-use Prim.Native.Nat.{ℕ, _<_}
+use mathlib.Core.Bool.{_||_, or-true, or-false}
+use mathlib.Core.Path.{_≡_, refl, sym}
+use Prim.Native.Nat.{ℕ}
 use native.Mathlib.Decide.{ℕ-discrete}
 use native.Mathlib.Omega.{arith}
 use lib.Dec.{eqb}

@@ -1,0 +1,86 @@
+-- `sound::is_sound_of` meets its contract: it says yes exactly where the link of these parts is sound.
+use mathlib.Core.Path.{_≡_, sym, _∙_}
+use native.Mathlib.Omega.{arith}
+use borrow.Author.Tests.{not-true, not-false}
+use Rattle.checks.proofs.Laws.{exactly-no, not-true-and-false}
+use Rattle.tree.specs.Rules.{PlanRules}
+use Rattle.tree.specs.Size.{roundSize}
+use Rattle.tree.proofs.Rules.{size-ceiling}
+use Rattle.state.specs.State.{linkOf}
+use Rattle.sound.proofs.Views.{right-to-sound, sound-to-right}
+use borrow.Author.Needs.{needs}
+use Rattle.sound.proofs.is_sound_of.Statement.{statement}
+use Rattle.sound.proofs.is_sound_of.Tie as tie
+
+plan-size-requires : tie.Need-plan-size-requires
+plan-size-requires c κs = search needs
+
+returns : tie.Need-returns
+returns c = λ tags. exactly-no (λ p. not-true-and-false (c .before .before .plan-size .ensures .0 .complete (p .state .fits .tree))
+    (not-true _ (c .if1 .taken)))
+
+-- the plan rules hold, and the round size is known
+rules : (c : tie.Else1) → PlanRules (c .before .before .before .args .tree)
+rules c = c .before .before .plan-size .ensures .0 .sound (not-false _ (c .if1 .left))
+
+size : (c : tie.Else1) → c .before .before .plan-size .result .size .0 ≡ roundSize (c .before .before .before .args .tree)
+size c = c .before .before .plan-size .ensures .1 (not-false _ (c .if1 .left))
+
+returns-2 : tie.Need-returns-2
+returns-2 c = λ tags. exactly-no (λ p. c .if2 .taken (size (c .before .before .before) ∙ sym (p .state .fits .size)))
+
+returns-3 : tie.Need-returns-3
+returns-3 c = λ tags. exactly-no (λ p. omega (arith, p .state .place .low, c .if3 .taken))
+
+returns-4 : tie.Need-returns-4
+returns-4 c = λ tags. exactly-no (λ p. omega (arith, p .state .place .high, c .if4 .taken))
+
+adds-up-requires : tie.Need-adds-up-requires
+adds-up-requires c κs =
+    let e2 = c .before .before in
+    let e1 = e2 .before .before .before in
+    omega (arith, e2 .if2 .left, size e1, size-ceiling _ (rules e1))
+
+returns-5 : tie.Need-returns-5
+returns-5 c = λ tags. exactly-no (λ p. not-true-and-false (c .before .adds-up .ensures .complete (p .state .adds .adds)) (not-true _
+    (c .if5 .taken)))
+
+parents-of-requires : tie.Need-parents-of-requires
+parents-of-requires c κs = rules (c .before .before .before .before .before .before .before)
+
+classes-right-requires : tie.Need-classes-right-requires
+classes-right-requires c κs = search needs
+
+returns-6 : tie.Need-returns-6
+returns-6 c = λ tags.
+    let e5 = c .before .before in
+    let e4 = e5 .before .before in
+    let e3 = e4 .before in
+    let e2 = e3 .before in
+    let e1 = e2 .before .before .before in
+    let a = e1 .before .before .before .args in
+    let l = linkOf (a .tree) (a .size) (a .active) (a .place) (a .accounts) (a .start) (a .held) (a .lengths .now) tags in
+    let said = rw (c .before .parents-of .ensures .0) at (c .classes-right .ensures (a .size) tags) in
+    record {
+      sound =
+          λ e.
+          right-to-sound l (rules e1) (sym (e2 .if2 .left) ∙ size e1) (record { low = e3 .if3 .left; high = e4 .if4 .left })
+          (record { adds = e5 .before .adds-up .ensures .sound (not-false _ (e5 .if5 .left)) }) (c .before .parents-of .ensures .1)
+          (said .sound e);
+      complete = λ p. said .complete (sound-to-right l (rules e1) p);
+    }
+
+pub is-sound-of-spec : {M : Type 1} → statement M
+is-sound-of-spec =
+    tie.close
+    (tie.spec
+    plan-size-requires
+    returns
+    returns-2
+    returns-3
+    returns-4
+    adds-up-requires
+    returns-5
+    parents-of-requires
+    classes-right-requires
+    returns-6)
