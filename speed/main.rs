@@ -17,6 +17,7 @@ extern "C" {
     fn speed_fresh(input: *const u8, length: usize, at: usize) -> u64;
     fn speed_events(input: *const u8, length: usize, events: usize) -> usize;
     fn speed_openings(input: *const u8, length: usize, times: usize) -> u64;
+    fn speed_run(input: *const u8, length: usize, parts: usize, out: *mut u8, room: usize) -> usize;
     fn base_by_value(input: *const u8, length: usize, events: usize, out: *mut u64, room: usize) -> usize;
     fn base_lent(input: *const u8, length: usize, events: usize) -> u64;
     fn base_sound(input: *const u8, length: usize, events: usize, out: *mut u64, room: usize, times: usize) -> usize;
@@ -95,6 +96,11 @@ impl Library {
     fn openings(&self, input: &[u8], times: usize) -> u64 {
         unsafe { (self.openings)(input.as_ptr(), input.len(), times) }
     }
+}
+
+// A recording's lines, by the run by parts, each part from the buffer's start; how many bytes. The base has none.
+fn run_text(input: &[u8], parts: usize, out: &mut [u8]) -> usize {
+    unsafe { speed_run(input.as_ptr(), input.len(), parts, out.as_mut_ptr(), out.len()) }
 }
 
 // How much is run: sends of a recording, those of them that the slow calls make, those of the base, how often each is timed, and single
@@ -198,13 +204,17 @@ fn shape_word(shape: Shape) -> &'static str {
     }
 }
 
+// The bytes of a part at most.
+const PART: usize = 65_536;
+
 // A send with its arrival, on every recording.
 fn pairs(amount: &Amount) {
     println!("\n### A send with its arrival\n");
     let [sends, slow] = [amount.sends, amount.slow].map(grouped);
     println!("{sends} sends to a recording, of which the calls make {slow}; nanoseconds, best of {}.\n", amount.best_of);
-    println!("| Classes | Weights | Packets | Queues | plain Rust | by value | ratio | lent | ratio |");
-    println!("|---|---|---|---|---:|---:|---:|---:|---:|");
+    let run = "plain Rust, lines | run by parts | ratio";
+    println!("| Classes | Weights | Packets | Queues | {run} | plain Rust, sends | by value | ratio | lent | ratio |");
+    println!("|---|---|---|---|---:|---:|---:|---:|---:|---:|---:|---:|");
     let mut seed = 1;
     for (queues, deep) in [("backlogged", 31), ("one packet a leaf", 1)] {
         for shape in [Shape::Flat, Shape::Eight, Shape::Chain] {
@@ -217,11 +227,14 @@ fn pairs(amount: &Amount) {
                     at(&name);
                     let made = recordings::recording(shape, weights, lengths, deep, amount.sends, seed);
                     seed += 1;
-                    let [plain, by_value, lent] = one_recording(amount, &name, &made);
+                    let [plain, by_value, lent] = by_calls(amount, &name, &made);
+                    let [lines, run] = in_a_run(amount, &name, &made);
                     println!(
-                        "| {} | {} | {packets} | {queues} | {plain:.1} | {} | {:.1} | {} | {:.1} |",
+                        "| {} | {} | {packets} | {queues} | {lines:.1} | {} | {:.2} | {plain:.1} | {} | {:.1} | {} | {:.1} |",
                         shape_word(shape),
                         weights_word(shape, weights),
+                        figure(run),
+                        run / lines,
                         figure(by_value),
                         by_value / plain,
                         figure(lent),
@@ -234,7 +247,7 @@ fn pairs(amount: &Amount) {
 }
 
 // Nanoseconds for a send with its arrival: plain Rust, the calls by value, the lent entries.
-fn one_recording(amount: &Amount, name: &str, made: &Recording) -> [f64; 3] {
+fn by_calls(amount: &Amount, name: &str, made: &Recording) -> [f64; 3] {
     let input = &made.input[..];
     let mut expected = vec![0; made.pairs];
     let mut found = vec![0; made.pairs];
@@ -256,6 +269,34 @@ fn one_recording(amount: &Amount, name: &str, made: &Recording) -> [f64; 3] {
     ]);
     let slow = amount.slow as f64;
     [(all - filling) / made.pairs as f64, (by_value - by_value_filling) / slow, (lent - lent_filling) / slow]
+}
+
+// Nanoseconds for a send with its arrival in a run that lays its lines: plain Rust, and the run by parts, which makes the whole recording
+// unless it is as slow as the calls.
+fn in_a_run(amount: &Amount, name: &str, made: &Recording) -> [f64; 2] {
+    let filled = &made.input[..made.input.len() - 9 * made.pairs];
+    let first = &made.input[..filled.len() + 9 * amount.slow];
+    let (mut part, mut part_now) = (vec![0; PART], vec![0; PART]);
+    let time = nanoseconds(processor_time, &mut || _ = black_box(run_text(first, usize::MAX, &mut part_now)));
+    let (input, pairs) = if time > 2_000.0 * amount.slow as f64 { (first, amount.slow) } else { (&made.input[..], made.pairs) };
+    let mut expected = vec![0; 32 * (made.filling + 2 * pairs) + PART];
+    let mut found = expected.clone();
+    let many = plain::text(input, &mut expected);
+    let laid = run_text(input, 1, &mut found);
+    if expected[..many] != found[..laid] {
+        let same = expected.iter().zip(&found).take_while(|(a, b)| a == b).count();
+        let line = expected[..same].iter().filter(|&&byte| byte == b'\n').count() + 1;
+        differs(&format!("{name}: the run by parts differs from plain Rust at the line of event {line}"));
+    }
+    let [plain, plain_filling] = best(amount.best_of, [
+        &mut || _ = black_box(plain::text(black_box(input), &mut part)),
+        &mut || _ = black_box(plain::text(black_box(filled), &mut [0; PART])),
+    ]);
+    let [run, run_filling] = best(amount.best_of, [
+        &mut || _ = black_box(run_text(black_box(input), usize::MAX, &mut part_now)),
+        &mut || _ = black_box(run_text(black_box(filled), usize::MAX, &mut [0; PART])),
+    ]);
+    [(plain - plain_filling) / pairs as f64, (run - run_filling) / pairs as f64]
 }
 
 // What a call costs: a run of so many of them, and the part of that run which is taken off.

@@ -143,21 +143,24 @@ impl Plain {
         }
     }
 
-    // An arrival: whether it is taken.
+    // An arrival: taken, or the number of its refusal.
     #[inline(always)]
-    pub fn arrive(&mut self, class: usize, length: u16, tag: u32) -> bool {
-        if class >= CLASSES || self.leaves >> class & 1 == 0 || length == 0 || length > self.longest[class] {
-            return false;
+    pub fn arrive(&mut self, class: usize, length: u16, tag: u32) -> Result<(), u32> {
+        if class >= CLASSES || self.leaves >> class & 1 == 0 {
+            return Err(12);
+        }
+        if length == 0 || length > self.longest[class] {
+            return Err(13);
         }
         let held = self.held[class] as usize;
         if held == PLACES {
-            return false;
+            return Err(14);
         }
         let at = class * PLACES + (self.start[class] as usize + held) % PLACES;
         self.packets[at] = Packet { length, tag };
         self.held[class] += 1;
         self.waiting |= 1 << class;
-        true
+        Ok(())
     }
 
     // Where the first packet of a class lies.
@@ -311,7 +314,7 @@ pub fn sends(input: &[u8], events: usize, out: &mut [u64]) -> usize {
         at = next;
         match event {
             Event::Arrival { class, length, tag } => {
-                link.arrive(class, length, tag);
+                _ = link.arrive(class, length, tag);
             }
             Event::Send => {
                 let Some(place) = out.get_mut(many) else { break };
@@ -328,10 +331,94 @@ pub fn sends(input: &[u8], events: usize, out: &mut [u64]) -> usize {
 pub fn openings(input: &[u8], times: usize) -> u64 {
     let Some((mut link, _)) = Plain::read(input) else { return 0 };
     for class in 1..CLASSES {
-        link.arrive(class, 1, 0);
+        _ = link.arrive(class, 1, 0);
     }
     for _ in 0..times {
         link.open();
     }
     link.root()
+}
+
+// A line is laid where there is room for so many bytes; the longest has fewer.
+const LINE: usize = 96;
+
+// A text's bytes from a place of the line on; the place after them.
+#[inline(always)]
+fn word<const N: usize>(line: &mut [u8; LINE], at: usize, text: &[u8; N]) -> usize {
+    line[at..at + N].copy_from_slice(text);
+    at + N
+}
+
+// The digits of the numbers below 100, two by two.
+const TWO: [[u8; 2]; 100] = {
+    let mut two = [[0; 2]; 100];
+    let mut n = 0;
+    while n < 100 {
+        two[n] = [b'0' + n as u8 / 10, b'0' + n as u8 % 10];
+        n += 1;
+    }
+    two
+};
+
+// A space and a number, its digits two by two straight to their places; the place after them.
+#[inline(always)]
+fn digits(line: &mut [u8; LINE], at: usize, number: u32) -> usize {
+    line[at] = b' ';
+    if number < 10 {
+        line[at + 1] = b'0' + number as u8;
+        return at + 2;
+    }
+    let end = at + 2 + number.ilog10() as usize;
+    let (mut left, mut place) = (number as usize, end);
+    while left >= 100 {
+        place -= 2;
+        line[place..place + 2].copy_from_slice(&TWO[left % 100]);
+        left /= 100;
+    }
+    if left >= 10 {
+        line[place - 2..place].copy_from_slice(&TWO[left]);
+    } else {
+        line[place - 1] = b'0' + left as u8;
+    }
+    end
+}
+
+// A whole line: a word, its numbers and the end of the line; how many bytes.
+#[inline(always)]
+fn line<const N: usize, const M: usize>(line: &mut [u8; LINE], text: &[u8; N], numbers: [u32; M]) -> usize {
+    let mut at = word(line, 0, text);
+    for number in numbers {
+        at = digits(line, at, number);
+    }
+    word(line, at, b"\n")
+}
+
+// The lines of a recording's events (document 01, "A whole run") into a buffer, from its start again where it has no room for one more;
+// how many bytes they are. The recording is whole.
+#[inline(never)]
+pub fn text(input: &[u8], out: &mut [u8]) -> usize {
+    let Some((mut link, mut at)) = Plain::read(input) else { return 0 };
+    let (mut before, mut laid) = (0, 0);
+    loop {
+        if out.len() - laid < LINE {
+            before += laid;
+            laid = 0;
+        }
+        let Some(room) = out[laid..].first_chunk_mut() else { return 0 };
+        let Some((event, next)) = event_at(input, at) else {
+            let waiting = link.held.iter().map(|&held| held as u32).sum();
+            return before + laid + line(room, b"end", [waiting]);
+        };
+        at = next;
+        laid += match event {
+            Event::Arrival { class, length, tag } => match link.arrive(class, length, tag) {
+                Ok(()) => line(room, b"in", [class as u32, length as u32, tag]),
+                Err(number) => line(room, b"no", [class as u32, length as u32, tag, number]),
+            },
+            Event::Send => match link.send() {
+                Some(s) => line(room, b"out", [s.class as u32, s.length as u32, s.tag, s.rounds]),
+                None => line(room, b"none", []),
+            },
+        };
+    }
 }

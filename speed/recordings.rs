@@ -139,7 +139,7 @@ pub fn recording(shape: Shape, weights: Weights, lengths: Lengths, deep: usize, 
             Lengths::From(low) => random.between(low as u64, 1_500) as u16,
             Lengths::Longest => 9_216,
         };
-        assert!(link.arrive(class, length, tag), "an arrival of the recording is refused");
+        link.arrive(class, length, tag).expect("an arrival of the recording is refused");
         arrival(input, class, length, tag);
         tag += 1;
     };

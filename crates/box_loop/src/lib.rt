@@ -2,12 +2,11 @@
 // Serves demands 1 and 2: the record goes through the whole run in one place. Two programs run it in the gate.
 ghost use mathlib.Core.Path.{_≡_};
 ghost use Rattle.plan.specs.declared.EventRead.the-variants.{NoMore};
-ghost use Rattle.run.specs.Event.{sendLine};
 ghost use Rattle.box_loop.specs.Loop.{plainEvent, Comes, lastLine};
-use checks::Verdict;
-use lent::Departed;
 use libc::STDIN_FILENO;
 use lines::Line;
+use link::Arrival;
+use link::Departure;
 use plan::EventRead;
 use state::Link;
 use state::Packet;
@@ -60,20 +59,12 @@ fn event_at(input: &[u8], place: usize) -> Event
     }
 }
 
-// The line of a send.
-fn send_line(d: Departed) -> Line
-    ensures { λ r. ⌜ r ≡ sendLine (d .verdict) (d .class) (d .length) (d .tag) (d .rounds) ⌝ }
-{
-    let verdict = d.verdict;
-    run::send_line(verdict, d.class, d.length, d.tag, d.rounds)
-}
-
 // The normal end's line.
 fn end_line(link: Link) -> Line
     ensures { λ r. ⌜ r ≡ lastLine NoMore link ⌝ }
 {
     let held = link.held;
-    Line::End(run::waiting(held))
+    Line::End(run::waiting(&held))
 }
 
 // The last line, of an event that is no call.
@@ -89,15 +80,15 @@ fn last_line(read: EventRead, link: Link) -> Line
 }
 
 // Prints an arrival's line.
-fn show_arrival(read: EventRead, verdict: Verdict) {
+fn show_arrival(read: EventRead, answer: Arrival) {
     if let EventRead::Arrive(a) = read {
-        shown::print(run::arrival_line(verdict, a));
+        shown::print(run::arrival_line(answer, a));
     }
 }
 
 // Prints a send's line.
-fn show_send(d: Departed) {
-    shown::print(send_line(d));
+fn show_send(answer: Departure) {
+    shown::print(run::send_line(answer));
 }
 
 // Prints the last line.
@@ -111,11 +102,11 @@ fn serve(first: Link, input: &[u8], place: usize) {
     let mut event = event_at(input, place);
     while event.call {
         if event.arrives {
-            let verdict = lent::arrive(&mut link, event.class, event.packet);
-            show_arrival(event.read, verdict);
+            let answer = lent::arrive(&mut link, event.class, event.packet);
+            show_arrival(event.read, answer);
         } else {
-            let departed = lent::send(&mut link);
-            show_send(departed);
+            let answer = lent::send(&mut link);
+            show_send(answer);
         }
         event = event_at(input, event.place);
     }

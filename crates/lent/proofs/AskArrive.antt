@@ -22,14 +22,13 @@ use denote.Struct.Laws as LL
 use denote.Triple.Statement.{Contract}
 use denote.Triple.Spec.{tripleOf}
 use denote.Triple.Clauses.{ensured, lasts}
-use Rattle.link.specs.Arrival.{Arrives}
+use Rattle.link.specs.Arrival.{arrivalLeaves, Arrives}
 use Rattle.state.specs.declared.Link.{Link}
 use Rattle.state.specs.declared.Packet.{Packet}
-use Rattle.checks.specs.declared.Verdict.{Verdict}
+use Rattle.link.specs.declared.Arrival.{Arrival}
 use Rattle.state.proofs.Packet as P
 use Rattle.state.proofs.Packet.Laws as P′
-use Rattle.checks.proofs.Verdict as N
-use Rattle.lent.specs.Answers.{answered}
+use Rattle.link.proofs.Arrival as N
 use Rattle.lent.proofs.Lends.{ref, own-at, pval}
 use Rattle.lent.proofs.Loans as loans
 use Rattle.lent.proofs.arrive as lent
@@ -48,13 +47,13 @@ module _ {M : Type 1} (𝓤 : URA M) (H : Heap 𝓤) (A : Atoms 𝓤) (W : Given
       owned ! P.the-row (Is P.the-row) (LL.makes P.the-type P′.the-plain 𝓤 H A) p (pval p ∷ []) isp $ fjoin ! $ owned ! usize (Is usize) (uint-makes 𝓤 H A W w64) i (vint w64 i ∷ []) (refl, fits) $ fjoin ! $
       move ! (1 ∷ 0 ∷ []) $ fjoin ! $ move ! (1 ∷ 0 ∷ []) $ join ! $ frame ! $ done !
 
-  abbrev pub Said : Verdict → Link → Type 0
-  Said r m = Arrives h i p (answered r m)
+  abbrev pub Said : Arrival → Link → Type 0
+  Said r m = Arrives h i p (arrivalLeaves r m)
 
-  abbrev pub Back : Val → Verdict → Link → SProp 𝓤
+  abbrev pub Back : Val → Arrival → Link → SProp 𝓤
   Back = loans.Back 𝓤 H A W α δ N.the-row Said
 
-  pub given-back : (v : Val) → ent 𝓤 (Lent 𝓤 H A at-mem run .post to-lent v) (H .⇛ (ex 𝓤 (λ (r : Verdict). ex 𝓤 (Back v r))))
+  pub given-back : (v : Val) → ent 𝓤 (Lent 𝓤 H A at-mem run .post to-lent v) (H .⇛ (ex 𝓤 (λ (r : Arrival). ex 𝓤 (Back v r))))
   given-back v = loans.gives 𝓤 H A W α δ N.the-row Said v _ (ensured 𝓤 H A lent.ended (lent.clauses 𝓤 H A at-mem run) (α ∷ [], tt) (to-lent .0 .3) tt) (id⊢ 𝓤 _)
       (loans.told 𝓤 H A W α δ N.the-row Said (λ ws. ws .0) (λ ws. sem 𝓤 H A (lasts lent.ended (α ∷ [], tt) (to-lent .0 .3) ws))
       (λ ws. qed W (‵ (lasts lent.ended (α ∷ [], tt) (to-lent .0 .3) ws) ∷ []) ∵ fsplit ! $ keep ! (0 ∷ []) $ done !))

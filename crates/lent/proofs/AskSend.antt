@@ -16,11 +16,10 @@ use denote.Steps.{nothing}
 use denote.Triple.Statement.{Contract}
 use denote.Triple.Spec.{tripleOf}
 use denote.Triple.Clauses.{ensured, lasts}
-use Rattle.link.specs.Send.{Sends}
+use Rattle.link.specs.Send.{sendLeaves, Sends}
 use Rattle.state.specs.declared.Link.{Link}
-use Rattle.lent.specs.declared.Departed.{Departed}
-use Rattle.lent.proofs.Departed as N
-use Rattle.lent.specs.Answers.{departure}
+use Rattle.link.specs.declared.Departure.{Departure}
+use Rattle.link.proofs.Departure as N
 use Rattle.lent.proofs.Lends.{ref, own-at}
 use Rattle.lent.proofs.Loans as loans
 use Rattle.lent.proofs.send as lent
@@ -37,13 +36,13 @@ module _ {M : Type 1} (𝓤 : URA M) (H : Heap 𝓤) (A : Atoms 𝓤) (W : Given
   goes = qed W (‵ (flft (α ∷ []) fullShare) ∷ ‵ (own-at b α δ h) ∷ []) ∵ nothing ! $ move ! (1 ∷ 0 ∷ []) $ join ! $ move ! (1 ∷ []) $ nothing ! $
       move ! (1 ∷ 0 ∷ []) $ fjoin ! $ move ! (1 ∷ 0 ∷ []) $ join ! $ frame ! $ done !
 
-  abbrev pub Said : Departed → Link → Type 0
-  Said r m = Sends h (departure r m)
+  abbrev pub Said : Departure → Link → Type 0
+  Said r m = Sends h (sendLeaves r m)
 
-  abbrev pub Back : Val → Departed → Link → SProp 𝓤
+  abbrev pub Back : Val → Departure → Link → SProp 𝓤
   Back = loans.Back 𝓤 H A W α δ N.the-row Said
 
-  pub given-back : (v : Val) → ent 𝓤 (Lent 𝓤 H A at-mem run .post to-lent v) (H .⇛ (ex 𝓤 (λ (r : Departed). ex 𝓤 (Back v r))))
+  pub given-back : (v : Val) → ent 𝓤 (Lent 𝓤 H A at-mem run .post to-lent v) (H .⇛ (ex 𝓤 (λ (r : Departure). ex 𝓤 (Back v r))))
   given-back v = loans.gives 𝓤 H A W α δ N.the-row Said v _ (ensured 𝓤 H A lent.ended (lent.clauses 𝓤 H A at-mem run) (α ∷ [], tt) (to-lent .0 .3) tt) (id⊢ 𝓤 _)
       (loans.told 𝓤 H A W α δ N.the-row Said (λ ws. ws .0) (λ ws. sem 𝓤 H A (lasts lent.ended (α ∷ [], tt) (to-lent .0 .3) ws))
       (λ ws. qed W (‵ (lasts lent.ended (α ∷ [], tt) (to-lent .0 .3) ws) ∷ []) ∵ fsplit ! $ keep ! (0 ∷ []) $ done !))

@@ -1,4 +1,5 @@
 pub mod Lends
+pub mod Fields
 pub mod Returns
 pub mod Loans
 pub mod AskArrive

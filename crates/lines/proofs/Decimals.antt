@@ -3,11 +3,10 @@ use mathlib.Core.List.{List, [], _∷_, _++_}
 use mathlib.Core.Path.{_≡_, refl, sym, ap, _∙_, subst}
 use Prim.Native.Nat.{ℕ, zero, suc, _+_, _-_, _*_, _/_, _%_, _^_, _≤_, _<_}
 use native.Mathlib.Decide.{decLt}
-use native.Mathlib.Nat.{pow-suc, one-le-pow, mod-eq-of-lt}
+use native.Mathlib.Nat.{pow-suc}
 use native.Mathlib.Omega.{arith}
 use borrow.Author.Tests.{lt-ltb, le-ltb}
 use lib.ListN.{length, getD, length-append, List·getD-append}
-use Rattle.io.specs.Digits.{glyph, digits, Fewest}
 use Rattle.lines.specs.Decimal.{digit, digitsIn, decimal}
 
 -- a number below 10 is one digit
@@ -86,6 +85,10 @@ value-last sofar (x ∷ ds) d = value-last (sofar * 10 + (x - 48)) ds d
 pub decimal-value : (n : ℕ) → value 0 (decimal n) ≡ n
 decimal-value n = by-digits (λ n ds. value 0 ds ≡ n) (λ n h. omega arith) (λ n ds h e. value-last 0 ds (digit (n % 10)) ∙ omega (arith, e)) n
 
+-- there is at least one
+pub decimal-some : (n : ℕ) → 1 ≤ length (decimal n)
+decimal-some n = by-digits (λ n ds. 1 ≤ length ds) (λ n h. omega arith) (λ n ds h e. omega (arith, length-append ds (digit (n % 10) ∷ []))) n
+
 -- no leading zero: 0 is the one digit 0, and any other number begins with another digit
 pub decimal-zero : decimal 0 ≡ 48 ∷ []
 decimal-zero = decimal-small 0 (omega arith)
@@ -111,35 +114,3 @@ decimal-within n = by-digits (λ n ds. (k : ℕ) → n < 10 ^ suc k → length d
 -- a 64-bit number has at most 20 digits
 pub decimal-most : (n : ℕ) → n < 2 ^ 64 → length (decimal n) ≤ 20
 decimal-most n h = decimal-within n 19 (omega arith)
-
--- a digit as the library's printer writes it
-glyph-digit : (d : ℕ) → d < 10 → glyph d ≡ digit d
-glyph-digit d h = rw (lt-ltb d 10 h)
-
--- one less than the next
-one-less : (k : ℕ) → k ≡ suc k - 1
-one-less k = omega arith
-
--- at least a power of 10, by its tenth
-tenth : (n k : ℕ) → 10 ^ (suc (suc k) - 1) ≤ n → 10 ^ k * 10 ≤ n
-tenth n k h = subst (λ (p : ℕ). p ≤ n) (ap (λ (j : ℕ). 10 ^ j) (sym (one-less (suc k))) ∙ pow-suc 10 k) h
-
--- the digits that the library's printer spells
-pub spelled : (n k : ℕ) → Fewest 10 1 n k → digits 10 k n ≡ decimal n
-spelled n = by-digits (λ n ds. (k : ℕ) → Fewest 10 1 n k → digits 10 k n ≡ ds) one more n
-  where
-    one : (n : ℕ) → n < 10 → (k : ℕ) → Fewest 10 1 n k → digits 10 k n ≡ digit n ∷ []
-    one n h zero f = absurd (omega (arith, f .0))
-    one n h (suc zero) f = ap (λ (d : ℕ). d ∷ []) (glyph-digit (n % 10) (omega arith) ∙ ap digit (mod-eq-of-lt h))
-    one n h (suc (suc k)) f =
-        absurd (omega (arith, tenth n k (f .2 (omega arith)), one-le-pow k 10 (omega arith)))
-
-    more : (n : ℕ) (ds : List ℕ) → 10 ≤ n → ((k : ℕ) → Fewest 10 1 (n / 10) k → digits 10 k (n / 10) ≡ ds) → (k : ℕ) → Fewest 10 1 n k → digits 10 k n ≡ after n ds
-    more n ds h rest zero f = absurd (omega (arith, f .0))
-    more n ds h rest (suc zero) f = absurd (omega (arith, f .1))
-    more n ds h rest (suc (suc k)) f =
-        let below : n < 10 ^ suc k * 10 = rw pow-suc at (f .1) in
-        let least : 10 ^ k * 10 ≤ n = tenth n k (f .2 (omega arith)) in
-        ap (λ (xs : List ℕ). xs ++ (glyph (n % 10) ∷ []))
-        (rest (suc k) (omega arith, omega (arith, below), λ _. subst (λ (j : ℕ). 10 ^ j ≤ n / 10) (one-less k) (omega (arith, least))))
-        ∙ ap (λ (d : ℕ). ds ++ (d ∷ [])) (glyph-digit (n % 10) (omega arith))

@@ -1,12 +1,13 @@
 -- Texts laid over a buffer one after another: what the steps of laying a line cite.
 use mathlib.Core.List.{List, [], _∷_, _++_, append-assoc, append-nil}
 use mathlib.Core.Path.{_≡_, refl, sym, ap, ap₂, _∙_, subst}
-use Prim.Native.Nat.{ℕ, _+_, _≤_, _<_}
+use Prim.Native.Nat.{ℕ, zero, suc, _+_, _≤_, _<_}
 use native.Mathlib.Nat.{zero-add, add-zero}
 use native.Mathlib.Numerals.{add-one}
 use native.Mathlib.Omega.{arith}
-use lib.ListN.{length, take, drop, length-append, take-append-drop, getD}
+use lib.ListN.{length, take, drop, length-append, take-append-drop, getD, set}
 use lib.Seq.{take-at, drop-at, drop-drop, length-take-le, paste, take-suc, take-length}
+use Rattle.io.specs.Counts.{Counts}
 use Rattle.lines.specs.declared.Line.{Line}
 use Rattle.lines.specs.Line.{spaced, numbersOf, bytesOf, Lays}
 use Rattle.lines.specs.Laid.{over, LaidAt}
@@ -25,8 +26,23 @@ pub over-none : (at : ℕ) (b : List ℕ) → over at [] b ≡ b
 unfolding over
 over-none at b = ap₂ (λ (x : List ℕ) (n : ℕ). x ++ drop n b) (append-nil (take at b)) (add-zero at) ∙ take-append-drop at b
 
+-- one byte before a text
+set-take : (i x : ℕ) (b rest : List ℕ) → i < length b → set (take (suc i) b ++ rest) i x ≡ take i b ++ (x ∷ rest)
+set-take i x [] rest h = absurd (omega (arith, h))
+set-take zero x (y ∷ b) rest h = refl
+set-take (suc i) x (y ∷ b) rest h = ap (λ (l : List ℕ). y ∷ l) (set-take i x b rest (omega (arith, h)))
+
+pub over-before : (i x : ℕ) (t b : List ℕ) → i < length b → set (over (suc i) t b) i x ≡ over i (x ∷ t) b
+unfolding over
+over-before i x t b h =
+    let past : suc i + length t ≡ i + suc (length t) = omega arith in
+    ap (λ (l : List ℕ). set l i x) (append-assoc (take (suc i) b) t (drop (suc i + length t) b))
+    ∙ set-take i x b (t ++ drop (suc i + length t) b) h
+    ∙ sym (append-assoc (take i b) (x ∷ t) (drop (suc i + length t) b))
+    ∙ ap (λ (k : ℕ). take i b ++ (x ∷ t) ++ drop k b) past
+
 -- at the start the text comes first
-over-start : (t b : List ℕ) → over 0 t b ≡ t ++ drop (length t) b
+pub over-start : (t b : List ℕ) → over 0 t b ≡ t ++ drop (length t) b
 unfolding over
 over-start t b = ap (λ (n : ℕ). t ++ drop n b) (zero-add (length t))
 
@@ -59,6 +75,14 @@ numbers-next ns i h =
     ap (λ (k : ℕ). numbersOf (take k ns)) (add-one i) ∙ ap numbersOf (take-suc ns i 0 h) ∙ numbers-append (take i ns) (getD ns i 0 ∷ [])
     ∙ ap (λ (x : List ℕ). numbersOf (take i ns) ++ x) (append-nil (spaced (getD ns i 0)))
 
--- a line's bytes laid at the start
-pub lays : (line same : Line) (b d : List ℕ) (r : ℕ) → line ≡ same → LaidAt 0 (bytesOf same) b r d → Lays line b r d
-lays line same b d r e laid = subst (λ (l : Line). Lays l b r d) (sym e) (laid .0 ∙ zero-add (length (bytesOf same)), laid .1 ∙ over-start (bytesOf same) b)
+-- a line's bytes laid, by its case
+pub line-at : (at : ℕ) (line same : Line) (b d : List ℕ) (r : ℕ) → line ≡ same → LaidAt at (bytesOf same) b r d → LaidAt at (bytesOf line) b r d
+line-at at line same b d r e laid = subst (λ (l : Line). LaidAt at (bytesOf l) b r d) (sym e) laid
+
+-- a text laid at the start
+pub lays : (line : Line) (b d : List ℕ) (r : ℕ) → LaidAt 0 (bytesOf line) b r d → Lays line b r d
+lays line b d r laid = (laid .0 ∙ zero-add (length (bytesOf line)), laid .1 ∙ over-start (bytesOf line) b)
+
+-- what was laid within a buffer can be lent
+pub counts : (r : ℕ) (out : List ℕ) → r ≤ length out → Counts r out
+counts r out h = (h, sym (length-take-le r out h))

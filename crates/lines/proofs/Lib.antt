@@ -2,3 +2,4 @@ pub mod Decimals
 pub mod Laying
 pub mod Outcomes
 pub mod Listing
+pub mod Spelling

@@ -39,6 +39,10 @@ bytesOf (Stop number place) = textOf (115 ∷ 116 ∷ 111 ∷ 112 ∷ []) (numbe
 -- `rate` (document 02, E13)
 bytesOf (Rate class request gets unallotted) = textOf (114 ∷ 97 ∷ 116 ∷ 101 ∷ []) (class ∷ request ∷ gets ∷ unallotted ∷ [])
 
+-- the room that a buffer must have for one more line: no line has more bytes
+abbrev pub lineRoom : ℕ
+lineRoom = 96
+
 -- the answer is the line's length, and the buffer holds the line and then what it held from there on before
 abbrev pub Lays : Line → List ℕ → ℕ → List ℕ → Type 0
 Lays line before r after = (r ≡ length (bytesOf line)) × (after ≡ bytesOf line ++ drop (length (bytesOf line)) before)

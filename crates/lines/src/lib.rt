@@ -1,10 +1,12 @@
-// The lines that a program prints, and a line laid into a lent buffer. An entry for callers outside: it asks nothing.
+// The lines that a program prints, and a line laid into a lent buffer. `lay` is an entry for callers outside and asks nothing; `lay_at` asks for room.
 // The bytes are those of document 01, "A whole run", and of document 02, E13.
-ghost use Prim.Native.Nat.{_+_, _*_, _≤_};
+ghost use mathlib.Core.Path.{_≡_};
+ghost use Prim.Native.Nat.{_+_, _-_, _*_, _≤_};
 ghost use lib.ListN.{length};
 ghost use Rattle.io.specs.Counts.{Counts};
-ghost use Rattle.lines.specs.Line.{spaced, numbersOf, textOf, Lays};
-ghost use Rattle.lines.specs.Laid.{LaidAt};
+ghost use Rattle.lines.specs.Decimal.{decimal};
+ghost use Rattle.lines.specs.Line.{spaced, numbersOf, textOf, bytesOf, lineRoom, Lays};
+ghost use Rattle.lines.specs.Laid.{over, LaidAt};
 
 // One line for each thing.
 pub enum Line {
@@ -26,6 +28,9 @@ pub enum Line {
     Rate(u64, u64, u64, u64),
 }
 
+// The room that a buffer must have for one more line; no line has more bytes.
+pub const ROOM: usize = 96;
+
 // Lays a text from a place on, and answers the place after it.
 fn put(text: &[u8], at: usize, out: &mut [u8]) -> usize
     requires { ⌜ at + length (now text) ≤ length (now out) ⌝ }
@@ -39,16 +44,44 @@ fn put(text: &[u8], at: usize, out: &mut [u8]) -> usize
     at + i
 }
 
+// How many digits a number has.
+fn digits(n: u64) -> usize
+    ensures { λ r. ⌜ r ≡ length (decimal n) ⌝ }
+{
+    let mut rest = n;
+    let mut k: usize = 1;
+    while 10 <= rest {
+        rest /= 10;
+        k += 1;
+    }
+    k
+}
+
+// Lays the digits of a number, the last one first, so that they end before a place.
+fn put_digits(n: u64, end: usize, out: &mut [u8])
+    requires { ⌜ (length (decimal n) ≤ end) × (end ≤ length (now out)) ⌝ }
+    ensures { λ _. ⌜ now (out .exit) ≡ over (end - length (decimal n)) (decimal n) (now (out .entry)) ⌝ }
+{
+    let mut rest = n;
+    let mut i = end - 1;
+    while 10 <= rest {
+        out[i] = b'0' + (rest % 10) as u8;
+        rest /= 10;
+        i -= 1;
+    }
+    out[i] = b'0' + rest as u8;
+}
+
 // Lays one space and a number.
 fn put_number(n: u64, at: usize, out: &mut [u8]) -> usize
     requires { ⌜ at + 21 ≤ length (now out) ⌝ }
     ensures { λ r. ⌜ LaidAt at (spaced n) (now (out .entry)) r (now (out .exit)) ⌝ }
     ensures { λ r. ⌜ r ≤ at + 21 ⌝ }
 {
-    let mut digits = [0u8; 20];
-    let k = io::decimal(n, &mut digits);
-    let next = put(b" ", at, out);
-    put(&digits[..k], next, out)
+    let end = at + 1 + digits(n);
+    put_digits(n, end, out);
+    out[at] = b' ';
+    end
 }
 
 // Lays each number after one space.
@@ -65,14 +98,47 @@ fn put_numbers(numbers: &[u64], at: usize, out: &mut [u8]) -> usize
 }
 
 // Lays a word, its numbers and the end of the line.
-fn put_line(word: &[u8], numbers: &[u64], out: &mut [u8]) -> usize
-    requires { ⌜ length (now word) + 21 * length (now numbers) + 1 ≤ length (now out) ⌝ }
-    ensures { λ r. ⌜ LaidAt 0 (textOf (now (word .entry)) (now (numbers .entry))) (now (out .entry)) r (now (out .exit)) ⌝ }
-    ensures { λ r. ⌜ Counts r (now (out .exit)) ⌝ }
+fn put_line(word: &[u8], numbers: &[u64], at: usize, out: &mut [u8]) -> usize
+    requires { ⌜ at + length (now word) + 21 * length (now numbers) + 1 ≤ length (now out) ⌝ }
+    ensures { λ r. ⌜ LaidAt at (textOf (now (word .entry)) (now (numbers .entry))) (now (out .entry)) r (now (out .exit)) ⌝ }
+    ensures { λ r. ⌜ r ≤ at + length (now (word .entry)) + 21 * length (now (numbers .entry)) + 1 ⌝ }
 {
-    let first = put(word, 0, out);
+    let first = put(word, at, out);
     let last = put_numbers(numbers, first, out);
     put(b"\n", last, out)
+}
+
+// Lays a line from a place on where the longest has room, and answers the place after it.
+pub fn lay_at(line: Line, at: usize, out: &mut [u8]) -> usize
+    requires { ⌜ at + lineRoom ≤ length (now out) ⌝ }
+    ensures { λ r. ⌜ LaidAt at (bytesOf line) (now (out .entry)) r (now (out .exit)) ⌝ }
+    ensures { λ r. ⌜ r ≤ at + lineRoom ⌝ }
+{
+    match line {
+        Line::Link(classes, size) => put_line(b"link", &[classes, size], at, out),
+        Line::In(class, length, tag) => put_line(b"in", &[class, length, tag], at, out),
+        Line::No(class, length, tag, number) => put_line(
+            b"no",
+            &[class, length, tag, number],
+            at,
+            out,
+        ),
+        Line::Out(class, length, tag, rounds) => put_line(
+            b"out",
+            &[class, length, tag, rounds],
+            at,
+            out,
+        ),
+        Line::Nothing => put_line(b"none", &[], at, out),
+        Line::End(waiting) => put_line(b"end", &[waiting], at, out),
+        Line::Stop(number, place) => put_line(b"stop", &[number, place], at, out),
+        Line::Rate(class, request, gets, unallotted) => put_line(
+            b"rate",
+            &[class, request, gets, unallotted],
+            at,
+            out,
+        ),
+    }
 }
 
 // Lays a line at the buffer's start, and answers how many bytes it has. The last clause is what a caller needs to lend that part.
@@ -80,22 +146,5 @@ pub fn lay(line: Line, out: &mut [u8; 96]) -> usize
     ensures { λ r. ⌜ Lays line (now (out .entry)) r (now (out .exit)) ⌝ }
     ensures { λ r. ⌜ Counts r (now (out .exit)) ⌝ }
 {
-    match line {
-        Line::Link(classes, size) => put_line(b"link", &[classes, size], out),
-        Line::In(class, length, tag) => put_line(b"in", &[class, length, tag], out),
-        Line::No(class, length, tag, number) => put_line(b"no", &[class, length, tag, number], out),
-        Line::Out(class, length, tag, rounds) => put_line(
-            b"out",
-            &[class, length, tag, rounds],
-            out,
-        ),
-        Line::Nothing => put_line(b"none", &[], out),
-        Line::End(waiting) => put_line(b"end", &[waiting], out),
-        Line::Stop(number, place) => put_line(b"stop", &[number, place], out),
-        Line::Rate(class, request, gets, unallotted) => put_line(
-            b"rate",
-            &[class, request, gets, unallotted],
-            out,
-        ),
-    }
+    lay_at(line, 0, out)
 }

@@ -26,9 +26,9 @@ use Rattle.state.specs.State.{State, meaning, queueAt}
 use Rattle.state.proofs.Tables.{table-length}
 use Rattle.state.proofs.Meaning.{meaning-held, meaning-put}
 use Rattle.sound.specs.Sound.{InRange, HoldsRight, Sound, SoundLink}
-use Rattle.link.specs.declared.Answered.{Answered}
-use Rattle.link.specs.Arrival.{noLeaf, badLength, full, arrivalChecks, arrived, arrivalGives, arrivalOf, Arrives}
-use Rattle.link.specs.Steps.{judgeChecks}
+use Rattle.link.specs.declared.AfterArrival.{AfterArrival}
+use Rattle.link.specs.Arrival.{noLeaf, badLength, full, arrivalChecks, arrived, judged, arrivalLeaves, arrivalGives, arrivalOf, Arrives}
+use Rattle.steps.specs.Arrivals.{judgeChecks}
 
 -- ---- the numbers that the code reads
 
@@ -48,12 +48,12 @@ no-leaf-checks true leaf l i a b p e f =
 
 -- what an arrival gives, by its verdict
 pub arrival-refused : (sound : Bool) (l : Link) (i : ℕ) (p : Packet) {n q : ℕ} → firstBroken (arrivalChecks sound (meaning l) i p) ≡ Refused n q
-    → arrivalOf sound l i p ≡ record { verdict = Refused n q; link = l }
+    → arrivalOf sound l i p ≡ arrivalLeaves (judged (Refused n q)) l
 unfolding arrivalOf
 arrival-refused sound l i p e = ap (λ (v : Verdict). arrivalGives v l i p) e
 
 pub arrival-taken : (sound : Bool) (l : Link) (i : ℕ) (p : Packet) → firstBroken (arrivalChecks sound (meaning l) i p) ≡ Passed
-    → arrivalOf sound l i p ≡ record { verdict = Passed; link = putLast l i p }
+    → arrivalOf sound l i p ≡ arrivalLeaves (judged Passed) (putLast l i p)
 unfolding arrivalOf
 arrival-taken sound l i p e = ap (λ (v : Verdict). arrivalGives v l i p) e
 
@@ -83,14 +83,14 @@ taken sound s i p e =
 
 -- a number that is no leaf is refused
 pub no-leaf-refused : (sound : Bool) (l : Link) (i : ℕ) (p : Packet) → isLeaf (l .tree) i ≡ false
-    → arrivalOf sound l i p ≡ record { verdict = firstBroken (arrivalChecks sound (meaning l) i p); link = l }
+    → arrivalOf sound l i p ≡ arrivalLeaves (judged (firstBroken (arrivalChecks sound (meaning l) i p))) l
 unfolding arrivalOf noLeaf
 no-leaf-refused sound l i p f = go (refused-or-passed (firstBroken (arrivalChecks sound (meaning l) i p)))
   where
     go : (firstBroken (arrivalChecks sound (meaning l) i p) ≡ Passed)
         ⊎ ((n : ℕ) × (q : ℕ) × (firstBroken (arrivalChecks sound (meaning l) i p) ≡ Refused n q))
         → arrivalGives (firstBroken (arrivalChecks sound (meaning l) i p)) l i p
-        ≡ record { verdict = firstBroken (arrivalChecks sound (meaning l) i p); link = l }
+        ≡ arrivalLeaves (judged (firstBroken (arrivalChecks sound (meaning l) i p))) l
     go (inl e) = absurd (not-true-and-false (taken sound (meaning l) i p e .leaf) f)
     go (inr r) = rw (r .2)
 
@@ -197,16 +197,16 @@ arrival-sound l i p shape sound e =
 
 -- ---- the contract determines the answer
 
-pub arrival-one-answer : (l : Link) (i : ℕ) (p : Packet) (a b : Answered) → Arrives l i p a → Arrives l i p b → a ≡ b
+pub arrival-one-answer : (l : Link) (i : ℕ) (p : Packet) (a b : AfterArrival) → Arrives l i p a → Arrives l i p b → a ≡ b
 arrival-one-answer l i p a b x y =
     x .answer ∙ ap (λ (s : Bool). arrivalOf s l i p) (exactly-unique (x .exactly) (y .exactly)) ∙ sym (y .answer)
 
 -- on a sound record it is what the rules say
-pub arrives-as : (l : Link) (i : ℕ) (p : Packet) (r : Answered) → SoundLink l → Arrives l i p r → r ≡ arrivalOf true l i p
+pub arrives-as : (l : Link) (i : ℕ) (p : Packet) (r : AfterArrival) → SoundLink l → Arrives l i p r → r ≡ arrivalOf true l i p
 arrives-as l i p r sound x = x .answer ∙ ap (λ (s : Bool). arrivalOf s l i p) (x .exactly .complete sound)
 
 -- an accepted arrival was on a sound record
-pub accepted-sound : (l : Link) (i : ℕ) (p : Packet) (r : Answered) → Arrives l i p r → r .verdict ≡ Passed → SoundLink l
+pub accepted-sound : (l : Link) (i : ℕ) (p : Packet) (r : AfterArrival) → Arrives l i p r → r .answer .verdict ≡ Passed → SoundLink l
 accepted-sound l i p r x accepted = x .exactly .sound (go (x .sound) refl)
   where
     go : (b : Bool) → x .sound ≡ b → b ≡ true
@@ -214,32 +214,32 @@ accepted-sound l i p r x accepted = x .exactly .sound (go (x .sound) refl)
     go false e =
         absurd
         (not-both accepted
-        (ap (λ (a : Answered). a .verdict) (x .answer ∙ ap (λ (b : Bool). arrivalOf b l i p) e ∙ arrival-refused false l i p (decides _ _ refl))))
+        (ap (λ (a : AfterArrival). a .answer .verdict) (x .answer ∙ ap (λ (b : Bool). arrivalOf b l i p) e ∙ arrival-refused false l i p (decides _ _ refl))))
 
 -- on a record that is not sound every arrival gives 11 at 0, and the very record
-pub unsound-refused : (l : Link) (i : ℕ) (p : Packet) (r : Answered) → (SoundLink l → ⊥) → Arrives l i p r → r ≡ record { verdict = Refused 11 0; link = l }
+pub unsound-refused : (l : Link) (i : ℕ) (p : Packet) (r : AfterArrival) → (SoundLink l → ⊥) → Arrives l i p r → r ≡ arrivalLeaves (judged (Refused 11 0)) l
 unsound-refused l i p r not-sound x = x .answer ∙ go (x .sound) refl
   where
-    go : (b : Bool) → x .sound ≡ b → arrivalOf (x .sound) l i p ≡ record { verdict = Refused 11 0; link = l }
+    go : (b : Bool) → x .sound ≡ b → arrivalOf (x .sound) l i p ≡ arrivalLeaves (judged (Refused 11 0)) l
     go true e = absurd (not-sound (x .exactly .sound e))
     go false e = rw e (arrival-refused false l i p (decides _ _ refl))
 
 -- ---- what the contract says of an exact flag and its answer
 
-pub arrives-by : (l : Link) (i : ℕ) (p : Packet) (flag : Bool) (r : Answered) → Shaped l → Exactly flag (SoundLink l) → r ≡ arrivalOf flag l i p
+pub arrives-by : (l : Link) (i : ℕ) (p : Packet) (flag : Bool) (r : AfterArrival) → Shaped l → Exactly flag (SoundLink l) → r ≡ arrivalOf flag l i p
     → Arrives l i p r
 arrives-by l i p flag r shape exactly e = record {
   shape = shape;
   sound = flag;
   exactly = exactly;
   answer = e;
-  keeps = λ sound. subst (λ (a : Answered). SoundLink (a .link)) (sym (e ∙ ap (λ (b : Bool). arrivalOf b l i p) (exactly .complete sound))) (go sound (refused-or-passed (firstBroken (arrivalChecks true (meaning l) i p))));
+  keeps = λ sound. subst (λ (a : AfterArrival). SoundLink (a .link)) (sym (e ∙ ap (λ (b : Bool). arrivalOf b l i p) (exactly .complete sound))) (go sound (refused-or-passed (firstBroken (arrivalChecks true (meaning l) i p))));
 }
   where
     go : SoundLink l → (firstBroken (arrivalChecks true (meaning l) i p) ≡ Passed)
         ⊎ ((n : ℕ) × (q : ℕ) × (firstBroken (arrivalChecks true (meaning l) i p) ≡ Refused n q))
         → SoundLink (arrivalOf true l i p .link)
     go sound (inl passed) =
-        subst (λ (a : Answered). SoundLink (a .link)) (sym (arrival-taken true l i p passed))
+        subst (λ (a : AfterArrival). SoundLink (a .link)) (sym (arrival-taken true l i p passed))
         (arrival-sound l i p shape sound passed)
-    go sound (inr w) = subst (λ (a : Answered). SoundLink (a .link)) (sym (arrival-refused true l i p (w .2))) sound
+    go sound (inr w) = subst (λ (a : AfterArrival). SoundLink (a .link)) (sym (arrival-refused true l i p (w .2))) sound

@@ -11,10 +11,10 @@ use Rattle.state.specs.declared.Link.{Link}
 use Rattle.state.specs.Queue.{Shaped}
 use Rattle.state.specs.State.{meaning}
 use Rattle.sound.specs.Sound.{SoundLink}
-use Rattle.round.specs.Active.{someWaits}
-use Rattle.round.specs.Sending.{traceOf}
-use Rattle.sending.proofs.Traces.{after-means, after-sound, rounds-most}
-use Rattle.link.specs.declared.Departure.{Departure}
+use Rattle.rules.specs.Active.{someWaits}
+use Rattle.rules.specs.Sending.{traceOf}
+use Rattle.rules.proofs.Traces.{after-means, after-sound, rounds-most}
+use Rattle.link.specs.declared.AfterSend.{AfterSend}
 use Rattle.link.specs.Send.{departs, sendGives, sendOf, Sends}
 
 -- ---- what a send gives, by its checks
@@ -35,12 +35,12 @@ unfolding sendOf firstBroken
 send-goes l some = rw some
 
 -- 15 exactly when none waits
-pub nothing-exactly : (l : Link) → sendOf true l .verdict ≡ Refused 15 0 → someWaits (meaning l) ≡ false
+pub nothing-exactly : (l : Link) → sendOf true l .answer .verdict ≡ Refused 15 0 → someWaits (meaning l) ≡ false
 nothing-exactly l e = go (someWaits (meaning l)) refl
   where
     go : (b : Bool) → someWaits (meaning l) ≡ b → someWaits (meaning l) ≡ false
     go false h = h
-    go true h = absurd (not-both (ap (λ (d : Departure). d .verdict) (send-goes l h)) e)
+    go true h = absurd (not-both (ap (λ (d : AfterSend). d .answer .verdict) (send-goes l h)) e)
 
 -- ---- a send on a sound link gives a sound link, and opens at most two rounds
 
@@ -49,42 +49,42 @@ module _ (l : Link) (shape : Shaped l) (sound : SoundLink l) where
   send-sound = go (someWaits (meaning l)) refl
     where
       go : (b : Bool) → someWaits (meaning l) ≡ b → SoundLink (sendOf true l .link)
-      go true h = subst (λ (d : Departure). SoundLink (d .link)) (sym (send-goes l h)) (after-sound l shape sound h)
-      go false h = subst (λ (d : Departure). SoundLink (d .link)) (sym (send-nothing l h)) sound
+      go true h = subst (λ (d : AfterSend). SoundLink (d .link)) (sym (send-goes l h)) (after-sound l shape sound h)
+      go false h = subst (λ (d : AfterSend). SoundLink (d .link)) (sym (send-nothing l h)) sound
 
-  pub send-rounds : sendOf true l .rounds ≤ 2
+  pub send-rounds : sendOf true l .answer .rounds ≤ 2
   send-rounds = go (someWaits (meaning l)) refl
     where
-      go : (b : Bool) → someWaits (meaning l) ≡ b → sendOf true l .rounds ≤ 2
+      go : (b : Bool) → someWaits (meaning l) ≡ b → sendOf true l .answer .rounds ≤ 2
       go true h = rw (send-goes l h) (rounds-most l shape sound h)
       go false h = rw (send-nothing l h) (omega arith)
 
   -- the record after it means the state of the trace
   pub send-means : someWaits (meaning l) ≡ true → meaning (sendOf true l .link) ≡ traceOf (meaning l) .state
-  send-means h = ap (λ (d : Departure). meaning (d .link)) (send-goes l h) ∙ after-means l shape sound h
+  send-means h = ap (λ (d : AfterSend). meaning (d .link)) (send-goes l h) ∙ after-means l shape sound h
 
 -- ---- what the contract says
 
-pub send-one-answer : (l : Link) (a b : Departure) → Sends l a → Sends l b → a ≡ b
+pub send-one-answer : (l : Link) (a b : AfterSend) → Sends l a → Sends l b → a ≡ b
 send-one-answer l a b x y = x .answer ∙ ap (λ (s : Bool). sendOf s l) (exactly-unique (x .exactly) (y .exactly)) ∙ sym (y .answer)
 
 -- on a sound link it is what the rules say
-pub sends-as : (l : Link) (r : Departure) → SoundLink l → Sends l r → r ≡ sendOf true l
+pub sends-as : (l : Link) (r : AfterSend) → SoundLink l → Sends l r → r ≡ sendOf true l
 sends-as l r sound x = x .answer ∙ ap (λ (s : Bool). sendOf s l) (x .exactly .complete sound)
 
 -- an exact flag and its answer
-pub sends-by : (l : Link) (flag : Bool) (r : Departure) → Shaped l → Exactly flag (SoundLink l) → r ≡ sendOf flag l → Sends l r
+pub sends-by : (l : Link) (flag : Bool) (r : AfterSend) → Shaped l → Exactly flag (SoundLink l) → r ≡ sendOf flag l → Sends l r
 sends-by l flag r shape exactly e = record {
   shape = shape;
   sound = flag;
   exactly = exactly;
   answer = e;
   keeps = λ sound.
-      subst (λ (d : Departure). SoundLink (d .link)) (sym (e ∙ ap (λ (b : Bool). sendOf b l) (exactly .complete sound))) (send-sound l shape sound);
+      subst (λ (d : AfterSend). SoundLink (d .link)) (sym (e ∙ ap (λ (b : Bool). sendOf b l) (exactly .complete sound))) (send-sound l shape sound);
 }
 
 -- on a link that is not sound a send gives 11 and the very same record
-pub unsound-sends-none : (l : Link) (r : Departure) → (SoundLink l → ⊥) → Sends l r → r ≡ sendGives (Refused 11 0) l
+pub unsound-sends-none : (l : Link) (r : AfterSend) → (SoundLink l → ⊥) → Sends l r → r ≡ sendGives (Refused 11 0) l
 unsound-sends-none l r not-sound x = x .answer ∙ go (x .sound) refl
   where
     go : (b : Bool) → x .sound ≡ b → sendOf (x .sound) l ≡ sendGives (Refused 11 0) l

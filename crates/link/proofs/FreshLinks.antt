@@ -21,7 +21,8 @@ use Rattle.state.proofs.Meaning.{meaning-held, fresh-queues}
 use Rattle.state.proofs.Queues.{queue-length}
 use Rattle.sound.specs.Sound.{total, SoundLink}
 use Rattle.link.specs.declared.Answered.{Answered}
-use Rattle.link.specs.Arrival.{Arrives}
+use Rattle.link.specs.declared.AfterArrival.{AfterArrival}
+use Rattle.link.specs.Arrival.{judged, arrivalLeaves, Arrives}
 use Rattle.link.specs.Fresh.{freshOf, MakesFresh}
 use Rattle.link.proofs.Arrivals.{unsound-refused}
 
@@ -89,5 +90,5 @@ fresh-one-answer t a b x y =
     x .answer ∙ ap (λ (o : Bool). freshOf o t) (exactly-unique (x .exactly) (y .exactly)) ∙ sym (y .answer)
 
 -- so every arrival on it gives 11 at 0
-pub none-refuses : (i : ℕ) (p : Packet) (r : Answered) → Arrives noLink i p r → r ≡ record { verdict = Refused 11 0; link = noLink }
+pub none-refuses : (i : ℕ) (p : Packet) (r : AfterArrival) → Arrives noLink i p r → r ≡ arrivalLeaves (judged (Refused 11 0)) noLink
 none-refuses i p r = unsound-refused noLink i p r none-not-sound

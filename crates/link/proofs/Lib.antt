@@ -1,4 +1,5 @@
 pub mod Arrivals
 pub mod Departures
+pub mod OverParts
 pub mod FreshLinks
 pub mod Progress

@@ -8,10 +8,10 @@ use Rattle.state.specs.declared.Packet.{Packet}
 use Rattle.state.specs.Queue.{Shaped}
 use Rattle.state.specs.State.{State, meaning, queueAt}
 use Rattle.sound.specs.Sound.{SoundLink}
-use Rattle.round.specs.Active.{someWaits}
-use Rattle.round.specs.Sending.{traceOf}
-use Rattle.sending.proofs.Traces.{after-means, trace-leaf, trace-queue, trace-others}
-use Rattle.link.specs.declared.Departure.{Departure}
+use Rattle.rules.specs.Active.{someWaits}
+use Rattle.rules.specs.Sending.{traceOf}
+use Rattle.rules.proofs.Traces.{after-means, trace-leaf, trace-queue, trace-others}
+use Rattle.link.specs.declared.AfterSend.{AfterSend}
 use Rattle.link.specs.Send.{departs, sendOf, Sends}
 use Rattle.link.specs.Progress.{SendsFirst, Progress}
 use Rattle.link.proofs.Departures.{send-goes, send-nothing, nothing-exactly, sends-as}
@@ -31,9 +31,9 @@ module _ (l : Link) (shape : Shaped l) (sound : SoundLink l) (waits : someWaits 
   })
 
 -- while a packet waits, a send on a sound link sends one; 15 exactly when none waits
-pub progress : (l : Link) (d : Departure) → SoundLink l → Sends l d → Progress l d
+pub progress : (l : Link) (d : AfterSend) → SoundLink l → Sends l d → Progress l d
 progress l d sound x = subst (Progress l) (sym (sends-as l d sound x)) (record {
   sends = λ waits. sends-first l (x .shape) sound waits;
-  none = λ none. ap (λ (r : Departure). r .verdict) (send-nothing l none);
+  none = λ none. ap (λ (r : AfterSend). r .answer .verdict) (send-nothing l none);
   only-then = nothing-exactly l;
 })

@@ -14,7 +14,8 @@ use Rattle.state.specs.declared.Packet.{Packet}
 use Rattle.state.specs.Queue.{Shaped, putLast}
 use Rattle.state.specs.State.{State, meaning, queueAt, withQueue}
 use Rattle.sound.specs.Sound.{SoundLink}
-use Rattle.link.specs.declared.Answered.{Answered}
+use Rattle.link.specs.declared.Arrival.{Arrival}
+use Rattle.link.specs.declared.AfterArrival.{AfterArrival}
 
 -- 12: the class is not a leaf of the plan
 unfoldable pub noLeaf : State → ℕ → Bool
@@ -37,16 +38,24 @@ arrivalChecks sound s class p =
 abbrev pub arrived : State → ℕ → Packet → State
 arrived s class p = withQueue s class (queueAt s class ++ (p ∷ []))
 
--- a refused arrival gives the very same record; an accepted one puts the packet last (`putLast` means `arrived`: proofs/Arrivals)
-abbrev pub arrivalGives : Verdict → Link → ℕ → Packet → Answered
-arrivalGives Passed l class p = record { verdict = Passed; link = putLast l class p }
-arrivalGives (Refused n q) l class p = record { verdict = Refused n q; link = l }
+-- the answer: the verdict
+abbrev pub judged : Verdict → Arrival
+judged verdict = record { verdict = verdict }
 
-unfoldable pub arrivalOf : Bool → Link → ℕ → Packet → Answered
+-- an answer and the link after it
+abbrev pub arrivalLeaves : Arrival → Link → AfterArrival
+arrivalLeaves answer link = record { answer = answer; link = link }
+
+-- a refused arrival gives the very same record; an accepted one puts the packet last (`putLast` means `arrived`: proofs/Arrivals)
+abbrev pub arrivalGives : Verdict → Link → ℕ → Packet → AfterArrival
+arrivalGives Passed l class p = arrivalLeaves (judged Passed) (putLast l class p)
+arrivalGives (Refused n q) l class p = arrivalLeaves (judged (Refused n q)) l
+
+unfoldable pub arrivalOf : Bool → Link → ℕ → Packet → AfterArrival
 arrivalOf sound l class p = arrivalGives (firstBroken (arrivalChecks sound (meaning l) class p)) l class p
 
 -- what an arrival on any record gives; on a sound one it gives a sound one. A record's lists have the lengths of its arrays.
-pub record Arrives (l : Link) (class : ℕ) (p : Packet) (r : Answered) : Type 0 where
+pub record Arrives (l : Link) (class : ℕ) (p : Packet) (r : AfterArrival) : Type 0 where
   pub shape : Shaped l
   pub sound : Bool
   pub exactly : Exactly sound (SoundLink l)

@@ -4,4 +4,4 @@ pub mod Arrival
 pub mod Send
 pub mod Progress
 pub mod Run
-pub mod Steps
+pub mod Parts

@@ -2,44 +2,52 @@
 use mathlib.Core.Bool.{Bool, not}
 use mathlib.Core.List.{List, [], _∷_}
 use mathlib.Core.Path.{_≡_}
+use Prim.Native.Nat.{ℕ}
 use lib.ListN.{length}
 use Rattle.checks.specs.declared.Verdict.{Verdict}
 use Rattle.checks.specs.declared.Verdict.the-variants.{Passed, Refused}
 use Rattle.checks.specs.Check.{Check, check, firstBroken, Exactly}
 use Rattle.state.specs.declared.Link.{Link}
+use Rattle.state.specs.declared.Packet.{Packet}
 use Rattle.state.specs.Queue.{Shaped}
 use Rattle.state.specs.State.{State, meaning}
 use Rattle.sound.specs.Sound.{SoundLink}
-use Rattle.round.specs.Active.{someWaits}
-use Rattle.round.specs.Sending.{Trace, traceOf}
-use Rattle.sending.specs.After.{linkAfter}
+use Rattle.rules.specs.Active.{someWaits}
+use Rattle.rules.specs.Sending.{Trace, traceOf}
+use Rattle.rules.specs.After.{linkAfter}
 use Rattle.link.specs.declared.Departure.{Departure}
+use Rattle.link.specs.declared.AfterSend.{AfterSend}
 
 -- a send is checked in the order 11, 15, both at 0; 15: no packet waits
 abbrev pub sendChecks : Bool → State → List Check
 sendChecks sound s = check 11 (not sound) 0 ∷ check 15 (not (someWaits s)) 0 ∷ []
 
--- the answer: class, length, tag and the number of rounds opened in the call, read off the trace; the link after it is in the trace's state
-abbrev pub departs : Link → Trace → Departure
-departs l trace = record {
-  verdict = Passed;
-  class = trace .class;
-  length = trace .packet .length;
-  tag = trace .packet .tag;
-  rounds = length (trace .turns);
-  link = linkAfter l trace;
-}
+-- the answer: class, length, tag and the number of rounds opened in the call
+abbrev pub goes : ℕ → Packet → ℕ → Departure
+goes class p rounds = record { verdict = Passed; class = class; length = p .length; tag = p .tag; rounds = rounds }
 
--- a refused send gives the very same record, and all its other numbers are 0
-abbrev pub sendGives : Verdict → Link → Departure
+-- all other numbers of a refused send are 0
+abbrev pub refused : Verdict → Departure
+refused verdict = record { verdict = verdict; class = 0; length = 0; tag = 0; rounds = 0 }
+
+-- an answer and the link after it
+abbrev pub sendLeaves : Departure → Link → AfterSend
+sendLeaves answer link = record { answer = answer; link = link }
+
+-- a send that goes is read off its trace; the link after it is in the trace's state
+abbrev pub departs : Link → Trace → AfterSend
+departs l trace = sendLeaves (goes (trace .class) (trace .packet) (length (trace .turns))) (linkAfter l trace)
+
+-- a refused send gives the very same record
+abbrev pub sendGives : Verdict → Link → AfterSend
 sendGives Passed l = departs l (traceOf (meaning l))
-sendGives (Refused n q) l = record { verdict = Refused n q; class = 0; length = 0; tag = 0; rounds = 0; link = l }
+sendGives (Refused n q) l = sendLeaves (refused (Refused n q)) l
 
-unfoldable pub sendOf : Bool → Link → Departure
+unfoldable pub sendOf : Bool → Link → AfterSend
 sendOf sound l = sendGives (firstBroken (sendChecks sound (meaning l))) l
 
 -- what a send on any record gives; on a sound one it gives a sound one. A record's lists have the lengths of its arrays.
-pub record Sends (l : Link) (r : Departure) : Type 0 where
+pub record Sends (l : Link) (r : AfterSend) : Type 0 where
   pub shape : Shaped l
   pub sound : Bool
   pub exactly : Exactly sound (SoundLink l)

@@ -1,32 +1,74 @@
 // The calls of the library: a fresh link from a plan's tree, an arrival and a send. Entries for callers outside: they ask nothing.
+// An arrival and a send are worked out once, over the parts of a link with its waiting places lent; the calls by value take a link apart and put
+// it together.
 // Serves demand 1 (numbers 11 to 15, a refused call hands the record back unaltered) and demand 2.
+ghost use mathlib.Core.List.{List};
 ghost use mathlib.Core.Path.{_≡_};
-ghost use lib.Dec.{ltb};
-ghost use Rattle.checks.specs.Check.{firstBroken};
+ghost use Prim.Native.Nat.{ℕ, _+_, _<_};
+ghost use lib.ListN.{getD, set};
 ghost use Rattle.link.specs.Fresh.{MakesFresh};
 ghost use Rattle.link.specs.Arrival.{Arrives};
-ghost use Rattle.checks.specs.declared.Verdict.the-variants.{Refused};
-ghost use Rattle.link.specs.Send.{sendGives, Sends};
-ghost use Rattle.link.specs.Steps.{judgeChecks};
+ghost use Rattle.checks.specs.declared.Verdict.the-variants.{Passed, Refused};
+ghost use Rattle.state.specs.State.{linkOf};
+ghost use Rattle.link.specs.Send.{refused, Sends};
+ghost use Rattle.link.specs.Parts.{placedAt, ArrivesIn, ArrivesAt, wentTo, goesBy, SendsIn};
 use checks::Verdict;
+use state::Account;
 use state::Link;
 use state::Packet;
+use steps::Moved;
 use tree::Tree;
+use units::Bytes;
 
-// What a call on a link gives: a verdict and the link after it.
+// What a fresh link asked of a tree gives: a verdict and the link.
 pub struct Answered {
     pub verdict: Verdict,
     pub link: Link,
 }
 
-// What a send gives: a verdict, the packet that goes with its class, the rounds opened in the call, and the link after it. All numbers of a refused one are 0.
+// What an arrival answers: its verdict.
+pub struct Arrival {
+    pub verdict: Verdict,
+}
+
+// What an arrival gives: its answer and the link after it.
+pub struct AfterArrival {
+    pub answer: Arrival,
+    pub link: Link,
+}
+
+// What a send answers: a verdict, the packet that goes with its class, and the rounds opened in the call. All numbers of a refused one
+// are 0.
 pub struct Departure {
     pub verdict: Verdict,
     pub class: usize,
     pub length: u16,
     pub tag: u32,
     pub rounds: usize,
+}
+
+// What a send gives: its answer and the link after it.
+pub struct AfterSend {
+    pub answer: Departure,
     pub link: Link,
+}
+
+// An arrival over the parts of a link: its answer, the packets held after it, and the waiting place where the packet goes; 2,048, which is
+// no place, where it is refused.
+pub struct Placed {
+    pub answer: Arrival,
+    pub held: [u8; Link::CLASSES],
+    pub at: usize,
+}
+
+// A send over the parts of a link: its answer, and the parts that it may change.
+pub struct Went {
+    pub answer: Departure,
+    pub active: u64,
+    pub place: usize,
+    pub accounts: [Account; Link::CLASSES],
+    pub start: [u8; Link::CLASSES],
+    pub held: [u8; Link::CLASSES],
 }
 
 // A fresh link of a tree, any tree.
@@ -43,93 +85,245 @@ pub fn fresh(tree: Tree) -> Answered
     Answered { verdict, link }
 }
 
-// Is the packet longer than the longest? 13 reads bare lengths, and no charge.
-fn is_longer(length: u16, longest: u16) -> bool
-    ensures { λ r. ⌜ r ≡ ltb longest length ⌝ }
+// A refused arrival over parts: the packet goes nowhere.
+fn nowhere(verdict: Verdict, held: [u8; Link::CLASSES]) -> Placed
+    ensures { λ r. ⌜ r ≡ placedAt verdict held 2_048 ⌝ }
 {
-    longest < length
+    let answer = Arrival { verdict };
+    Placed {
+        answer,
+        held,
+        at: 2048,
+    }
 }
 
-// Checks 11, 12, 13 and 14 of an arrival, in this order.
-fn judge(sound: bool, leaf: bool, class: usize, length: u16, longest: u16, held: u8) -> Verdict
-    ensures { λ r. ⌜ r ≡ firstBroken (judgeChecks sound leaf class length longest held) ⌝ }
+// An accepted one: its leaf holds one packet more.
+fn somewhere(held: [u8; Link::CLASSES], class: usize, at: usize) -> Placed
+    requires { ⌜ (class < 64) × (getD held class 0 < 32) ⌝ }
+    ensures { λ r. ⌜ r ≡ placedAt Passed (set held class (getD held class 0 + 1)) at ⌝ }
 {
-    if !sound {
-        return Verdict::Refused(checks::NOT_SOUND, 0);
+    let mut held = held;
+    held[class] += 1;
+    let verdict = Verdict::Passed;
+    let answer = Arrival { verdict };
+    Placed { answer, held, at }
+}
+
+// An arrival over the parts of a link: any class number, any length and any tag.
+pub fn arrive_of(
+    tree: Tree,
+    size: Bytes,
+    active: u64,
+    place: usize,
+    accounts: [Account; Link::CLASSES],
+    start: [u8; Link::CLASSES],
+    held: [u8; Link::CLASSES],
+    lengths: &[u16; 2048],
+    class: usize,
+    packet: Packet,
+) -> Placed
+    ensures { λ r. ⌜ ((tags : List ℕ) → ArrivesIn (linkOf tree size active place accounts start held (now (lengths .entry)) tags) class packet r) ⌝ }
+{
+    let sound = sound::is_sound_of(tree, size, active, place, accounts, start, held, lengths);
+    let leaf = sets::holds(tree.leaves, class);
+    if Link::CLASSES <= class {
+        return nowhere(steps::judge(sound, leaf, class, packet.length, 0, 0), held);
     }
-    if !leaf {
-        return Verdict::Refused(checks::NO_LEAF, class);
+    let h = held[class];
+    let verdict = steps::judge(sound, leaf, class, packet.length, tree.longest[class], h);
+    if let Verdict::Refused(_, _) = verdict {
+        return nowhere(verdict, held);
     }
-    if length < 1 {
-        return Verdict::Refused(checks::LENGTH, class);
+    let at = steps::free_place(class, start[class], h);
+    somewhere(held, class, at)
+}
+
+// An arrival over the parts of a link, the packet laid where it goes.
+pub fn arrive_in<'a>(
+    tree: Tree,
+    size: Bytes,
+    active: u64,
+    place: usize,
+    accounts: [Account; Link::CLASSES],
+    start: [u8; Link::CLASSES],
+    held: [u8; Link::CLASSES],
+    lengths: &'a mut [u16; 2048],
+    tags: &'a mut [u32; 2048],
+    class: usize,
+    packet: Packet,
+) -> Placed
+    ensures { λ r. ⌜ ArrivesAt (linkOf tree size active place accounts start held (now (lengths .entry)) (now (tags .entry))) class packet (r .answer)
+        (linkOf tree size active place accounts start (r .held) (now (lengths .exit)) (now (tags .exit))) ⌝ }
+{
+    let placed = arrive_of(
+        tree,
+        size,
+        active,
+        place,
+        accounts,
+        start,
+        held,
+        lengths,
+        class,
+        packet,
+    );
+    let at = placed.at;
+    if at < 2048 {
+        lengths[at] = packet.length;
+        tags[at] = packet.tag;
     }
-    if is_longer(length, longest) {
-        return Verdict::Refused(checks::LENGTH, class);
-    }
-    if Link::PLACES as u8 <= held {
-        return Verdict::Refused(checks::FULL, class);
-    }
-    Verdict::Passed
+    placed
 }
 
 // An arrival: any class number, any length and any tag.
-pub fn arrive(link: Link, class: usize, packet: Packet) -> Answered
+pub fn arrive(link: Link, class: usize, packet: Packet) -> AfterArrival
     ensures { λ r. ⌜ Arrives link class packet r ⌝ }
 {
-    let sound = sound::is_sound(link);
     let tree = link.tree;
-    let leaf = sets::holds(tree.leaves, class);
-    if Link::CLASSES <= class {
-        let verdict = judge(sound, leaf, class, packet.length, 0, 0);
-        return Answered { verdict, link };
+    let size = link.size;
+    let accounts = link.accounts;
+    let start = link.start;
+    let held = link.held;
+    let lengths = link.lengths;
+    let placed = arrive_of(
+        tree,
+        size,
+        link.active,
+        link.place,
+        accounts,
+        start,
+        held,
+        &lengths,
+        class,
+        packet,
+    );
+    let answer = placed.answer;
+    let at = placed.at;
+    let mut after = link;
+    let more = placed.held;
+    after.held = more;
+    if at < 2048 {
+        after.lengths[at] = packet.length;
+        after.tags[at] = packet.tag;
     }
-    let held = link.held[class];
-    let verdict = judge(sound, leaf, class, packet.length, tree.longest[class], held);
-    if let Verdict::Refused(_, _) = verdict {
-        return Answered { verdict, link };
-    }
-    let after = link.put(class, packet);
-    Answered {
-        verdict,
+    AfterArrival {
+        answer,
         link: after,
     }
 }
 
-// A refused send: the very same record, and all other numbers 0.
-fn no_departure(number: u8, link: Link) -> Departure
-    ensures { λ r. ⌜ r ≡ sendGives (Refused number 0) link ⌝ }
+// A refused send: every part as it was, and all other numbers 0.
+fn stays(
+    number: u8,
+    active: u64,
+    place: usize,
+    accounts: [Account; Link::CLASSES],
+    start: [u8; Link::CLASSES],
+    held: [u8; Link::CLASSES],
+) -> Went
+    ensures { λ r. ⌜ r ≡ wentTo (refused (Refused number 0)) active place accounts start held ⌝ }
 {
     let verdict = Verdict::Refused(number, 0);
-    Departure {
+    let answer = Departure {
         verdict,
         class: 0,
         length: 0,
         tag: 0,
         rounds: 0,
-        link,
+    };
+    Went {
+        answer,
+        active,
+        place,
+        accounts,
+        start,
+        held,
     }
 }
 
-// A send.
-pub fn send(link: Link) -> Departure
-    ensures { λ r. ⌜ Sends link r ⌝ }
+// A packet goes: the parts of the link after it.
+fn goes(moved: Moved) -> Went
+    ensures { λ r. ⌜ r ≡ goesBy moved ⌝ }
 {
-    if !sound::is_sound(link) {
-        return no_departure(checks::NOT_SOUND, link);
-    }
-    if !sending::some_waits(link) {
-        return no_departure(checks::NOTHING_WAITS, link);
-    }
-    let sent = sending::send(link);
-    let packet = sent.packet;
+    let packet = moved.packet;
     let verdict = Verdict::Passed;
-    let after = sent.link;
-    Departure {
+    let answer = Departure {
         verdict,
-        class: sent.class,
+        class: moved.class,
         length: packet.length,
         tag: packet.tag,
-        rounds: sent.rounds,
+        rounds: moved.rounds,
+    };
+    let accounts = moved.accounts;
+    let start = moved.start;
+    let held = moved.held;
+    Went {
+        answer,
+        active: moved.active,
+        place: moved.place,
+        accounts,
+        start,
+        held,
+    }
+}
+
+// A send over the parts of a link.
+pub fn send_of<'a>(
+    tree: Tree,
+    size: Bytes,
+    active: u64,
+    place: usize,
+    accounts: [Account; Link::CLASSES],
+    start: [u8; Link::CLASSES],
+    held: [u8; Link::CLASSES],
+    lengths: &'a [u16; 2048],
+    tags: &'a [u32; 2048],
+) -> Went
+    ensures { λ r. ⌜ SendsIn (linkOf tree size active place accounts start held (now (lengths .entry)) (now (tags .entry))) r ⌝ }
+{
+    if !sound::is_sound_of(tree, size, active, place, accounts, start, held, lengths) {
+        return stays(checks::NOT_SOUND, active, place, accounts, start, held);
+    }
+    let moved = steps::send_values(tree, active, place, accounts, start, held, lengths, tags);
+    let some = moved.some;
+    if !some {
+        return stays(checks::NOTHING_WAITS, active, place, accounts, start, held);
+    }
+    goes(moved)
+}
+
+// A send.
+pub fn send(link: Link) -> AfterSend
+    ensures { λ r. ⌜ Sends link r ⌝ }
+{
+    let tree = link.tree;
+    let size = link.size;
+    let accounts = link.accounts;
+    let start = link.start;
+    let held = link.held;
+    let went = send_of(
+        tree,
+        size,
+        link.active,
+        link.place,
+        accounts,
+        start,
+        held,
+        &link.lengths,
+        &link.tags,
+    );
+    let answer = went.answer;
+    let accounts_after = went.accounts;
+    let start_after = went.start;
+    let held_after = went.held;
+    let mut after = link;
+    after.active = went.active;
+    after.place = went.place;
+    after.accounts = accounts_after;
+    after.start = start_after;
+    after.held = held_after;
+    AfterSend {
+        answer,
         link: after,
     }
 }

@@ -92,7 +92,8 @@ fn arrive(before: Link, command: &[u8]) -> Link {
     let tag = number_32(command, 11) as u32;
     let packet = Packet { length, tag };
     let got = link::arrive(before, class, packet);
-    let verdict = got.verdict;
+    let answer = got.answer;
+    let verdict = answer.verdict;
     let after = got.link;
     lines::verdict(b"in ", verdict);
     number(b" held ", held(after, class));
@@ -155,13 +156,14 @@ fn compare(link: Link, kept: Link) -> Link {
 // A send, and whether the record came back the very same.
 fn send(before: Link) -> Link {
     let got = link::send(before);
-    let verdict = got.verdict;
+    let answer = got.answer;
+    let verdict = answer.verdict;
     let after = got.link;
     lines::verdict(b"out ", verdict);
-    number(b" class ", got.class as u64);
-    number(b" length ", got.length as u64);
-    number(b" tag ", got.tag as u64);
-    number(b" rounds ", got.rounds as u64);
+    number(b" class ", answer.class as u64);
+    number(b" length ", answer.length as u64);
+    number(b" tag ", answer.tag as u64);
+    number(b" rounds ", answer.rounds as u64);
     lines::either(same::same_link(before, after), b" same\n", b" changed\n");
     after
 }

@@ -1,21 +1,29 @@
 // A whole run: a plan and its events from standard input, one line for each thing (document 01, "A whole run"); run and compared with the listing.
-// It reads, calls and prints; the lines are those of `run`. Serves demands 1 and 2.
+// It reads, calls and writes, part by part; the lines are those of `run`. Serves demands 1 and 2.
 use libc::STDIN_FILENO;
-use run::Step;
+use libc::STDOUT_FILENO;
+use run::PartRun;
 
-// Prints the line of a step.
-fn show(step: Step) {
+// The bytes of a part at most.
+const TEXT: usize = 65_536;
+
+// Prints the lines of a whole run: the first one, then those of the events.
+fn whole(input: &[u8]) {
+    let step = run::first(input);
     let line = step.line;
     shown::print(line);
-}
-
-// Prints the lines of a whole run.
-fn whole(input: &[u8]) {
-    let mut step = run::first(input);
-    show(step);
-    while step.more {
-        step = run::next(step.link, input, step.place);
-        show(step);
+    let link = step.link;
+    let mut part = PartRun {
+        laid: 0,
+        more: step.more,
+        link,
+        place: step.place,
+    };
+    let mut text = [0u8; TEXT];
+    while part.more {
+        part = run::part(part.link, input, part.place, &mut text);
+        let laid = part.laid;
+        io::write_all(STDOUT_FILENO, &text[..laid]);
     }
 }
 

@@ -8,16 +8,16 @@ use Rattle.checks.specs.declared.Verdict.{Verdict}
 use Rattle.checks.specs.declared.Verdict.the-variants.{Passed, Refused}
 use Rattle.tree.specs.declared.Tree.{Tree}
 use Rattle.tree.specs.Rules.{PlanRules}
-use Rattle.plan.specs.declared.PlanRead.{PlanRead}
 use Rattle.plan.specs.Reader.{planOf}
 use Rattle.plan.proofs.Numbers.{plan-rules}
 use Rattle.state.specs.declared.Link.{Link}
 use Rattle.sound.specs.Sound.{SoundLink}
 use Rattle.link.specs.declared.Answered.{Answered}
-use Rattle.link.specs.declared.Departure.{Departure}
+use Rattle.link.specs.declared.AfterArrival.{AfterArrival}
+use Rattle.link.specs.declared.AfterSend.{AfterSend}
 use Rattle.link.specs.Fresh.{freshOf, MakesFresh}
-use Rattle.link.specs.Arrival.{arrivalOf, Arrives}
-use Rattle.link.specs.Send.{sendOf, Sends}
+use Rattle.link.specs.Arrival.{arrivalOf}
+use Rattle.link.specs.Send.{sendOf}
 use Rattle.link.proofs.Arrivals.{arrives-as}
 use Rattle.link.proofs.Departures.{sends-as}
 use Rattle.link.proofs.FreshLinks.{fresh-sound}
@@ -33,11 +33,11 @@ answerOf (call ⟶ answer) = answer
 unfoldable pub answersOf : Link → List Call → List Answer
 answersOf l [] = []
 answersOf l (arrival class length tag ∷ calls) =
-    let a : Answered = arrivalOf true l class (packetOf length tag) in
-    arrived (a .verdict) ∷ answersOf (a .link) calls
+    let a : AfterArrival = arrivalOf true l class (packetOf length tag) in
+    arrived (a .answer .verdict) ∷ answersOf (a .link) calls
 answersOf l (send ∷ calls) =
-    let d : Departure = sendOf true l in
-    sentAs d ∷ answersOf (d .link) calls
+    let d : AfterSend = sendOf true l in
+    sentAs (d .answer) ∷ answersOf (d .link) calls
 answersOf l (opening k ∷ calls) = seen (opening k) l ∷ answersOf l calls
 answersOf l (show ∷ calls) = seen show l ∷ answersOf l calls
 answersOf l (end ∷ calls) = seen end l ∷ answersOf l calls
@@ -72,13 +72,13 @@ unfolding Follows answersOf
 follows l [] sound e = tt
 follows l (arrival class length tag ⟶ answer ∷ steps) sound e = λ a x.
     let same = arrives-as l class (packetOf length tag) a sound x in (
-      ap (λ (r : Answered). arrived (r .verdict)) same ∙ first-same e,
-      follows (a .link) steps (x .keeps sound) (ap (λ (r : Answered). answersOf (r .link) (map callOf steps)) same ∙ rest-same e),
+      ap (λ (r : AfterArrival). arrived (r .answer .verdict)) same ∙ first-same e,
+      follows (a .link) steps (x .keeps sound) (ap (λ (r : AfterArrival). answersOf (r .link) (map callOf steps)) same ∙ rest-same e),
     )
 follows l (send ⟶ answer ∷ steps) sound e = λ d x.
     let same = sends-as l d sound x in (
-      ap sentAs same ∙ first-same e,
-      follows (d .link) steps (x .keeps sound) (ap (λ (r : Departure). answersOf (r .link) (map callOf steps)) same ∙ rest-same e),
+      ap (λ (r : AfterSend). sentAs (r .answer)) same ∙ first-same e,
+      follows (d .link) steps (x .keeps sound) (ap (λ (r : AfterSend). answersOf (r .link) (map callOf steps)) same ∙ rest-same e),
     )
 follows l (opening k ⟶ answer ∷ steps) sound e = (first-same e, follows l steps sound (rest-same e))
 follows l (show ⟶ answer ∷ steps) sound e = (first-same e, follows l steps sound (rest-same e))

@@ -13,9 +13,9 @@ use Rattle.plan.specs.Record.{kindAt, missing, unknown, cut, bodyOf, classAt}
 use Rattle.plan.specs.Reader.{recordChecks, after, treeOf, passes, inRow, passedOver, decidingChecks, planOf}
 use Rattle.state.specs.Queue.{table, queueOf}
 use Rattle.tree.specs.Below.{climbs, atOrBelow}
-use Rattle.round.specs.Active.{waits, someWaits, someBelow, setOf, upward, roundActive, activeChild, activeWeight, weightSum}
-use Rattle.round.specs.Opening.{surplusAt, hasSurplus, kindOf, quotaIn, quota, due, handsDown, openedLeaf, openedInner, openedAccount, openedAccounts, nextKind, opened}
-use Rattle.round.specs.Sending.{ready, firstFrom, nextLeaf, givenUp, turnsOff, paid, booksAfter, sentState, turnOf, sends, traceOf}
+use Rattle.rules.specs.Active.{waits, someWaits, someBelow, setOf, upward, roundActive, activeChild, activeWeight, weightSum}
+use Rattle.rules.specs.Opening.{surplusAt, hasSurplus, kindOf, quotaIn, quota, due, handsDown, openedLeaf, openedInner, openedAccount, openedAccounts, nextKind, opened}
+use Rattle.rules.specs.Sending.{ready, firstFrom, nextLeaf, givenUp, turnsOff, paid, booksAfter, sentState, turnOf, sends, traceOf}
 use Rattle.link.specs.Arrival.{noLeaf, badLength, full, arrivalOf}
 use Rattle.link.specs.Send.{sendOf}
 use Rattle.marked.specs.Run.{readOf, accountsOf, openingOf, openingAt, classesIn, waitingIn, AllRight}

@@ -17,10 +17,12 @@ use Rattle.state.specs.declared.Packet.{Packet}
 use Rattle.state.specs.Account.{balanceOf, residualOf}
 use Rattle.state.specs.Queue.{table}
 use Rattle.state.specs.State.{State, meaning, queueAt}
-use Rattle.round.specs.Opening.{Kind}
-use Rattle.round.specs.Sending.{Turn, traceOf}
+use Rattle.rules.specs.Opening.{Kind}
+use Rattle.rules.specs.Sending.{Turn, traceOf}
 use Rattle.link.specs.declared.Answered.{Answered}
+use Rattle.link.specs.declared.AfterArrival.{AfterArrival}
 use Rattle.link.specs.declared.Departure.{Departure}
+use Rattle.link.specs.declared.AfterSend.{AfterSend}
 use Rattle.link.specs.Fresh.{MakesFresh}
 use Rattle.link.specs.Arrival.{Arrives}
 use Rattle.link.specs.Send.{Sends}
@@ -115,8 +117,8 @@ seen end l = waiting (waitingIn (meaning l))
 unfoldable pub Follows : Link → List Step → Type 0
 Follows l [] = Unit {0}
 Follows l (arrival class length tag ⟶ answer ∷ steps) =
-    (a : Answered) → Arrives l class (packetOf length tag) a → (arrived (a .verdict) ≡ answer) × Follows (a .link) steps
-Follows l (send ⟶ answer ∷ steps) = (d : Departure) → Sends l d → (sentAs d ≡ answer) × Follows (d .link) steps
+    (a : AfterArrival) → Arrives l class (packetOf length tag) a → (arrived (a .answer .verdict) ≡ answer) × Follows (a .link) steps
+Follows l (send ⟶ answer ∷ steps) = (d : AfterSend) → Sends l d → (sentAs (d .answer) ≡ answer) × Follows (d .link) steps
 Follows l (opening k ⟶ answer ∷ steps) = (seen (opening k) l ≡ answer) × Follows l steps
 Follows l (show ⟶ answer ∷ steps) = (seen show l ≡ answer) × Follows l steps
 Follows l (end ⟶ answer ∷ steps) = (seen end l ≡ answer) × Follows l steps

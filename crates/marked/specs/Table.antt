@@ -5,7 +5,7 @@ use Prim.Native.Nat.{ℕ}
 use lib.ListN.{replicate}
 use Rattle.checks.specs.declared.Verdict.the-variants.{Passed, Refused}
 use Rattle.state.specs.Queue.{table}
-use Rattle.round.specs.Opening.{main, surplus}
+use Rattle.rules.specs.Opening.{main, surplus}
 use Rattle.marked.specs.Run.{Read, arrival, send, opening, show, end, Opening, Answer, arrived, sent, opened, shown, waiting, Step, _⟶_, Entry}
 
 -- the run of an entry, and more calls after it

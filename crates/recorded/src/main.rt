@@ -4,7 +4,7 @@ ghost use Prim.Native.Nat.{_<_};
 use libc::STDIN_FILENO;
 use libc::STDOUT_FILENO;
 use lines::Line;
-use run::Step;
+use run::PartRun;
 
 // What was printed of a run so far: its lines, and a sum in which each byte counts by its place.
 struct Tally {
@@ -19,39 +19,52 @@ fn counted(sum: u64, byte: u8) -> u64
     ((sum % 4_294_967_291) * 257 + byte as u64 + 1) % 4_294_967_291
 }
 
-// The bytes of a text more.
-fn with_text(sum: u64, text: &[u8]) -> u64 {
-    let mut total = sum;
-    for i in 0..text.len() {
-        total = counted(total, text[i]);
+// The lines, one more where a byte ends one.
+fn ended(lines: u64, byte: u8) -> u64 {
+    if byte == b'\n' {
+        return (lines % 1_000_000) + 1;
     }
-    total
+    lines
 }
 
-// One line more.
-fn with_line(tally: Tally, line: Line) -> Tally {
+// The bytes of a text more.
+fn with_text(tally: Tally, text: &[u8]) -> Tally {
+    let mut lines = tally.lines;
+    let mut sum = tally.sum;
+    for i in 0..text.len() {
+        lines = ended(lines, text[i]);
+        sum = counted(sum, text[i]);
+    }
+    Tally { lines, sum }
+}
+
+// The first line of a run.
+fn with_line(line: Line) -> Tally {
     let mut text = [0u8; 96];
     let n = lines::lay(line, &mut text);
-    Tally {
-        lines: (tally.lines % 1_000_000) + 1,
-        sum: with_text(tally.sum, &text[..n]),
-    }
+    with_text(Tally { lines: 0, sum: 0 }, &text[..n])
 }
 
-// The line of a step more.
-fn with_step(tally: Tally, step: Step) -> Tally {
-    let line = step.line;
-    with_line(tally, line)
-}
+// The bytes of a part at most: few, so that a run has many parts.
+const TEXT: usize = 1_000;
 
-// All lines of a run.
+// All lines of a run: the first one, then those of the events, part by part.
 fn whole(input: &[u8]) -> Tally {
-    let none = Tally { lines: 0, sum: 0 };
-    let mut step = run::first(input);
-    let mut tally = with_step(none, step);
-    while step.more {
-        step = run::next(step.link, input, step.place);
-        tally = with_step(tally, step);
+    let step = run::first(input);
+    let line = step.line;
+    let link = step.link;
+    let mut tally = with_line(line);
+    let mut part = PartRun {
+        laid: 0,
+        more: step.more,
+        link,
+        place: step.place,
+    };
+    let mut text = [0u8; TEXT];
+    while part.more {
+        part = run::part(part.link, input, part.place, &mut text);
+        let laid = part.laid;
+        tally = with_text(tally, &text[..laid]);
     }
     tally
 }

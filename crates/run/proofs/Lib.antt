@@ -1,2 +1,4 @@
 pub mod Events
 pub mod Lines
+pub mod Parts
+pub mod Happenings

@@ -7,8 +7,8 @@ use native.Mathlib.Omega.{arith}
 use lib.ListN.{length, drop, length-drop}
 use Rattle.checks.specs.declared.Verdict.{Verdict}
 use Rattle.checks.specs.declared.Verdict.the-variants.{Passed, Refused}
-use Rattle.checks.specs.Check.{firstBroken, inputChecks}
-use Rattle.checks.proofs.Laws.{not-true-and-false, exactly-unique}
+use Rattle.checks.specs.Check.{firstBroken, inputChecks, Exactly}
+use Rattle.checks.proofs.Laws.{not-true-and-false, exactly-yes, exactly-unique}
 use Rattle.plan.specs.declared.EventRead.{EventRead}
 use Rattle.plan.specs.declared.EventRead.the-variants.{NoMore, Arrive, SendNext, Fault}
 use Rattle.plan.specs.Reader.{planOf}
@@ -16,6 +16,8 @@ use Rattle.plan.proofs.Numbers.{plan-rules}
 use Rattle.plan.specs.Event.{eventAt}
 use Rattle.state.specs.declared.Link.{Link}
 use Rattle.sound.specs.Sound.{SoundLink}
+use Rattle.link.specs.Arrival.{arrivalOf}
+use Rattle.link.specs.Send.{sendOf}
 use Rattle.link.proofs.FreshLinks.{fresh-sound}
 use Rattle.lines.specs.declared.Line.{Line}
 use Rattle.run.specs.declared.Step.{Step}
@@ -38,12 +40,12 @@ module _ (l : Link) (input : List ℕ) (place : ℕ) where
   unfolding stepOf
   step-on sound m = on-by sound (eventAt (drop place input) place) refl m
 
-  -- on a sound link an event gives what the definition says, and a sound link
-  gives-sound : (e : EventRead) (r : Step) → SoundLink l → Gives l place e r → r ≡ eventGives true l place e
-  gives-sound NoMore r sound g = g
-  gives-sound (Arrive a) r sound g = g .answer ∙ ap (λ (b : Bool). eventGives b l place (Arrive a)) (g .exactly .complete sound)
-  gives-sound SendNext r sound g = g .answer ∙ ap (λ (b : Bool). eventGives b l place SendNext) (g .exactly .complete sound)
-  gives-sound (Fault n p) r sound g = g
+  -- an event gives what the definition says, and on a sound link a sound link
+  gives-as : (sound : Bool) (e : EventRead) (r : Step) → Exactly sound (SoundLink l) → Gives l place e r → r ≡ eventGives sound l place e
+  gives-as sound NoMore r x g = g
+  gives-as sound (Arrive a) r x g = g .answer ∙ ap (λ (b : Bool). eventGives b l place (Arrive a)) (exactly-unique (g .exactly) x)
+  gives-as sound SendNext r x g = g .answer ∙ ap (λ (b : Bool). eventGives b l place SendNext) (exactly-unique (g .exactly) x)
+  gives-as sound (Fault n p) r x g = g
 
   gives-keeps : (e : EventRead) (r : Step) → SoundLink l → Gives l place e r → SoundLink (r .link)
   gives-keeps NoMore r sound g = subst (λ (s : Step). SoundLink (s .link)) (sym g) sound
@@ -67,12 +69,30 @@ module _ (l : Link) (input : List ℕ) (place : ℕ) where
       x .answer ∙ ap (λ (b : Bool). eventGives b l place SendNext) (exactly-unique (x .exactly) (y .exactly)) ∙ sym (y .answer)
   gives-one (Fault n p) r r′ x y = x ∙ sym y
 
-  pub next-is : (r : Step) → SoundLink l → GoesOn l input place r → r ≡ stepOf true l input place
+  pub next-as : (sound : Bool) (r : Step) → Exactly sound (SoundLink l) → GoesOn l input place r → r ≡ stepOf sound l input place
   unfolding stepOf
-  next-is r sound g = gives-sound (eventAt (drop place input) place) r sound g
+  next-as sound r x g = gives-as sound (eventAt (drop place input) place) r x g
+
+  -- an event on a record that is not sound leaves it
+  gives-unsound : (e : EventRead) → eventGives false l place e .link ≡ l
+  unfolding arrivalOf sendOf firstBroken
+  gives-unsound NoMore = refl
+  gives-unsound (Arrive a) = refl
+  gives-unsound SendNext = refl
+  gives-unsound (Fault n p) = refl
+
+  step-unsound : stepOf false l input place .link ≡ l
+  unfolding stepOf
+  step-unsound = gives-unsound (eventAt (drop place input) place)
 
   pub next-keeps : (r : Step) → SoundLink l → GoesOn l input place r → SoundLink (r .link)
   next-keeps r sound g = gives-keeps (eventAt (drop place input) place) r sound g
+
+  -- and so it is sound after an event exactly when it was sound before
+  pub next-exactly : (sound : Bool) (r : Step) → Exactly sound (SoundLink l) → GoesOn l input place r → Exactly sound (SoundLink (r .link))
+  next-exactly true r x g = exactly-yes (next-keeps r (x .sound refl) g)
+  next-exactly false r x g =
+      subst (λ (after : Link). Exactly false (SoundLink after)) (sym (ap (λ (s : Step). s .link) (next-as false r x g) ∙ step-unsound)) x
 
   pub next-on : (r : Step) → GoesOn l input place r → r .more ≡ true → (place < r .place) × (r .place ≤ length input)
   next-on r g m = gives-on (eventAt (drop place input) place) r refl g m
@@ -146,41 +166,41 @@ lines-enough (suc n) m l input place a b =
 pub linesFrom : Link → List ℕ → ℕ → List Line
 linesFrom l input place = eventLines (suc (length input)) l input place
 
--- what follows a step
-pub following : Step → List ℕ → Bool → List Line
-following s input true = linesFrom (s .link) input (s .place)
-following s input false = []
+-- what follows where the run goes on or not
+unfoldable pub following : Link → List ℕ → ℕ → Bool → List Line
+following l input place true = linesFrom l input place
+following l input place false = []
 
 pub lines-next : (l : Link) (input : List ℕ) (place : ℕ)
-    → linesFrom l input place ≡ stepOf true l input place .line ∷ following (stepOf true l input place) input (stepOf true l input place .more)
+    → linesFrom l input place ≡ stepOf true l input place .line ∷ following (stepOf true l input place .link) input (stepOf true l input place .place) (stepOf true l input place .more)
 unfolding linesFrom following rest-of
 lines-next l input place =
     lines-one (length input) l input place
     ∙ ap (λ (rest : List Line). stepOf true l input place .line ∷ rest) (go (length input) refl (stepOf true l input place .more) refl)
   where
     go : (n : ℕ) → length input ≡ n → (more : Bool) → stepOf true l input place .more ≡ more
-        → rest-of (stepOf true l input place) input n more ≡ following (stepOf true l input place) input more
+        → rest-of (stepOf true l input place) input n more ≡ following (stepOf true l input place .link) input (stepOf true l input place .place) more
     go n h false e = refl
     go zero h true e = absurd (let w = step-on l input place true e in omega (arith, w .0, w .1, h))
     go (suc n) h true e =
         let w = step-on l input place true e in
         lines-enough n (length input) (stepOf true l input place .link) input (stepOf true l input place .place) (omega (arith, w .0, h)) (omega arith)
 
-pub lines-begin : (input : List ℕ) → linesOf input ≡ beginOf input .line ∷ following (beginOf input) input (beginOf input .more)
+pub lines-begin : (input : List ℕ) → linesOf input ≡ beginOf input .line ∷ following (beginOf input .link) input (beginOf input .place) (beginOf input .more)
 unfolding linesOf linesFrom following
 lines-begin input = ap (λ (rest : List Line). beginOf input .line ∷ rest) (go (beginOf input .more))
   where
     go : (b : Bool)
-        → _≡_ {A = List Line} (elim b [ true ↦ eventLines (suc (length input)) (beginOf input .link) input (beginOf input .place) | false ↦ [] ]) (following (beginOf input) input b)
+        → _≡_ {A = List Line} (elim b [ true ↦ eventLines (suc (length input)) (beginOf input .link) input (beginOf input .place) | false ↦ [] ]) (following (beginOf input .link) input (beginOf input .place) b)
     go true = refl
     go false = refl
 
 -- what a program prints is the line of its first step and, where the run goes on, the lines from there
-pub lines-first : (input : List ℕ) → programLines input ≡ firstOf input .line ∷ following (firstOf input) input (firstOf input .more)
+pub lines-first : (input : List ℕ) → programLines input ≡ firstOf input .line ∷ following (firstOf input .link) input (firstOf input .place) (firstOf input .more)
 unfolding programLines firstOf following
 lines-first input = go (firstBroken (inputChecks (length input)))
   where
-    go : (v : Verdict) → linesAfter v input ≡ inputGives v input .line ∷ following (inputGives v input) input (inputGives v input .more)
+    go : (v : Verdict) → linesAfter v input ≡ inputGives v input .line ∷ following (inputGives v input .link) input (inputGives v input .place) (inputGives v input .more)
     go Passed = lines-begin input
     go (Refused n p) = refl
 
@@ -193,14 +213,15 @@ first-sound input m = go (firstBroken (inputChecks (length input))) m
     go Passed m = begin-sound input m
     go (Refused n p) m = absurd (not-true-and-false m refl)
 
--- how many steps a run has left at most: a loop over them ends
-pub stepsLeft : List ℕ → Step → ℕ
-stepsLeft input s = cond (s .more) (suc (length input - s .place)) 0
+-- how many steps a run has left at most: a loop over them, or over parts, ends
+pub stepsLeft : List ℕ → Bool → ℕ → ℕ
+stepsLeft input more place = cond more (suc (length input - place)) 0
 
-pub steps-less : (input : List ℕ) (s r : Step) → s .more ≡ true → GoesOn (s .link) input (s .place) r → stepsLeft input r < stepsLeft input s
+pub steps-less : (input : List ℕ) (more : Bool) (place : ℕ) (was : Bool) (from : ℕ) → was ≡ true → (more ≡ true → (from < place) × (place ≤ length input))
+    → stepsLeft input more place < stepsLeft input was from
 unfolding stepsLeft
-steps-less input s r m g = rw m (go (r .more) refl)
+steps-less input more place was from m on = rw m (go more refl)
   where
-    go : (b : Bool) → r .more ≡ b → cond b (suc (length input - r .place)) 0 < suc (length input - s .place)
-    go true e = let w = next-on (s .link) input (s .place) r g e in omega (arith, w .0, w .1)
+    go : (b : Bool) → more ≡ b → cond b (suc (length input - place)) 0 < suc (length input - from)
+    go true e = let w = on e in omega (arith, w .0, w .1)
     go false e = omega arith

@@ -16,6 +16,8 @@ use Rattle.state.specs.declared.Link.{Link}
 use Rattle.state.specs.declared.Packet.{Packet}
 use Rattle.state.specs.State.{State, meaning, queueAt}
 use Rattle.sound.specs.Sound.{SoundLink}
+use Rattle.link.specs.declared.Arrival.{Arrival}
+use Rattle.link.specs.declared.Departure.{Departure}
 use Rattle.link.specs.Arrival.{arrivalOf}
 use Rattle.link.specs.Send.{sendOf}
 use Rattle.lines.specs.declared.Line.{Line}
@@ -23,14 +25,20 @@ use Rattle.lines.specs.declared.Line.the-variants.{In, No, Out, Nothing, End, S
 use Rattle.run.specs.declared.Step.{Step}
 
 -- `in` class length tag; `no` class length tag number, for a refused arrival
-abbrev pub arrivalLine : Verdict → Arrived → Line
-arrivalLine Passed a = In (a .class) (a .length) (a .tag)
-arrivalLine (Refused n q) a = No (a .class) (a .length) (a .tag) n
+abbrev pub arrivalSays : Verdict → Arrived → Line
+arrivalSays Passed a = In (a .class) (a .length) (a .tag)
+arrivalSays (Refused n q) a = No (a .class) (a .length) (a .tag) n
+
+abbrev pub arrivalLine : Arrival → Arrived → Line
+arrivalLine answer a = arrivalSays (answer .verdict) a
 
 -- `out` class length tag rounds; `none` for refusal 15, the only one of a send on a run's link
-abbrev pub sendLine : Verdict → ℕ → ℕ → ℕ → ℕ → Line
-sendLine Passed class len tag rounds = Out class len tag rounds
-sendLine (Refused n q) class len tag rounds = Nothing
+abbrev pub sendSays : Verdict → Departure → Line
+sendSays Passed d = Out (d .class) (d .length) (d .tag) (d .rounds)
+sendSays (Refused n q) d = Nothing
+
+abbrev pub sendLine : Departure → Line
+sendLine d = sendSays (d .verdict) d
 
 -- the packets still waiting
 unfoldable pub waitingIn : State → ℕ
@@ -45,10 +53,10 @@ abbrev pub eventGives : Bool → Link → ℕ → EventRead → Step
 eventGives sound l place NoMore = record { line = End (waitingIn (meaning l)); more = false; link = l; place = place }
 eventGives sound l place (Arrive a) =
     let r = arrivalOf sound l (a .class) (packetIn a) in
-    record { line = arrivalLine (r .verdict) a; more = true; link = r .link; place = place + usedOf (Arrive a) }
+    record { line = arrivalLine (r .answer) a; more = true; link = r .link; place = place + usedOf (Arrive a) }
 eventGives sound l place SendNext =
     let r = sendOf sound l in
-    record { line = sendLine (r .verdict) (r .class) (r .length) (r .tag) (r .rounds); more = true; link = r .link; place = place + usedOf SendNext }
+    record { line = sendLine (r .answer); more = true; link = r .link; place = place + usedOf SendNext }
 eventGives sound l place (Fault n p) = record { line = Stop n p; more = false; link = l; place = place }
 
 unfoldable pub stepOf : Bool → Link → List ℕ → ℕ → Step

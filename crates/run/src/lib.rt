@@ -1,18 +1,25 @@
-// A whole run, line by line: the plan's line, then each event's. Entries for callers outside: they ask nothing.
+// A whole run, line by line: the plan's line, then each event's; or part by part into a lent buffer. Entries for callers outside: they ask nothing.
 // Serves demands 1 and 2: the lines are document 01's, from the input's bytes.
+mod in_place;
+
 ghost use mathlib.Core.Path.{_≡_};
-ghost use mathlib.Core.Bool.{true};
-ghost use Prim.Native.Nat.{_+_, _^_, _<_};
+ghost use mathlib.Core.Bool.{true, _&&_};
+ghost use Prim.Native.Nat.{_+_, _^_, _≤_, _<_};
+ghost use lib.Dec.{leb};
 ghost use lib.ListN.{getD};
 ghost use Rattle.checks.specs.declared.Verdict.the-variants.{Passed};
 ghost use Rattle.tree.specs.Rules.{PlanRules};
 ghost use Rattle.tree.specs.Sum.{sumTo};
 ghost use Rattle.plan.specs.declared.EventRead.the-variants.{NoMore, Arrive, SendNext, Fault};
-ghost use Rattle.sound.specs.Sound.{SoundLink};
+ghost use Rattle.io.specs.Counts.{Counts};
+ghost use Rattle.lines.specs.Line.{lineRoom};
 ghost use Rattle.run.specs.Event.{arrivalLine, sendLine, eventGives, Gives, GoesOn};
+ghost use Rattle.run.specs.Part.{Parts};
+ghost use Rattle.run.specs.Steps.{Taken};
 ghost use Rattle.run.specs.Run.{planGives, beginOf, firstOf};
 use checks::Verdict;
 use lines::Line;
+use link::Arrival;
 use link::Departure;
 use plan::Arrived;
 use plan::EventRead;
@@ -28,6 +35,14 @@ pub struct Step {
     pub place: usize,
 }
 
+// What a part of a run gives: how many bytes it laid, and whether the run goes on, with which link and at which place.
+pub struct PartRun {
+    pub laid: usize,
+    pub more: bool,
+    pub link: Link,
+    pub place: usize,
+}
+
 // A count, wide.
 fn wide(n: u8) -> u64
     ensures { λ r. ⌜ (r ≡ n) × (r < 256) ⌝ }
@@ -36,8 +51,8 @@ fn wide(n: u8) -> u64
 }
 
 // The packets still waiting.
-pub fn waiting(held: [u8; Link::CLASSES]) -> u64
-    ensures { λ r. ⌜ r ≡ sumTo (λ i. getD held i 0) 63 ⌝ }
+pub fn waiting(held: &[u8; Link::CLASSES]) -> u64
+    ensures { λ r. ⌜ r ≡ sumTo (λ i. getD (now (held .entry)) i 0) 63 ⌝ }
 {
     let mut sum: u64 = 0;
     let mut i: usize = 1;
@@ -49,12 +64,13 @@ pub fn waiting(held: [u8; Link::CLASSES]) -> u64
 }
 
 // The line of an arrival.
-pub fn arrival_line(verdict: Verdict, a: Arrived) -> Line
-    ensures { λ r. ⌜ r ≡ arrivalLine verdict a ⌝ }
+pub fn arrival_line(answer: Arrival, a: Arrived) -> Line
+    ensures { λ r. ⌜ r ≡ arrivalLine answer a ⌝ }
 {
     let class = a.class as u64;
     let length = a.length as u64;
     let tag = a.tag as u64;
+    let verdict = answer.verdict;
     match verdict {
         Verdict::Passed => Line::In(class, length, tag),
         Verdict::Refused(n, _) => Line::No(class, length, tag, n as u64),
@@ -62,11 +78,17 @@ pub fn arrival_line(verdict: Verdict, a: Arrived) -> Line
 }
 
 // The line of a send.
-pub fn send_line(verdict: Verdict, class: usize, length: u16, tag: u32, rounds: usize) -> Line
-    ensures { λ r. ⌜ r ≡ sendLine verdict class length tag rounds ⌝ }
+pub fn send_line(d: Departure) -> Line
+    ensures { λ r. ⌜ r ≡ sendLine d ⌝ }
 {
+    let verdict = d.verdict;
     match verdict {
-        Verdict::Passed => Line::Out(class as u64, length as u64, tag as u64, rounds as u64),
+        Verdict::Passed => Line::Out(
+            d.class as u64,
+            d.length as u64,
+            d.tag as u64,
+            d.rounds as u64,
+        ),
         Verdict::Refused(_, _) => Line::Nothing,
     }
 }
@@ -76,7 +98,7 @@ fn end(link: Link, place: usize) -> Step
     ensures { λ r. ⌜ r ≡ eventGives true link place NoMore ⌝ }
 {
     let held = link.held;
-    let line = Line::End(waiting(held));
+    let line = Line::End(waiting(&held));
     Step {
         line,
         more: false,
@@ -106,8 +128,8 @@ fn arrival(link: Link, a: Arrived, place: usize) -> Step
     let length = a.length;
     let tag = a.tag;
     let answered = link::arrive(link, a.class as usize, Packet { length, tag });
-    let verdict = answered.verdict;
-    let line = arrival_line(verdict, a);
+    let answer = answered.answer;
+    let line = arrival_line(answer, a);
     let after = answered.link;
     Step {
         line,
@@ -122,10 +144,10 @@ fn send(link: Link, place: usize) -> Step
     requires { ⌜ place + 1 < 2 ^ 64 ⌝ }
     ensures { λ r. ⌜ Gives link place SendNext r ⌝ }
 {
-    let d = link::send(link);
-    let verdict = d.verdict;
-    let line = send_line(verdict, d.class, d.length, d.tag, d.rounds);
-    let after = d.link;
+    let sent = link::send(link);
+    let answer = sent.answer;
+    let line = send_line(answer);
+    let after = sent.link;
     Step {
         line,
         more: true,
@@ -187,4 +209,48 @@ pub fn next(link: Link, input: &[u8], place: usize) -> Step
         EventRead::SendNext => send(link, place),
         EventRead::Fault(n, p) => stop(link, place, n, p),
     }
+}
+
+// Whether a part takes one event more: the run goes on, and the buffer has room for one more line.
+fn takes_one(more: bool, laid: usize, room: usize) -> bool
+    requires { ⌜ laid ≤ room ⌝ }
+    ensures { λ r. ⌜ r ≡ (more && leb (laid + lineRoom) room) ⌝ }
+{
+    more && lines::ROOM <= room - laid
+}
+
+// A part by the calls that check, each event's line after the one before: for a record that is not sound.
+fn by_calls(link: Link, input: &[u8], place: usize, out: &mut [u8]) -> PartRun
+    ensures { λ r. ⌜ Taken link (now (input .entry)) place (now (out .entry)) r (now (out .exit)) ⌝ }
+{
+    let mut part = PartRun {
+        laid: 0,
+        more: true,
+        link,
+        place,
+    };
+    while takes_one(part.more, part.laid, out.len()) {
+        let step = next(part.link, input, part.place);
+        let line = step.line;
+        let laid = lines::lay_at(line, part.laid, out);
+        let after = step.link;
+        part = PartRun {
+            laid,
+            more: step.more,
+            link: after,
+            place: step.place,
+        };
+    }
+    part
+}
+
+// A part of a run: events from a place on, laid into a lent buffer as long as the run goes on and there is room for one more line.
+pub fn part(link: Link, input: &[u8], place: usize, out: &mut [u8]) -> PartRun
+    ensures { λ r. ⌜ Parts link (now (input .entry)) place (now (out .entry)) r (now (out .exit)) ⌝ }
+    ensures { λ r. ⌜ Counts (r .laid) (now (out .exit)) ⌝ }
+{
+    if !sound::is_sound(link) {
+        return by_calls(link, input, place, out);
+    }
+    in_place::sound_part(link, input, place, out)
 }

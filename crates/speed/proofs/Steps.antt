@@ -3,14 +3,24 @@ use mathlib.Core.Bool.{true}
 use mathlib.Core.Path.{_≡_, refl, sym, ap, subst, _∙_}
 use Prim.Native.Nat.{ℕ, _+_}
 use native.Mathlib.Numerals.{add-one}
+use mathlib.Core.List.{List}
 use lib.ListN.{length}
+use Rattle.units.specs.declared.Bytes.{Bytes}
+use Rattle.tree.specs.declared.Tree.{Tree}
+use Rattle.state.specs.declared.Account.{Account}
+use Rattle.state.specs.Account.{balanceOf, residualOf}
+use Rattle.state.specs.Queue.{table}
+use Rattle.state.specs.State.{linkOf}
+use Rattle.steps.specs.Parts.{lentLink}
+use Rattle.steps.specs.Rounds.{InParts}
+use Rattle.steps.proofs.Wholes.{in-lists}
 use Rattle.state.specs.declared.Link.{Link}
 use Rattle.state.proofs.Tables.{table-length}
 use Rattle.sound.specs.Sound.{SoundLink}
-use Rattle.round.specs.Opening.{openedAccounts, opened}
-use Rattle.sending.specs.After.{openedLink}
-use Rattle.sending.proofs.Meanings.{meaning-wide, opened-link-sound}
-use Rattle.link.specs.declared.Answered.{Answered}
+use Rattle.rules.specs.Opening.{openedAccounts, opened}
+use Rattle.rules.specs.After.{openedLink}
+use Rattle.rules.proofs.Meanings.{meaning-wide, opened-link-sound}
+use Rattle.link.specs.declared.AfterArrival.{AfterArrival}
 use Rattle.link.specs.Arrival.{Arrives, arrivalOf}
 use Rattle.link.proofs.Arrivals.{arrives-as}
 use Rattle.speed.specs.Openings.{onePacket, offeredTo, openedTimes}
@@ -19,11 +29,11 @@ pub offered-none : (l : Link) → l ≡ offeredTo 0 l
 unfolding offeredTo
 offered-none l = refl
 
-pub offered-more : (l₀ l : Link) (n : ℕ) (r : Answered) → SoundLink l → l ≡ offeredTo n l₀ → Arrives l (n + 1) onePacket r
+pub offered-more : (l₀ l : Link) (n : ℕ) (r : AfterArrival) → SoundLink l → l ≡ offeredTo n l₀ → Arrives l (n + 1) onePacket r
     → r .link ≡ offeredTo (n + 1) l₀
 unfolding offeredTo
 offered-more l₀ l n r sound same gives =
-    ap (λ (a : Answered). a .link) (arrives-as l (n + 1) onePacket r sound gives)
+    ap (λ (a : AfterArrival). a .link) (arrives-as l (n + 1) onePacket r sound gives)
     ∙ ap (λ (x : Link). arrivalOf true x (n + 1) onePacket .link) same
     ∙ rw (add-one n) refl
 
@@ -33,9 +43,17 @@ pub record Opened (l₀ : Link) (n : ℕ) (l : Link) : Type 0 where
   pub many : length (l .accounts) ≡ 64
   pub same : l ≡ openedTimes n l₀
 
-pub opened-none : (l : Link) → SoundLink l → length (l .accounts) ≡ 64 → Opened l 0 l
+-- its accounts taken apart
+pub opened-apart : (l : Link) → SoundLink l → length (l .accounts) ≡ 64 → (b r : List ℕ) → b ≡ table (balanceOf (l .accounts)) 64 → r ≡ table (residualOf (l .accounts)) 64
+    → Opened l 0 (lentLink (l .tree) (l .size) (l .active) (l .place) b r (l .start) (l .held) (l .lengths) (l .tags))
 unfolding openedTimes
-opened-none l sound many = record { sound = sound; many = many; same = refl }
+opened-apart l sound many b r x y =
+    let same = ap (λ (xs : List Account). linkOf (l .tree) (l .size) (l .active) (l .place) xs (l .start) (l .held) (l .lengths) (l .tags)) (in-lists (l .accounts) many b r x y) in
+    record { sound = subst SoundLink (sym same) sound; many = ap (λ (k : Link). length (k .accounts)) same ∙ many; same = same }
+
+pub opened-parts : (l₀ : Link) (b r : List ℕ) {n : ℕ} {t : Tree} {size : Bytes} {active place : ℕ} {start held lengths tags : List ℕ}
+    → Opened l₀ n (lentLink t size active place b r start held lengths tags) → InParts t size active place b r start held lengths tags
+opened-parts l₀ b r o = record { sound = o .sound; wide = o .many }
 
 pub opened-more : (l₀ l : Link) (n : ℕ) (r : Link) → Opened l₀ n l → r ≡ openedLink l → Opened l₀ (n + 1) r
 unfolding openedTimes opened openedAccounts

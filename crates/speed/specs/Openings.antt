@@ -1,10 +1,12 @@
 -- What the timed loop of openings does: a packet offered to every class of a link, then a round opened so many times over. Request E3.
 use Prim.Native.Nat.{ℕ, zero, suc}
 use mathlib.Core.Bool.{true}
+use mathlib.Core.List.{List}
+use Rattle.units.specs.declared.Bytes.{Bytes}
 use Rattle.state.specs.declared.Link.{Link}
 use Rattle.state.specs.declared.Packet.{Packet}
 use Rattle.state.specs.Account.{balanceOf}
-use Rattle.sending.specs.After.{openedLink}
+use Rattle.rules.specs.After.{openedLink}
 use Rattle.link.specs.Arrival.{arrivalOf}
 
 -- the packet that is offered
@@ -24,3 +26,12 @@ openedTimes (suc n) l = openedLink (openedTimes n l)
 -- the root's balance when a packet has been offered to every class and then n rounds have been opened
 unfoldable pub rootLeft : Link → ℕ → ℕ
 rootLeft l n = balanceOf (openedTimes n (offeredTo 63 l) .accounts) 0
+
+-- what an opening does not see of its link
+pub record Rest : Type 0 where
+  pub size : Bytes
+  pub active : ℕ
+  pub place : ℕ
+  pub start : List ℕ
+  pub lengths : List ℕ
+  pub tags : List ℕ

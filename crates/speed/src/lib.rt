@@ -2,13 +2,15 @@
 // ask nothing. They are no part of the product, and say only that they are safe and end: what they answer is compared with the plain
 // scheduler's sends, one by one.
 pub mod opening;
+pub mod parts;
 
 ghost use mathlib.Core.Path.{_≡_};
 ghost use Prim.Native.Nat.{suc, _<_};
 ghost use lib.ListN.{length};
 ghost use Rattle.speed.specs.Turns.{plainEvent, callsLeft};
 use checks::Verdict;
-use lent::Departed;
+use link::Arrival;
+use link::Departure;
 use plan::Arrived;
 use plan::EventRead;
 use state::Link;
@@ -21,12 +23,13 @@ pub struct Ran {
 }
 
 // A send as one number: class, length, rounds and tag; 1 where it is refused.
-fn number(verdict: Verdict, class: usize, length: u16, rounds: usize, tag: u32) -> u64 {
+fn number(d: Departure) -> u64 {
+    let verdict = d.verdict;
     match verdict {
-        Verdict::Passed => (class as u64) << 50
-            | (length as u64) << 34
-            | (rounds as u64) << 32
-            | tag as u64,
+        Verdict::Passed => (d.class as u64) << 50
+            | (d.length as u64) << 34
+            | (d.rounds as u64) << 32
+            | d.tag as u64,
         Verdict::Refused(_, _) => 1,
     }
 }
@@ -81,14 +84,10 @@ fn by_value(input: &[u8], events: usize, out: &mut [u64]) -> Ran {
                 continue;
             }
             EventRead::SendNext => {
-                let d = link::send(link);
-                let verdict = d.verdict;
-                sent = keep(
-                    number(verdict, d.class, d.length, d.rounds, d.tag),
-                    sent,
-                    out,
-                );
-                link = d.link;
+                let gone = link::send(link);
+                let answer = gone.answer;
+                sent = keep(number(answer), sent, out);
+                link = gone.link;
                 place = std::num::wrapping_add_usize(place, 1);
                 continue;
             }
@@ -225,7 +224,8 @@ fn tallied(tally: u64, next: u64) -> u64 {
 }
 
 // An arrival counts where it is refused.
-fn after_arrival(tally: u64, verdict: Verdict) -> u64 {
+fn after_arrival(tally: u64, answer: Arrival) -> u64 {
+    let verdict = answer.verdict;
     match verdict {
         Verdict::Passed => tally,
         Verdict::Refused(_, _) => tallied(tally, 2),
@@ -233,9 +233,8 @@ fn after_arrival(tally: u64, verdict: Verdict) -> u64 {
 }
 
 // A send counts by its number.
-fn after_send(tally: u64, d: Departed) -> u64 {
-    let verdict = d.verdict;
-    tallied(tally, number(verdict, d.class, d.length, d.rounds, d.tag))
+fn after_send(tally: u64, d: Departure) -> u64 {
+    tallied(tally, number(d))
 }
 
 // The loop of the lent entries: one record, lent to each call.
@@ -245,11 +244,11 @@ fn serve(first: Link, input: &[u8], start: Event) -> u64 {
     let mut tally: u64 = 0;
     while event.call {
         if event.arrives {
-            let verdict = lent::arrive(&mut link, event.class, event.packet);
-            tally = after_arrival(tally, verdict);
+            let answer = lent::arrive(&mut link, event.class, event.packet);
+            tally = after_arrival(tally, answer);
         } else {
-            let departed = lent::send(&mut link);
-            tally = after_send(tally, departed);
+            let answer = lent::send(&mut link);
+            tally = after_send(tally, answer);
         }
         event = event_at(input, event.place, event.more);
     }

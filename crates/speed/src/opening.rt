@@ -2,9 +2,13 @@
 // Serves request E3: what an opening costs.
 ghost use mathlib.Core.Path.{_≡_};
 ghost use Rattle.sound.specs.Sound.{SoundLink};
-ghost use Rattle.speed.specs.Openings.{offeredTo, openedTimes, rootLeft};
+ghost use Rattle.rules.specs.After.{openedLink};
+ghost use Rattle.steps.specs.Parts.{lentLink};
+ghost use Rattle.steps.specs.Rounds.{InParts};
+ghost use Rattle.speed.specs.Openings.{Rest, offeredTo, openedTimes, rootLeft};
 use state::Link;
 use state::Packet;
+use tree::Tree;
 
 // A packet is offered to every class: each leaf takes it.
 fn backlogged(link: Link) -> Link
@@ -21,18 +25,48 @@ fn backlogged(link: Link) -> Link
     link
 }
 
+// A round opens over the parts of a link that it reads and changes: who is active in it.
+fn open_next(
+    tree: Tree,
+    held: &[u8; Link::CLASSES],
+    balance: &mut [u64; Link::CLASSES],
+    residual: &mut [u64; Link::CLASSES],
+) -> u64
+    requires { ⌜ ((k : Rest) × InParts tree (k .size) (k .active) (k .place) (now balance) (now residual) (k .start) (now held) (k .lengths) (k .tags)) ⌝ }
+    ensures { λ r. ⌜ ((k : Rest) → InParts tree (k .size) (k .active) (k .place) (now (balance .entry)) (now (residual .entry)) (k .start) (now (held .entry)) (k .lengths) (k .tags)
+        → lentLink tree (k .size) r 1 (now (balance .exit)) (now (residual .exit)) (k .start) (now (held .entry)) (k .lengths) (k .tags)
+        ≡ openedLink (lentLink tree (k .size) (k .active) (k .place) (now (balance .entry)) (now (residual .entry)) (k .start) (now (held .entry)) (k .lengths) (k .tags))) ⌝ }
+{
+    let active = steps::round_active(tree, held);
+    let sums = steps::weight_sums(tree, active);
+    steps::open_round(tree, active, sums, balance, residual);
+    active
+}
+
 // Rounds are opened one over the other, and nothing is sent.
 fn open_times(link: Link, times: usize) -> Link
     requires { ⌜ SoundLink link ⌝ }
     ensures { λ r. ⌜ r ≡ openedTimes times link ⌝ }
 {
-    let mut link = link;
+    let tree = link.tree;
+    let held = link.held;
+    let before = link.accounts;
+    let mut balance = steps::balances(before);
+    let mut residual = steps::residuals(before);
+    let mut active = link.active;
+    let mut place = link.place;
     let mut n: usize = 0;
     while n < times {
-        link = sending::open_round(link);
+        active = open_next(tree, &held, &mut balance, &mut residual);
+        place = 1;
         n += 1;
     }
-    link
+    let accounts = steps::zipped(&balance, &residual);
+    let mut after = link;
+    after.active = active;
+    after.place = place;
+    after.accounts = accounts;
+    after
 }
 
 // What is left with the root then.

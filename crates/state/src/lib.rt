@@ -4,7 +4,7 @@ ghost use mathlib.Core.Path.{_≡_};
 ghost use Prim.Native.Nat.{_+_, _^_, _<_, _≤_};
 ghost use Rattle.tree.specs.Rules.{PlanRules};
 ghost use Rattle.state.specs.Account.{noAccount, tookQuota, handedDown, sentFrom, gained, returned, received, heldBy};
-ghost use Rattle.state.specs.Queue.{startOf, heldOf, packetAt, putLast, takenFirst};
+ghost use Rattle.state.specs.Queue.{startOf, heldOf, packetAt, takenFirst};
 ghost use Rattle.state.specs.State.{freshLink, noLink};
 use tree::Tree;
 use units::Bytes;
@@ -185,20 +185,6 @@ impl Link {
             lengths,
             tags,
         }
-    }
-
-    // A packet waits last in its class's queue.
-    pub fn put(mut self, class: usize, packet: Packet) -> Link
-        requires { ⌜ (class < 64) × (heldOf self class < 32) × (startOf self class < 32) ⌝ }
-        ensures { λ r. ⌜ r ≡ putLast self class packet ⌝ }
-    {
-        let s = self.start[class] as usize;
-        let h = self.held[class] as usize;
-        let at = class * Link::PLACES + (s + h) % Link::PLACES;
-        self.lengths[at] = packet.length;
-        self.tags[at] = packet.tag;
-        self.held[class] = (h + 1) as u8;
-        self
     }
 
     // The first packet of a class's queue.

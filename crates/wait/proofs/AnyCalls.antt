@@ -10,8 +10,8 @@ use Rattle.checks.proofs.Laws.{not-true-and-false}
 use Rattle.units.specs.Cost.{costOf}
 use Rattle.state.specs.declared.Packet.{Packet}
 use Rattle.state.specs.State.{State}
-use Rattle.round.specs.Active.{someWaits}
-use Rattle.round.specs.Sending.{traceOf}
+use Rattle.rules.specs.Active.{someWaits}
+use Rattle.rules.specs.Sending.{traceOf}
 use Rattle.wait.specs.Calls.{Call, arrival, send, afterArrival, afterSend, Followed, wentAs, more, oneSend, follow, sendsIn}
 use Rattle.wait.proofs.Credit.{Holds, falling, falling-some}
 use Rattle.wait.proofs.OneCall.{send-falls, holds-waits, any-arrival}

@@ -20,8 +20,8 @@ use Rattle.state.specs.Account.{balanceOf}
 use Rattle.state.specs.Queue.{noPacket}
 use Rattle.state.specs.State.{State, queueAt}
 use Rattle.sound.specs.Sound.{Sound}
-use Rattle.laws.specs.Wide.{Wide}
-use Rattle.laws.proofs.Taken.{leaf-class}
+use Rattle.rules.specs.Wide.{Wide}
+use Rattle.rules.proofs.Taken.{leaf-class}
 use Rattle.link.specs.Arrival.{arrivalChecks, arrived}
 use Rattle.link.proofs.Arrivals.{taken, length-arrived, arrival-keeps}
 use Rattle.wait.specs.Calls.{Call, bytesIn, follow, sendsIn, overRoundedUp, bound}

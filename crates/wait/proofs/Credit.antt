@@ -20,10 +20,10 @@ use Rattle.state.specs.Queue.{noPacket}
 use Rattle.state.specs.State.{State, queueAt}
 use Rattle.sound.specs.Sound.{Sound, total}
 use Rattle.tree.proofs.Sums.{sum-part}
-use Rattle.round.specs.Sending.{firstOf}
-use Rattle.laws.specs.Waits.{Waits}
-use Rattle.laws.specs.Wide.{Wide}
-use Rattle.laws.proofs.Taken.{leaf-class}
+use Rattle.rules.specs.Sending.{firstOf}
+use Rattle.rules.specs.Waits.{Waits}
+use Rattle.rules.specs.Wide.{Wide}
+use Rattle.rules.proofs.Taken.{leaf-class}
 use Rattle.wait.specs.Calls.{bytesIn, overRoundedUp}
 use Rattle.wait.proofs.RoundedUp.{up-some}
 

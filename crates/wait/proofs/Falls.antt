@@ -15,16 +15,16 @@ use Rattle.state.specs.declared.Account.{Account}
 use Rattle.state.specs.declared.Packet.{Packet}
 use Rattle.state.specs.Account.{accountOf, balanceOf, heldBy, sentFrom}
 use Rattle.state.specs.State.{State, queueAt}
-use Rattle.round.specs.Active.{roundActive}
-use Rattle.round.specs.Opening.{Kind, main, surplus, nextKind, opened}
-use Rattle.round.specs.Sending.{firstOf, nextLeaf, booksAfter, sentState}
-use Rattle.laws.proofs.Closing.{closed-short}
-use Rattle.laws.proofs.Gains.{main-gains}
-use Rattle.laws.proofs.Opened.{opened-leaf, opened-root-stays, opened-sound, opened-total, opened-wide}
-use Rattle.laws.proofs.Sender.{Sender}
-use Rattle.laws.proofs.Sent.{sent-queue, sent-other, wide-after, sound-after}
-use Rattle.laws.proofs.SentBooks.{paid-leaf, books-total, sent-books}
-use Rattle.laws.proofs.Taken.{waits-taken}
+use Rattle.rules.specs.Active.{roundActive}
+use Rattle.rules.specs.Opening.{Kind, main, surplus, nextKind, opened}
+use Rattle.rules.specs.Sending.{firstOf, nextLeaf, booksAfter, sentState}
+use Rattle.rules.proofs.Closing.{closed-short}
+use Rattle.rules.proofs.Gains.{main-gains}
+use Rattle.rules.proofs.Opened.{opened-leaf, opened-root-stays, opened-sound, opened-total, opened-wide}
+use Rattle.rules.proofs.Sender.{Sender}
+use Rattle.rules.proofs.Sent.{sent-queue, sent-other, wide-after, sound-after}
+use Rattle.rules.proofs.SentBooks.{paid-leaf, books-total, sent-books}
+use Rattle.rules.proofs.Taken.{waits-taken}
 use Rattle.wait.specs.Calls.{bytesIn, overRoundedUp}
 use Rattle.wait.proofs.Credit.{
   Holds,

@@ -14,10 +14,10 @@ use Rattle.checks.proofs.Laws.{refused-or-passed}
 use Rattle.state.specs.declared.Packet.{Packet}
 use Rattle.state.specs.Queue.{noPacket}
 use Rattle.state.specs.State.{State, queueAt}
-use Rattle.round.specs.Sending.{firstOf, nextLeaf, sentState, Turn, Trace, traceOf}
-use Rattle.laws.specs.Wide.{Wide}
-use Rattle.laws.proofs.Rounds.{two-rounds}
-use Rattle.laws.proofs.Sent.{sent-queue, sent-other}
+use Rattle.rules.specs.Sending.{firstOf, nextLeaf, sentState, Turn, Trace, traceOf}
+use Rattle.rules.specs.Wide.{Wide}
+use Rattle.rules.proofs.Rounds.{two-rounds}
+use Rattle.rules.proofs.Sent.{sent-queue, sent-other}
 use Rattle.link.specs.Arrival.{arrivalChecks, arrived}
 use Rattle.link.proofs.Arrivals.{queue-arrived, queue-other}
 use Rattle.wait.specs.Calls.{afterArrival, arrivalTo}

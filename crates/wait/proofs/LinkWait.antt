@@ -15,9 +15,9 @@ use Rattle.state.specs.Queue.{heldOf, queueOf}
 use Rattle.state.specs.State.{State, meaning, queueAt}
 use Rattle.state.proofs.Meaning.{meaning-queue, meaning-held}
 use Rattle.sound.specs.Sound.{SoundLink}
-use Rattle.laws.specs.Wide.{Wide}
-use Rattle.sending.proofs.Meanings.{meaning-wide}
-use Rattle.link.specs.declared.Answered.{Answered}
+use Rattle.rules.specs.Wide.{Wide}
+use Rattle.rules.proofs.Meanings.{meaning-wide}
+use Rattle.link.specs.declared.AfterArrival.{AfterArrival}
 use Rattle.link.specs.Arrival.{arrivalChecks, arrived, arrivalOf, Arrives}
 use Rattle.link.specs.Run.{Run}
 use Rattle.link.proofs.Arrivals.{taken-number, arrives-as, accepted-sound}
@@ -27,7 +27,7 @@ use Rattle.wait.proofs.BoundedWait.{bounded-wait, it-goes, it-is-this, 
 use Rattle.wait.proofs.OverCalls.{Gives, arrival-verdict, arrival-gives, run-follow}
 
 -- an arrival of packet p to class i with the answer a, that is accepted
-module _ (l : Link) (i : ℕ) (p : Packet) (a : Answered) (arrives : Arrives l i p a) (accepted : a .verdict ≡ Passed) where
+module _ (l : Link) (i : ℕ) (p : Packet) (a : AfterArrival) (arrives : Arrives l i p a) (accepted : a .answer .verdict ≡ Passed) where
   sound : SoundLink l
   sound = accepted-sound l i p a arrives accepted
 
@@ -35,7 +35,7 @@ module _ (l : Link) (i : ℕ) (p : Packet) (a : Answered) (arrives : Arrives l i
   same = arrives-as l i p a sound arrives
 
   passes : firstBroken (arrivalChecks true (meaning l) i p) ≡ Passed
-  passes = sym (arrival-verdict l i p) ∙ ap (λ (x : Answered). x .verdict) (sym same) ∙ accepted
+  passes = sym (arrival-verdict l i p) ∙ ap (λ (x : AfterArrival). x .answer .verdict) (sym same) ∙ accepted
 
   low : i < 64
   low = taken-number (meaning l) i p (sound .state) passes

@@ -20,11 +20,11 @@ use Rattle.tree.proofs.Sums.{some-found}
 use Rattle.state.specs.declared.Packet.{Packet}
 use Rattle.state.specs.Account.{balanceOf}
 use Rattle.state.specs.State.{State, queueAt, withQueues}
-use Rattle.round.specs.Active.{waits, someWaits}
-use Rattle.round.specs.Opening.{opened}
-use Rattle.round.specs.Sending.{firstOf, nextLeaf, sentState, Turn, Trace, turnOf, sends, traceOf}
-use Rattle.laws.proofs.Rounds.{leaf-most, main-sends, next-main, opened-waits, sends-now, sends-closed}
-use Rattle.laws.proofs.Sender.{Sender, next-sender}
+use Rattle.rules.specs.Active.{waits, someWaits}
+use Rattle.rules.specs.Opening.{opened}
+use Rattle.rules.specs.Sending.{firstOf, nextLeaf, sentState, Turn, Trace, turnOf, sends, traceOf}
+use Rattle.rules.proofs.Rounds.{leaf-most, main-sends, next-main, opened-waits, sends-now, sends-closed}
+use Rattle.rules.proofs.Sender.{Sender, next-sender}
 use Rattle.link.specs.Arrival.{arrivalChecks, arrived}
 use Rattle.link.proofs.Arrivals.{Taken, taken, queue-arrived, queue-other, length-arrived, arrival-keeps}
 use Rattle.wait.specs.Calls.{afterArrival, arrivalTo, bytesIn, overRoundedUp}

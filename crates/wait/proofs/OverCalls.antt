@@ -17,14 +17,14 @@ use Rattle.state.specs.Queue.{Shaped, heldOf, startOf, slotOf, putLast}
 use Rattle.state.specs.State.{State, meaning}
 use Rattle.state.proofs.Meaning.{meaning-held}
 use Rattle.sound.specs.Sound.{SoundLink}
-use Rattle.round.specs.Active.{someWaits}
-use Rattle.round.specs.Sending.{Trace, traceOf}
-use Rattle.laws.proofs.Sent.{sent-wide}
-use Rattle.sending.proofs.Traces.{goes}
-use Rattle.link.specs.declared.Departure.{Departure}
+use Rattle.rules.specs.Active.{someWaits}
+use Rattle.rules.specs.Sending.{Trace, traceOf}
+use Rattle.rules.proofs.Sent.{sent-wide}
+use Rattle.rules.proofs.Traces.{goes}
+use Rattle.link.specs.declared.AfterSend.{AfterSend}
 use Rattle.link.specs.Arrival.{arrivalChecks, arrived, arrivalGives, arrivalOf, Arrives}
 use Rattle.link.specs.Send.{departs, sendGives, sendOf, Sends}
-use Rattle.link.specs.declared.Answered.{Answered}
+use Rattle.link.specs.declared.AfterArrival.{AfterArrival}
 use Rattle.link.specs.Progress.{packetOf}
 use Rattle.link.specs.Run.{Run, ends, arrival as arrives, send as sends}
 use Rattle.link.proofs.Arrivals.{taken, taken-number, arrival-taken, arrival-refused, arrival-means, arrival-sound, arrives-as}
@@ -51,11 +51,11 @@ put-shaped l i p shape = record {
 }
 
 -- its verdict is that of its checks
-pub arrival-verdict : (l : Link) (i : ℕ) (p : Packet) → arrivalOf true l i p .verdict ≡ firstBroken (arrivalChecks true (meaning l) i p)
+pub arrival-verdict : (l : Link) (i : ℕ) (p : Packet) → arrivalOf true l i p .answer .verdict ≡ firstBroken (arrivalChecks true (meaning l) i p)
 unfolding arrivalOf
 arrival-verdict l i p = go (firstBroken (arrivalChecks true (meaning l) i p))
   where
-    go : (v : Verdict) → arrivalGives v l i p .verdict ≡ v
+    go : (v : Verdict) → arrivalGives v l i p .answer .verdict ≡ v
     go Passed = refl
     go (Refused n q) = refl
 
@@ -102,7 +102,7 @@ module _ (l : Link) (shape : Shaped l) (sound : SoundLink l) (waits : someWaits 
 
   pub send-gives : Gives (sendOf true l .link) (traceOf (meaning l) .state)
   send-gives = record {
-    shape = subst (λ (d : Departure). Shaped (d .link)) (sym (send-goes l waits)) send-shaped;
+    shape = subst (λ (d : AfterSend). Shaped (d .link)) (sym (send-goes l waits)) send-shaped;
     sound = send-sound l shape sound;
     means = send-means l shape sound waits;
   }
@@ -110,10 +110,10 @@ module _ (l : Link) (shape : Shaped l) (sound : SoundLink l) (waits : someWaits 
 -- ---- any run
 
 -- an arrival that meets its contract, and a send
-arrived-gives : (l : Link) (j : ℕ) (p : Packet) (a : Answered) → SoundLink l → Arrives l j p a → Gives (a .link) (afterArrival (meaning l) j p)
+arrived-gives : (l : Link) (j : ℕ) (p : Packet) (a : AfterArrival) → SoundLink l → Arrives l j p a → Gives (a .link) (afterArrival (meaning l) j p)
 arrived-gives l j p a sound x = rw (arrives-as l j p a sound x) (arrival-gives l j p (x .shape) sound)
 
-module _ {l : Link} (d : Departure) (sound : SoundLink l) (x : Sends l d) where
+module _ {l : Link} (d : AfterSend) (sound : SoundLink l) (x : Sends l d) where
   sent-is : someWaits (meaning l) ≡ true → d ≡ departs l (traceOf (meaning l))
   sent-is w = sends-as l d sound x ∙ send-goes l w
 
@@ -139,16 +139,16 @@ run-follow (arrives l j p a x rest) i k sound =
 run-follow (sends l d x rest) i k sound = go (someWaits (meaning l)) refl (λ m. run-follow rest i m (x .keeps sound))
   where
     go : (b : Bool) → someWaits (meaning l) ≡ b → ((m : ℕ) → followed i m rest ≡ follow i m (callsOf rest) (meaning (d .link)))
-        → oneSend (passed (d .verdict)) (eqb (d .class) i) (packetOf d) k (λ m. followed i m rest) ≡ follow i k (send ∷ callsOf rest) (meaning l)
+        → oneSend (passed (d .answer .verdict)) (eqb (d .answer .class) i) (packetOf (d .answer)) k (λ m. followed i m rest) ≡ follow i k (send ∷ callsOf rest) (meaning l)
     go false none ih =
         let e = idle-is d sound x none in
-        ap (λ (r : Departure). oneSend (passed (r .verdict)) (eqb (r .class) i) (packetOf r) k (λ m. followed i m rest)) e
+        ap (λ (r : AfterSend). oneSend (passed (r .answer .verdict)) (eqb (r .answer .class) i) (packetOf (r .answer)) k (λ m. followed i m rest)) e
         ∙ ih k
-        ∙ ap (λ (r : Departure). follow i k (callsOf rest) (meaning (r .link))) e
+        ∙ ap (λ (r : AfterSend). follow i k (callsOf rest) (meaning (r .link))) e
         ∙ sym (run-idle (callsOf rest) i k (meaning l) none)
     go true w ih =
         let t = traceOf (meaning l) in
         let same : (m : ℕ) → followed i m rest ≡ follow i m (callsOf rest) (t .state) = λ m. ih m ∙ ap (follow i m (callsOf rest)) (sent-gives d sound x w .means) in
-        ap (λ (r : Departure). oneSend (passed (r .verdict)) (eqb (r .class) i) (packetOf r) k (λ m. followed i m rest)) (sent-is d sound x w)
+        ap (λ (r : AfterSend). oneSend (passed (r .answer .verdict)) (eqb (r .answer .class) i) (packetOf (r .answer)) k (λ m. followed i m rest)) (sent-is d sound x w)
         ∙ (λ y. oneSend true (eqb (t .class) i) (t .packet) k (λ m. same m y))
         ∙ sym (run-sends i k (callsOf rest) (meaning l) w)

@@ -15,12 +15,12 @@ use Rattle.tree.specs.Sum.{someTo}
 use Rattle.state.specs.declared.Account.{Account}
 use Rattle.state.specs.Account.{noAccount, accountOf, heldBy, received}
 use Rattle.state.specs.State.{State, queueAt}
-use Rattle.round.specs.declared.Books.{Books}
-use Rattle.round.specs.Active.{activeChild}
-use Rattle.round.specs.Sending.{firstOf, givenUp, turnsOff, paid, booksAfter}
-use Rattle.laws.specs.Wide.{Wide}
-use Rattle.laws.proofs.GivenUp.{given-length, step-stays, step-root, step-up}
-use Rattle.laws.proofs.SentBooks.{paid-length, paid-root}
+use Rattle.rules.specs.Sending.{Books}
+use Rattle.rules.specs.Active.{activeChild}
+use Rattle.rules.specs.Sending.{firstOf, givenUp, turnsOff, paid, booksAfter}
+use Rattle.rules.specs.Wide.{Wide}
+use Rattle.rules.proofs.GivenUp.{given-length, step-stays, step-root, step-up}
+use Rattle.rules.proofs.SentBooks.{paid-length, paid-root}
 
 -- what the root holds, by the books
 abbrev rootHolds : Books → ℕ

@@ -13,10 +13,10 @@ use Rattle.state.specs.Queue.{Shaped}
 use Rattle.state.specs.State.{State, meaning}
 use Rattle.state.proofs.Meaning.{shaped-fresh}
 use Rattle.sound.specs.Sound.{SoundLink}
-use Rattle.round.specs.Active.{waits, someWaits}
-use Rattle.round.specs.Sending.{traceOf}
-use Rattle.link.specs.declared.Answered.{Answered}
-use Rattle.link.specs.declared.Departure.{Departure}
+use Rattle.rules.specs.Active.{waits, someWaits}
+use Rattle.rules.specs.Sending.{traceOf}
+use Rattle.link.specs.declared.AfterArrival.{AfterArrival}
+use Rattle.link.specs.declared.AfterSend.{AfterSend}
 use Rattle.link.specs.Arrival.{arrivalChecks, arrivalOf, Arrives}
 use Rattle.link.specs.Send.{departs, sendOf, Sends}
 use Rattle.link.proofs.Arrivals.{arrives-as, arrives-by}
@@ -27,7 +27,7 @@ use Rattle.wait.proofs.OverCalls.{Gives, arrival-verdict, arrival-gives
 use Rattle.wait.proofs.TwoLeaves.{tree, rules, fresh, first, second, withFirst, withBoth, sentOnce, arrivals-pass, arrivals-wait, two-sends}
 
 -- an arrival and a send that meet their contracts on every sound link whose lists have the lengths of its arrays
-pub record Meets (arrive : Link → ℕ → Packet → Answered) (send : Link → Departure) : Type 0 where
+pub record Meets (arrive : Link → ℕ → Packet → AfterArrival) (send : Link → AfterSend) : Type 0 where
   pub arrivals : (l : Link) (i : ℕ) (p : Packet) → Shaped l → SoundLink l → Arrives l i p (arrive l i p)
   pub sends : (l : Link) → Shaped l → SoundLink l → Sends l (send l)
 
@@ -39,12 +39,12 @@ rules-meet = record {
   sends = λ l shape sound. sends-by l true (sendOf true l) shape (exactly-yes sound) refl;
 }
 
-module _ (arrive : Link → ℕ → Packet → Answered) (send : Link → Departure) (meets : Meets arrive send) where
+module _ (arrive : Link → ℕ → Packet → AfterArrival) (send : Link → AfterSend) (meets : Meets arrive send) where
   -- ---- what such calls give on a sound link
 
-  arrive-verdict : (l : Link) (s : State) (i : ℕ) (p : Packet) → Gives l s → arrive l i p .verdict ≡ firstBroken (arrivalChecks true s i p)
+  arrive-verdict : (l : Link) (s : State) (i : ℕ) (p : Packet) → Gives l s → arrive l i p .answer .verdict ≡ firstBroken (arrivalChecks true s i p)
   arrive-verdict l s i p g =
-      ap (λ (a : Answered). a .verdict) (arrives-as l i p (arrive l i p) (g .sound) (meets .arrivals l i p (g .shape) (g .sound)))
+      ap (λ (a : AfterArrival). a .answer .verdict) (arrives-as l i p (arrive l i p) (g .sound) (meets .arrivals l i p (g .shape) (g .sound)))
       ∙ arrival-verdict l i p
       ∙ ap (λ (t : State). firstBroken (arrivalChecks true t i p)) (g .means)
 
@@ -98,31 +98,31 @@ module _ (arrive : Link → ℕ → Packet → Answered) (send : Link → Depart
   sent-second : send gone ≡ departs gone (traceOf sentOnce)
   sent-second = send-is gone sentOnce gone-gives (two-sends .1 .waits)
 
-  first-tag : send two .tag ≡ 1
-  first-tag = ap (λ (d : Departure). d .tag) sent-first ∙ two-sends .0 .tag
+  first-tag : send two .answer .tag ≡ 1
+  first-tag = ap (λ (d : AfterSend). d .answer .tag) sent-first ∙ two-sends .0 .tag
 
-  second-tag : send gone .tag ≡ 4
-  second-tag = ap (λ (d : Departure). d .tag) sent-second ∙ two-sends .1 .tag
+  second-tag : send gone .answer .tag ≡ 4
+  second-tag = ap (λ (d : AfterSend). d .answer .tag) sent-second ∙ two-sends .1 .tag
 
   -- ---- the stand-ins
 
   -- a link that refuses everything
-  pub refuses-everything : (n q : ℕ) → arrive fresh 1 first .verdict ≡ Refused n q → ⊥
+  pub refuses-everything : (n q : ℕ) → arrive fresh 1 first .answer .verdict ≡ Refused n q → ⊥
   refuses-everything n q e = not-both (arrive-verdict fresh (meaning fresh) 1 first starts ∙ arrivals-pass .0) e
 
-  pub sends-nothing : (n q : ℕ) → send two .verdict ≡ Refused n q → ⊥
-  sends-nothing n q e = not-both (ap (λ (d : Departure). d .verdict) sent-first) e
+  pub sends-nothing : (n q : ℕ) → send two .answer .verdict ≡ Refused n q → ⊥
+  sends-nothing n q e = not-both (ap (λ (d : AfterSend). d .answer .verdict) sent-first) e
 
   -- one with a fixed answer: an arrival to a leaf and one to a number that is no class differ; no tag is that of every send
-  pub fixed-verdict : arrive fresh 1 first .verdict ≡ arrive fresh 3 first .verdict → ⊥
+  pub fixed-verdict : arrive fresh 1 first .answer .verdict ≡ arrive fresh 3 first .answer .verdict → ⊥
   fixed-verdict e =
       not-both (arrive-verdict fresh (meaning fresh) 1 first starts ∙ arrivals-pass .0)
       (e ∙ arrive-verdict fresh (meaning fresh) 3 first starts ∙ arrivals-pass .1)
 
-  pub fixed-answer : (tag : ℕ) → ((l : Link) → Shaped l → SoundLink l → send l .tag ≡ tag) → ⊥
+  pub fixed-answer : (tag : ℕ) → ((l : Link) → Shaped l → SoundLink l → send l .answer .tag ≡ tag) → ⊥
   fixed-answer tag e =
-      let a : send two .tag ≡ tag = e two (two-gives .shape) (two-gives .sound) in
-      let b : send gone .tag ≡ tag = e gone (gone-gives .shape) (gone-gives .sound) in
+      let a : send two .answer .tag ≡ tag = e two (two-gives .shape) (two-gives .sound) in
+      let b : send gone .answer .tag ≡ tag = e gone (gone-gives .shape) (gone-gives .sound) in
       omega (arith, first-tag, second-tag, a, b)
 
   -- one that returns the state untouched after an arrival, the first or the next
@@ -135,12 +135,12 @@ module _ (arrive : Link → ℕ → Packet → Answered) (send : Link → Depart
       (ap (λ (s : State). waits s 2) (e ∙ one-gives .means) ∙ arrivals-wait .2)
 
   -- one that works on the first call and then repeats
-  pub repeats : send gone .tag ≡ send two .tag → ⊥
+  pub repeats : send gone .answer .tag ≡ send two .answer .tag → ⊥
   repeats e = omega (arith, first-tag, second-tag, e)
 
   -- or idles: it refuses, or leaves the state as it is
-  pub idles : (n q : ℕ) → send gone .verdict ≡ Refused n q → ⊥
-  idles n q e = not-both (ap (λ (d : Departure). d .verdict) sent-second) e
+  pub idles : (n q : ℕ) → send gone .answer .verdict ≡ Refused n q → ⊥
+  idles n q e = not-both (ap (λ (d : AfterSend). d .answer .verdict) sent-second) e
 
   pub idles-state : meaning (send gone .link) ≡ meaning gone → ⊥
   idles-state e =
@@ -148,11 +148,11 @@ module _ (arrive : Link → ℕ → Packet → Answered) (send : Link → Depart
       (ap someWaits (sym e ∙ send-after gone sentOnce gone-gives (two-sends .1 .waits) .means) ∙ two-sends .2)
 
   -- one with an invented round count: it is that of the openings, and no fixed one
-  pub counts-openings : (l : Link) → Shaped l → SoundLink l → someWaits (meaning l) ≡ true → send l .rounds ≡ length (traceOf (meaning l) .turns)
-  counts-openings l shape sound w = ap (λ (d : Departure). d .rounds) (send-is l (meaning l) (record { shape = shape; sound = sound; means = refl }) w)
+  pub counts-openings : (l : Link) → Shaped l → SoundLink l → someWaits (meaning l) ≡ true → send l .answer .rounds ≡ length (traceOf (meaning l) .turns)
+  counts-openings l shape sound w = ap (λ (d : AfterSend). d .answer .rounds) (send-is l (meaning l) (record { shape = shape; sound = sound; means = refl }) w)
 
-  pub fixed-count : send gone .rounds ≡ send two .rounds → ⊥
+  pub fixed-count : send gone .answer .rounds ≡ send two .answer .rounds → ⊥
   fixed-count e =
-      let a : send two .rounds ≡ 1 = ap (λ (d : Departure). d .rounds) sent-first ∙ two-sends .0 .rounds in
-      let b : send gone .rounds ≡ 0 = ap (λ (d : Departure). d .rounds) sent-second ∙ two-sends .1 .rounds in
+      let a : send two .answer .rounds ≡ 1 = ap (λ (d : AfterSend). d .answer .rounds) sent-first ∙ two-sends .0 .rounds in
+      let b : send gone .answer .rounds ≡ 0 = ap (λ (d : AfterSend). d .answer .rounds) sent-second ∙ two-sends .1 .rounds in
       omega (arith, e, a, b)

@@ -22,9 +22,9 @@ use Rattle.state.specs.declared.Packet.{Packet}
 use Rattle.state.specs.Queue.{table, queueOf}
 use Rattle.state.specs.State.{State, meaning, freshLink}
 use Rattle.tree.specs.Below.{climbs, atOrBelow}
-use Rattle.round.specs.Active.{waits, someWaits, someBelow, setOf, upward, roundActive, activeChild, activeWeight, weightSum}
-use Rattle.round.specs.Opening.{surplusAt, hasSurplus, kindOf, quotaIn, quota, due, handsDown, openedLeaf, openedInner, openedAccount, openedAccounts, nextKind, opened}
-use Rattle.round.specs.Sending.{ready, firstFrom, nextLeaf, givenUp, turnsOff, paid, booksAfter, sentState, turnOf, sends, traceOf}
+use Rattle.rules.specs.Active.{waits, someWaits, someBelow, setOf, upward, roundActive, activeChild, activeWeight, weightSum}
+use Rattle.rules.specs.Opening.{surplusAt, hasSurplus, kindOf, quotaIn, quota, due, handsDown, openedLeaf, openedInner, openedAccount, openedAccounts, nextKind, opened}
+use Rattle.rules.specs.Sending.{ready, firstFrom, nextLeaf, givenUp, turnsOff, paid, booksAfter, sentState, turnOf, sends, traceOf}
 use Rattle.link.specs.Arrival.{noLeaf, badLength, full, arrivalChecks}
 use Rattle.wait.specs.Calls.{afterArrival}
 

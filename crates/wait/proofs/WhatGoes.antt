@@ -8,7 +8,7 @@ use borrow.Author.Tests.{eqb-true, eqb-false}
 use Rattle.checks.proofs.Laws.{not-true-and-false}
 use Rattle.state.specs.declared.Packet.{Packet}
 use Rattle.state.specs.State.{State}
-use Rattle.round.specs.Sending.{traceOf}
+use Rattle.rules.specs.Sending.{traceOf}
 use Rattle.wait.specs.Calls.{Call, arrival, send, afterArrival, Followed, follow}
 use Rattle.wait.proofs.Credit.{Holds}
 use Rattle.wait.proofs.OneCall.{send-falls, holds-waits, any-arrival}

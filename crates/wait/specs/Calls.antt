@@ -10,8 +10,8 @@ use Rattle.units.specs.Cost.{costOf}
 use Rattle.state.specs.declared.Packet.{Packet}
 use Rattle.state.specs.Queue.{noPacket}
 use Rattle.state.specs.State.{State}
-use Rattle.round.specs.Active.{someWaits}
-use Rattle.round.specs.Sending.{traceOf}
+use Rattle.rules.specs.Active.{someWaits}
+use Rattle.rules.specs.Sending.{traceOf}
 use Rattle.link.specs.Arrival.{arrivalChecks, arrived}
 
 -- a call on the link

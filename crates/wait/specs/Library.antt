@@ -18,4 +18,4 @@ callsOf (sends l d meets rest) = send ∷ callsOf rest
 unfoldable pub followed : ℕ → ℕ → {l : Link} → Run l → Followed
 followed i k (ends l) = stillWaits
 followed i k (arrives l j p a meets rest) = followed i k rest
-followed i k (sends l d meets rest) = oneSend (passed (d .verdict)) (eqb (d .class) i) (packetOf d) k (λ m. followed i m rest)
+followed i k (sends l d meets rest) = oneSend (passed (d .answer .verdict)) (eqb (d .answer .class) i) (packetOf (d .answer)) k (λ m. followed i m rest)

@@ -46,12 +46,11 @@ use denote.Triple.Walked.{Stays, stay-none, stay-none-slice, walkOf, AllGo, goes
 use denote.Triple.Clauses.{ensured, lasts}
 use denote.Exit.{yes}
 use Rattle.state.specs.declared.Link.{Link}
-use Rattle.checks.specs.declared.Verdict.{Verdict}
+use Rattle.link.specs.declared.Arrival.{Arrival}
 use Rattle.plan.specs.declared.EventRead.{EventRead}
-use Rattle.link.specs.Arrival.{Arrives}
-use Rattle.link.specs.Send.{Sends}
-use Rattle.lent.specs.declared.Departed.{Departed}
-use Rattle.lent.specs.Answers.{answered, departure}
+use Rattle.link.specs.Arrival.{arrivalLeaves, Arrives}
+use Rattle.link.specs.Send.{sendLeaves, Sends}
+use Rattle.link.specs.declared.Departure.{Departure}
 use Rattle.box_loop.specs.declared.Event.{Event}
 use Rattle.box_loop.specs.Loop.{left, Comes}
 use Rattle.lent.proofs.Lends.{lval, Known}
@@ -59,12 +58,12 @@ use Rattle.lent.proofs.Returns.{returned}
 use Rattle.lent.proofs.Loans.{loan}
 use Rattle.state.proofs.Link as L
 use Rattle.state.proofs.Link.Laws as L′
-use Rattle.checks.proofs.Verdict as N
-use Rattle.checks.proofs.Verdict.Laws as N′
+use Rattle.link.proofs.Arrival as N
+use Rattle.link.proofs.Arrival.Laws as N′
 use Rattle.plan.proofs.EventRead as R
 use Rattle.plan.proofs.EventRead.Laws as R′
-use Rattle.lent.proofs.Departed as D
-use Rattle.lent.proofs.Departed.Laws as D′
+use Rattle.link.proofs.Departure as D
+use Rattle.link.proofs.Departure.Laws as D′
 use Rattle.box_loop.proofs.Event as Ev
 use Rattle.box_loop.proofs.Event.Laws as Ev′
 use Rattle.lent.proofs.AskArrive as ask-arrive
@@ -182,17 +181,17 @@ module _ {M : Type 1} (𝓤 : URA M) (H : Heap 𝓤) (A : Atoms 𝓤) (at-mem : 
 
 module _ {M : Type 1} (𝓤 : URA M) (H : Heap 𝓤) (A : Atoms 𝓤) (W : Given 𝓤 H A) (at-mem : Memory → SProp 𝓤) (run : Routine → Fun 𝓤) where
   -- ---- the functions that print: what each asks, of plain facts alone
-  abbrev to-arrival : EventRead → Verdict → Val → Val → ShowsArrival 𝓤 H A at-mem run .Ghost
+  abbrev to-arrival : EventRead → Arrival → Val → Val → ShowsArrival 𝓤 H A at-mem run .Ghost
   to-arrival e r u v = ((tt, tt, tt, (e, (r, tt)), (u ∷ [], (v ∷ [], tt))), tt)
 
-  goes-arrival : (e : EventRead) (r : Verdict) (u v : Val) → Is R.the-row e (u ∷ []) → Is N.the-row r (v ∷ []) → ent 𝓤 (emp 𝓤) (ShowsArrival 𝓤 H A at-mem run .pre (to-arrival e r u v))
-  goes-arrival e r u v is isr = qed W [] ∵ nothing ! $ owned ! N.the-row (Is N.the-row) (EL.makes N.the-type N′.the-plain 𝓤 H A) r (v ∷ []) isr $ fjoin ! $
+  goes-arrival : (e : EventRead) (r : Arrival) (u v : Val) → Is R.the-row e (u ∷ []) → Is N.the-row r (v ∷ []) → ent 𝓤 (emp 𝓤) (ShowsArrival 𝓤 H A at-mem run .pre (to-arrival e r u v))
+  goes-arrival e r u v is isr = qed W [] ∵ nothing ! $ owned ! N.the-row (Is N.the-row) (LL.makes N.the-type N′.the-plain 𝓤 H A) r (v ∷ []) isr $ fjoin ! $
       owned ! R.the-row (Is R.the-row) (EL.makes R.the-type R′.the-plain 𝓤 H A) e (u ∷ []) is $ fjoin ! $ nothing ! $ join ! $ frame ! $ done !
 
-  abbrev to-send : Departed → Val → ShowsSend 𝓤 H A at-mem run .Ghost
+  abbrev to-send : Departure → Val → ShowsSend 𝓤 H A at-mem run .Ghost
   to-send d v = ((tt, tt, tt, (d, tt), (v ∷ [], tt)), tt)
 
-  goes-send : (d : Departed) (v : Val) → Is D.the-row d (v ∷ []) → ent 𝓤 (emp 𝓤) (ShowsSend 𝓤 H A at-mem run .pre (to-send d v))
+  goes-send : (d : Departure) (v : Val) → Is D.the-row d (v ∷ []) → ent 𝓤 (emp 𝓤) (ShowsSend 𝓤 H A at-mem run .pre (to-send d v))
   goes-send d v is = qed W [] ∵ nothing ! $ owned ! D.the-row (Is D.the-row) (LL.makes D.the-type D′.the-plain 𝓤 H A) d (v ∷ []) is $ fjoin ! $ nothing ! $ join ! $ frame ! $ done !
 
   abbrev to-end : EventRead → Link → Val → ShowsEnd 𝓤 H A at-mem run .Ghost
@@ -330,12 +329,12 @@ module _ {M : Type 1} (𝓤 : URA M) (H : Heap 𝓤) (A : Atoms 𝓤) (W : Given
         let o = LL.owed Ev.the-type Ev′.the-laws (t .event) _ (t .is-event) in
         qed W (At h (t .event)) ∵ exec ! C Λ En arriveᴹ (anyQ (afterSeq 𝓤 H (Wp 𝓤 H C Λ En againᴹ (Ends t)) (Ends t))) $
         assigns ! (addr ! (from ! (stop !))) (from ! (stop !)) (init ! 6 refl (tt, tt)) $
-        loan ! fm (ask-arrive.Lent 𝓤 H A at-mem run) (met .1 .0) N.the-row (λ r m. Arrives h i p′ (answered r m)) l₄ h (t .known)
+        loan ! fm (ask-arrive.Lent 𝓤 H A at-mem run) (met .1 .0) N.the-row (λ r m. Arrives h i p′ (arrivalLeaves r m)) l₄ h (t .known)
         (λ α δ. ask-arrive.to-lent 𝓤 H A W at-mem run l₄ α δ h i p′ (o .1 .1 .0 .1) (o .1 .1 .1 .0))
         (λ α δ. ask-arrive.goes 𝓤 H A W at-mem run l₄ α δ h i p′ (o .1 .1 .0 .1) (o .1 .1 .1 .0)) (λ α δ. ask-arrive.given-back 𝓤 H A W at-mem run l₄ α δ h i p′ (o .1 .1 .0 .1) (o .1 .1 .1 .0))
         (λ α δ. and-then ! (load ! (from ! (stop !)) (look ! 7 refl)) (and-then ! (load ! (from ! (fld ! refl (stop !))) (look-in ! 2 (sub ! 2 refl (whole !))))
         (and-then ! (load ! (from ! (fld ! refl (stop !))) (look-in ! 2 (sub ! 3 refl (whole !)))) (no-more !)))) (λ v r m e isr ism.
-        land ! (from ! (stop !)) (init ! 3 refl (EL.lawful N.the-type N′.the-laws 𝓤 H A W tt .typed r _ isr .0)) $
+        land ! (from ! (stop !)) (init ! 3 refl (LL.lawful N.the-type N′.the-laws 𝓤 H A W .typed r _ isr .0)) $
         use0 W (raw (ShowsArrival 𝓤 H A at-mem run .pre (to-arrival 𝓤 H A W at-mem run (t .event .read) r (rval (t .event .read)) v))) (goes-arrival 𝓤 H A W at-mem run (t .event .read) r (rval (t .event .read)) v (o .1 .1 .1 .1 .1 .0) isr) $
         calls-at-last ! fm (ShowsArrival 𝓤 H A at-mem run) (met .1 .1 .1 .0) (to-arrival 𝓤 H A W at-mem run (t .event .read) r (rval (t .event .read)) v)
         (and-then ! (load ! (from ! (fld ! refl (stop !))) (look-in ! 2 (sub ! 5 refl (whole !)))) (and-then ! (load ! (from ! (stop !)) (look ! 4 refl)) (no-more !))) (λ w.
@@ -347,7 +346,7 @@ module _ {M : Type 1} (𝓤 : URA M) (H : Heap 𝓤) (A : Atoms 𝓤) (W : Given
         let h = t .link in
         qed W (At h (t .event)) ∵ exec ! C Λ En sendᴹ (anyQ (afterSeq 𝓤 H (Wp 𝓤 H C Λ En againᴹ (Ends t)) (Ends t))) $
         assigns ! (addr ! (from ! (stop !))) (from ! (stop !)) (init ! 8 refl (tt, tt)) $
-        loan ! fm (ask-send.Lent 𝓤 H A at-mem run) (met .1 .1 .0) D.the-row (λ d m. Sends h (departure d m)) l₄ h (t .known)
+        loan ! fm (ask-send.Lent 𝓤 H A at-mem run) (met .1 .1 .0) D.the-row (λ d m. Sends h (sendLeaves d m)) l₄ h (t .known)
         (λ α δ. ask-send.to-lent 𝓤 H A W at-mem run l₄ α δ h) (λ α δ. ask-send.goes 𝓤 H A W at-mem run l₄ α δ h) (λ α δ. ask-send.given-back 𝓤 H A W at-mem run l₄ α δ h)
         (λ α δ. and-then ! (load ! (from ! (stop !)) (look ! 9 refl)) (no-more !)) (λ v d m e isd ism.
         land ! (from ! (stop !)) (init ! 4 refl (LL.lawful D.the-type D′.the-laws 𝓤 H A W .typed d _ isd .0)) $

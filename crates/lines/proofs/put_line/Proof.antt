@@ -1,12 +1,9 @@
 -- `lines::put_line` meets its contract: the word, the numbers and the end of the line, one after another.
 use mathlib.Core.List.{[], _∷_, _++_}
-use mathlib.Core.Path.{sym}
-use Prim.Native.Nat.{_≤_}
 use native.Mathlib.Omega.{arith}
 use borrow.Author.Needs.{needs}
 use denote.Ref.{now}
-use lib.ListN.{length, length-append}
-use lib.Seq.{length-take-le}
+use lib.ListN.{length-append}
 use Rattle.lines.specs.Line.{numbersOf}
 use Rattle.lines.proofs.Laying.{laid-then}
 use Rattle.lines.proofs.put_line.Statement.{statement}
@@ -33,13 +30,13 @@ returns c =
     let m = l .before .before .before .before .before in
     let w = m .before .before .before .before in
     let st = w .before .before .before .before .before in
+    let at = st .args .at in
     let word = now (st .args .word) in
     let ns = numbersOf (now (st .args .numbers)) in
     let b = now (st .args .out) in
-    let front = laid-then 0 word ns b _ _ _ _ (omega arith) (w .put .ensures) (m .put-numbers .ensures .0) in
-    let whole = laid-then 0 (word ++ ns) (10 ∷ []) b _ _ _ _ (omega (arith, length-append word ns, front .0)) front (l .put2 .ensures) in
-    let most : l .put2 .result ≤ length (l .put2 .last .1 .1 .0) = omega (arith, l .put2 .ensures .0) in
-    (whole, (most, sym (length-take-le (l .put2 .result) (l .put2 .last .1 .1 .0) most)))
+    let front = laid-then at word ns b _ _ _ _ (omega arith) (w .put .ensures) (m .put-numbers .ensures .0) in
+    let whole = laid-then at (word ++ ns) (10 ∷ []) b _ _ _ _ (omega (arith, length-append word ns, front .0)) front (l .put2 .ensures) in
+    (whole, omega (arith, l .put2 .ensures .0, m .put-numbers .ensures .1, w .put .ensures .0))
 
 pub put-line-spec : {M : Type 1} → statement M
 put-line-spec =

@@ -1,37 +1,57 @@
--- `linkrun::whole` ends and does no harm.
+-- `linkrun::whole` ends and does no harm: each part moves on through the input.
+use mathlib.Core.Path.{_≡_, sym, _∙_}
+use Prim.Native.Nat.{ℕ}
+use native.Mathlib.Omega.{arith}
+use denote.Ref.{now}
+use lib.ListN.{length, length-replicate}
 use Rattle.run.proofs.Lines.{stepsLeft, steps-less}
+use Rattle.run.proofs.Parts.{parts-on}
 use borrow.Author.Needs.{needs}
 use Rattle.linkrun.proofs.whole.Statement.{statement}
 use Rattle.linkrun.proofs.whole.Tie as tie
 
 abbrev Inv-loop : tie.InvT-loop
-Inv-loop input step₀ step = Unit {0}
+Inv-loop input part₀ text₀ part text = length text ≡ 65_536
 
 abbrev μ-loop : tie.MeasureT-loop
-μ-loop input step₀ step = stepsLeft input step
+μ-loop input part₀ text₀ part text = stepsLeft input (part .more) (part .place)
 
 first-requires : tie.Need-first-requires Inv-loop μ-loop
 first-requires c κs = search needs
 
-show-requires : tie.Need-show-requires Inv-loop μ-loop
-show-requires c κs = search needs
+print-requires : tie.Need-print-requires Inv-loop μ-loop
+print-requires c κs = search needs
 
 loop-holds : tie.Need-loop-holds Inv-loop μ-loop
-loop-holds c = tt
+loop-holds c = length-replicate {A = ℕ} 65_536 0
 
-next-requires : tie.Need-next-requires Inv-loop μ-loop
-next-requires c κs = search needs
+slice-aggregate-part : tie.Need-slice-aggregate-part Inv-loop μ-loop
+slice-aggregate-part c = sym (c .before .before .loop .inv)
 
-show-requires-2 : tie.Need-show-requires-2 Inv-loop μ-loop
-show-requires-2 c κs = search needs
+part-requires : tie.Need-part-requires Inv-loop μ-loop
+part-requires c κs = search needs
+
+array-share-prefix-text : tie.Need-array-share-prefix-text Inv-loop μ-loop
+array-share-prefix-text c = search needs
+
+slice-aggregate-write-all : tie.Need-slice-aggregate-write-all Inv-loop μ-loop
+slice-aggregate-write-all c = search needs
+
+write-all-requires : tie.Need-write-all-requires Inv-loop μ-loop
+write-all-requires c κs = search needs
 
 loop-less : tie.Need-loop-less Inv-loop μ-loop
 loop-less c =
-    let h = c .before .before .before in
-    steps-less (h .before .before .before .before .args .input .now) (h .loop .step) (c .before .next .result) (c .before .before .loop-test .taken) (c .before .next .ensures)
+    let d = c .before .before .before in
+    let h = d .before .before .before in
+    let input = now (h .before .before .before .before .before .args .input) in
+    let part = h .loop .part in
+    let r = d .part .result in
+    steps-less input (r .more) (r .place) (part .more) (part .place) (d .before .before .loop-test .taken)
+    (parts-on (part .link) input (part .place) _ r _ (d .part .ensures .0) (omega (arith, h .loop .inv)))
 
 loop-again : tie.Need-loop-again Inv-loop μ-loop
-loop-again c = tt
+loop-again c = let d = c .before .before .before in d .part .kept .1 .1 .1 .0 ∙ d .before .before .before .loop .inv
 
 returns : tie.Need-returns Inv-loop μ-loop
 returns c = search needs
@@ -43,10 +63,13 @@ whole-spec =
     Inv-loop
     μ-loop
     first-requires
-    show-requires
+    print-requires
     loop-holds
-    next-requires
-    show-requires-2
+    slice-aggregate-part
+    part-requires
+    array-share-prefix-text
+    slice-aggregate-write-all
+    write-all-requires
     loop-less
     loop-again
     returns)

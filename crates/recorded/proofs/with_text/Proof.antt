@@ -5,13 +5,19 @@ use Rattle.recorded.proofs.with_text.Statement.{statement}
 use Rattle.recorded.proofs.with_text.Tie as tie
 
 abbrev Inv-loop : tie.InvT-loop
-Inv-loop sum text total₀ i₀ i-end total i = Unit {0}
+Inv-loop text lines₀ sum₀ i₀ i-end lines sum i = Unit {0}
 
 abbrev μ-loop : tie.MeasureT-loop
-μ-loop sum text total₀ i₀ i-end total i = i-end - i
+μ-loop text lines₀ sum₀ i₀ i-end lines sum i = i-end - i
 
 loop-holds : tie.Need-loop-holds Inv-loop μ-loop
 loop-holds c = tt
+
+shared-slice-read-ended : tie.Need-shared-slice-read-ended Inv-loop μ-loop
+shared-slice-read-ended c = search needs
+
+ended-requires : tie.Need-ended-requires Inv-loop μ-loop
+ended-requires c κs = search needs
 
 shared-slice-read-counted : tie.Need-shared-slice-read-counted Inv-loop μ-loop
 shared-slice-read-counted c = search needs
@@ -38,6 +44,8 @@ with-text-spec =
     Inv-loop
     μ-loop
     loop-holds
+    shared-slice-read-ended
+    ended-requires
     shared-slice-read-counted
     counted-requires
     add-i

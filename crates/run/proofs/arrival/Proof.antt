@@ -3,7 +3,7 @@ use mathlib.Core.Bool.{true}
 use mathlib.Core.Path.{ap, _∙_}
 use Prim.Native.Nat.{_+_}
 use Rattle.lines.specs.declared.Line.{Line}
-use Rattle.link.specs.declared.Answered.{Answered}
+use Rattle.link.specs.declared.AfterArrival.{AfterArrival}
 use Rattle.run.specs.Event.{arrivalLine}
 use borrow.Author.Needs.{needs}
 use Rattle.run.proofs.arrival.Statement.{statement}
@@ -23,7 +23,7 @@ add-t10 c = search needs
 
 returns : tie.Need-returns
 returns c =
-    let g = c .before .before in
+    let g = c .before .before .before in
     let st = g .before .before in
     let a = st .args .a in
     let did = g .arrive .ensures in
@@ -32,7 +32,7 @@ returns c =
       exactly = did .exactly;
       answer =
           ap (λ (line : Line). record { line = line; more = true; link = g .arrive .result .link; place = st .args .place + 8 }) (c .before .arrival-line .ensures)
-          ∙ ap (λ (r : Answered). record { line = arrivalLine (r .verdict) a; more = true; link = r .link; place = st .args .place + 8 }) (did .answer);
+          ∙ ap (λ (r : AfterArrival). record { line = arrivalLine (r .answer) a; more = true; link = r .link; place = st .args .place + 8 }) (did .answer);
       keeps = did .keeps;
     }
 

@@ -1,7 +1,7 @@
 -- `run::arrival_line` meets its contract.
 use mathlib.Core.Path.{sym, ap}
 use Rattle.checks.specs.declared.Verdict.{Verdict}
-use Rattle.run.specs.Event.{arrivalLine}
+use Rattle.run.specs.Event.{arrivalSays}
 use borrow.Author.Needs.{needs}
 use Rattle.run.proofs.arrival_line.Statement.{statement}
 use Rattle.run.proofs.arrival_line.Tie as tie
@@ -21,18 +21,18 @@ enum-told c = search needs
 enum-known-verdict : tie.Need-enum-known-verdict
 enum-known-verdict c = search needs
 
-cast-t8 : tie.Need-cast-t8
-cast-t8 c = search needs
+cast-t9 : tie.Need-cast-t9
+cast-t9 c = search needs
 
 returns : tie.Need-returns
 returns c =
     let a = c .before .before .before .before .before .args .a in
-    sym (ap (λ (v : Verdict). arrivalLine v a) (c .enum-told .given .1))
+    sym (ap (λ (v : Verdict). arrivalSays v a) (c .enum-told .given .1))
 
 returns-2 : tie.Need-returns-2
 returns-2 c =
     let a = c .before .before .before .before .before .before .args .a in
-    sym (ap (λ (v : Verdict). arrivalLine v a) (c .before .verdict .given .1))
+    sym (ap (λ (v : Verdict). arrivalSays v a) (c .before .verdict .given .1))
 
 pub arrival-line-spec : {M : Type 1} → statement M
 arrival-line-spec =
@@ -43,6 +43,6 @@ arrival-line-spec =
     cast-tag
     enum-told
     enum-known-verdict
-    cast-t8
+    cast-t9
     returns
     returns-2)

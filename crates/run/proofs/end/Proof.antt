@@ -13,7 +13,7 @@ waiting-requires c κs = search needs
 
 returns : tie.Need-returns
 returns c =
-    let a = c .before .before .args in
+    let a = c .before .before .before .args in
     ap (λ (n : ℕ). record { line = End n; more = false; link = a .link; place = a .place }) (c .waiting .ensures ∙ waiting-means (a .link))
 
 pub end-spec : {M : Type 1} → statement M

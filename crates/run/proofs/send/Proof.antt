@@ -3,7 +3,7 @@ use mathlib.Core.Bool.{true}
 use mathlib.Core.Path.{ap, _∙_}
 use Prim.Native.Nat.{_+_}
 use Rattle.lines.specs.declared.Line.{Line}
-use Rattle.link.specs.declared.Departure.{Departure}
+use Rattle.link.specs.declared.AfterSend.{AfterSend}
 use Rattle.run.specs.Event.{sendLine}
 use borrow.Author.Needs.{needs}
 use Rattle.run.proofs.send.Statement.{statement}
@@ -20,7 +20,7 @@ add-t7 c = search needs
 
 returns : tie.Need-returns
 returns c =
-    let g = c .before .before in
+    let g = c .before .before .before in
     let st = g .before in
     let did = g .send .ensures in
     record {
@@ -28,7 +28,7 @@ returns c =
       exactly = did .exactly;
       answer =
           ap (λ (line : Line). record { line = line; more = true; link = g .send .result .link; place = st .args .place + 1 }) (c .before .send-line .ensures)
-          ∙ ap (λ (r : Departure). record { line = sendLine (r .verdict) (r .class) (r .length) (r .tag) (r .rounds); more = true; link = r .link; place = st .args .place + 1 }) (did .answer);
+          ∙ ap (λ (r : AfterSend). record { line = sendLine (r .answer); more = true; link = r .link; place = st .args .place + 1 }) (did .answer);
       keeps = did .keeps;
     }
 

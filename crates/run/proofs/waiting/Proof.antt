@@ -16,16 +16,16 @@ abbrev μ-loop : tie.MeasureT-loop
 μ-loop held sum₀ i₀ sum i = 64 - i
 
 loop-holds : tie.Need-loop-holds Inv-loop μ-loop
-loop-holds c = (omega arith, omega arith, sym (sum-none (λ k. getD (c .args .t1) k 0)), omega arith)
+loop-holds c = (omega arith, omega arith, sym (sum-none (λ k. getD (c .args .held .now) k 0)), omega arith)
 
-array-read-wide : tie.Need-array-read-wide Inv-loop μ-loop
-array-read-wide c = search needs
+element-copy-out-wide : tie.Need-element-copy-out-wide Inv-loop μ-loop
+element-copy-out-wide c = search needs
 
 wide-requires : tie.Need-wide-requires Inv-loop μ-loop
 wide-requires c κs = search needs
 
 add-sum : tie.Need-add-sum Inv-loop μ-loop
-add-sum c = let h = c .before .before in omega (arith, c .wide .ensures .1, h .loop .inv .3, h .loop .inv .1)
+add-sum c = let h = c .before .before .before in omega (arith, c .wide .ensures .1, h .loop .inv .3, h .loop .inv .1)
 
 add-i : tie.Need-add-i Inv-loop μ-loop
 add-i c = search needs
@@ -35,9 +35,9 @@ loop-less c = search needs
 
 loop-again : tie.Need-loop-again Inv-loop μ-loop
 loop-again c =
-    let h = c .before .before in
+    let h = c .before .before .before in
     let w = c .wide .ensures in
-    (omega arith, omega (arith, c .before .loop-test .taken), omega (arith, w .0, h .loop .inv .2, sum-step (λ k. getD (h .before .args .t1) k 0) (h .loop .i) (h .loop .inv .0)), omega (arith, w .1, h .loop .inv .3, h .loop .inv .0))
+    (omega arith, omega (arith, c .before .before .loop-test .taken), omega (arith, w .0, h .loop .inv .2, sum-step (λ k. getD (h .before .args .held .now) k 0) (h .loop .i) (h .loop .inv .0)), omega (arith, w .1, h .loop .inv .3, h .loop .inv .0))
 
 returns : tie.Need-returns Inv-loop μ-loop
 returns c =
@@ -52,7 +52,7 @@ waiting-spec =
     Inv-loop
     μ-loop
     loop-holds
-    array-read-wide
+    element-copy-out-wide
     wide-requires
     add-sum
     add-i

@@ -39,7 +39,7 @@ use denote.Steps.{owned, nothing, only}
 use denote.Struct.Laws as LL
 use denote.Enum.Laws as EL
 use denote.Triple.Statement.{Contract, Triple}
-use denote.Triple.Call.{calls-at, calls-at-last}
+use denote.Triple.Call.{calls-at-last}
 use denote.Triple.Entry.{onEntry}
 use denote.Triple.Spec.{Meets, tripleOf}
 use denote.Triple.Table.{entered, cited}
@@ -47,11 +47,10 @@ use denote.Triple.Walked.{Stays, stay-none, stay-none-slice, walkOf, AllGo, goes
 use denote.Triple.Clauses.{ensured, lasts}
 use denote.Exit.{yes}
 use Rattle.state.specs.declared.Link.{Link}
-use Rattle.checks.specs.declared.Verdict.{Verdict}
-use Rattle.link.specs.Arrival.{Arrives}
-use Rattle.link.specs.Send.{Sends}
-use Rattle.lent.specs.declared.Departed.{Departed}
-use Rattle.lent.specs.Answers.{answered, departure}
+use Rattle.link.specs.declared.Arrival.{Arrival}
+use Rattle.link.specs.Arrival.{arrivalLeaves, Arrives}
+use Rattle.link.specs.Send.{sendLeaves, Sends}
+use Rattle.link.specs.declared.Departure.{Departure}
 use Rattle.speed.specs.declared.Event.{Event}
 use Rattle.speed.specs.Turns.{callsLeft}
 use Rattle.lent.proofs.Lends.{lval, Known}
@@ -59,10 +58,10 @@ use Rattle.lent.proofs.Returns.{returned}
 use Rattle.lent.proofs.Loans.{loan}
 use Rattle.state.proofs.Link as L
 use Rattle.state.proofs.Link.Laws as L′
-use Rattle.checks.proofs.Verdict as N
-use Rattle.checks.proofs.Verdict.Laws as N′
-use Rattle.lent.proofs.Departed as D
-use Rattle.lent.proofs.Departed.Laws as D′
+use Rattle.link.proofs.Arrival as N
+use Rattle.link.proofs.Arrival.Laws as N′
+use Rattle.link.proofs.Departure as D
+use Rattle.link.proofs.Departure.Laws as D′
 use Rattle.speed.proofs.Event as Ev
 use Rattle.speed.proofs.Event.Laws as Ev′
 use Rattle.lent.proofs.AskArrive as ask-arrive
@@ -172,17 +171,17 @@ module _ {M : Type 1} (𝓤 : URA M) (H : Heap 𝓤) (A : Atoms 𝓤) (at-mem : 
 
 module _ {M : Type 1} (𝓤 : URA M) (H : Heap 𝓤) (A : Atoms 𝓤) (W : Given 𝓤 H A) (at-mem : Memory → SProp 𝓤) (run : Routine → Fun 𝓤) where
   -- ---- the functions that count an answer: what each asks, of plain facts alone
-  abbrev to-arrival : ℕ → Verdict → Val → HearsArrival 𝓤 H A at-mem run .Ghost
+  abbrev to-arrival : ℕ → Arrival → Val → HearsArrival 𝓤 H A at-mem run .Ghost
   to-arrival k r v = ((tt, tt, tt, (k, (r, tt)), (vint w64 k ∷ [], (v ∷ [], tt))), tt)
 
-  goes-arrival : (k : ℕ) (r : Verdict) (v : Val) → k < 2 ^ 64 → Is N.the-row r (v ∷ []) → ent 𝓤 (emp 𝓤) (HearsArrival 𝓤 H A at-mem run .pre (to-arrival k r v))
-  goes-arrival k r v fits isr = qed W [] ∵ nothing ! $ owned ! N.the-row (Is N.the-row) (EL.makes N.the-type N′.the-plain 𝓤 H A) r (v ∷ []) isr $ fjoin ! $
+  goes-arrival : (k : ℕ) (r : Arrival) (v : Val) → k < 2 ^ 64 → Is N.the-row r (v ∷ []) → ent 𝓤 (emp 𝓤) (HearsArrival 𝓤 H A at-mem run .pre (to-arrival k r v))
+  goes-arrival k r v fits isr = qed W [] ∵ nothing ! $ owned ! N.the-row (Is N.the-row) (LL.makes N.the-type N′.the-plain 𝓤 H A) r (v ∷ []) isr $ fjoin ! $
       owned ! u64 (Is u64) (uint-makes 𝓤 H A W w64) k (vint w64 k ∷ []) (refl, fits) $ fjoin ! $ nothing ! $ join ! $ frame ! $ done !
 
-  abbrev to-send : ℕ → Departed → Val → HearsSend 𝓤 H A at-mem run .Ghost
+  abbrev to-send : ℕ → Departure → Val → HearsSend 𝓤 H A at-mem run .Ghost
   to-send k d v = ((tt, tt, tt, (k, (d, tt)), (vint w64 k ∷ [], (v ∷ [], tt))), tt)
 
-  goes-send : (k : ℕ) (d : Departed) (v : Val) → k < 2 ^ 64 → Is D.the-row d (v ∷ []) → ent 𝓤 (emp 𝓤) (HearsSend 𝓤 H A at-mem run .pre (to-send k d v))
+  goes-send : (k : ℕ) (d : Departure) (v : Val) → k < 2 ^ 64 → Is D.the-row d (v ∷ []) → ent 𝓤 (emp 𝓤) (HearsSend 𝓤 H A at-mem run .pre (to-send k d v))
   goes-send k d v fits isd = qed W [] ∵ nothing ! $ owned ! D.the-row (Is D.the-row) (LL.makes D.the-type D′.the-plain 𝓤 H A) d (v ∷ []) isd $ fjoin ! $
       owned ! u64 (Is u64) (uint-makes 𝓤 H A W w64) k (vint w64 k ∷ []) (refl, fits) $ fjoin ! $ nothing ! $ join ! $ frame ! $ done !
 
@@ -313,12 +312,12 @@ module _ {M : Type 1} (𝓤 : URA M) (H : Heap 𝓤) (A : Atoms 𝓤) (W : Given
         let o = LL.owed Ev.the-type Ev′.the-laws (t .event) _ (t .is-event) in
         qed W (Inv t) ∵ exec ! C Λ En arriveᴹ (anyQ (afterSeq 𝓤 H (Wp 𝓤 H C Λ En againᴹ (Ends t)) (Ends t))) $
         assigns ! (addr ! (from ! (stop !))) (from ! (stop !)) (init ! 7 refl (tt, tt)) $
-        loan ! fm (ask-arrive.Lent 𝓤 H A at-mem run) (met .1 .0) N.the-row (λ r m. Arrives h i p (answered r m)) l₄ h (t .known)
+        loan ! fm (ask-arrive.Lent 𝓤 H A at-mem run) (met .1 .0) N.the-row (λ r m. Arrives h i p (arrivalLeaves r m)) l₄ h (t .known)
         (λ α δ. ask-arrive.to-lent 𝓤 H A W at-mem run l₄ α δ h i p (o .1 .1 .0 .1) (o .1 .1 .1 .0))
         (λ α δ. ask-arrive.goes 𝓤 H A W at-mem run l₄ α δ h i p (o .1 .1 .0 .1) (o .1 .1 .1 .0)) (λ α δ. ask-arrive.given-back 𝓤 H A W at-mem run l₄ α δ h i p (o .1 .1 .0 .1) (o .1 .1 .1 .0))
         (λ α δ. and-then ! (load ! (from ! (stop !)) (look ! 8 refl)) (and-then ! (load ! (from ! (fld ! refl (stop !))) (look-in ! 2 (sub ! 2 refl (whole !))))
         (and-then ! (load ! (from ! (fld ! refl (stop !))) (look-in ! 2 (sub ! 3 refl (whole !)))) (no-more !)))) (λ v r m e isr ism.
-        land ! (from ! (stop !)) (init ! 4 refl (EL.lawful N.the-type N′.the-laws 𝓤 H A W tt .typed r _ isr .0)) $
+        land ! (from ! (stop !)) (init ! 4 refl (LL.lawful N.the-type N′.the-laws 𝓤 H A W .typed r _ isr .0)) $
         use0 W (raw (HearsArrival 𝓤 H A at-mem run .pre (to-arrival 𝓤 H A W at-mem run (t .tally) r v))) (goes-arrival 𝓤 H A W at-mem run (t .tally) r v (t .fits) isr) $
         calls-at-last ! fm (HearsArrival 𝓤 H A at-mem run) (met .1 .1 .1 .0) (to-arrival 𝓤 H A W at-mem run (t .tally) r v)
         (and-then ! (load ! (from ! (stop !)) (look ! 4 refl)) (and-then ! (load ! (from ! (stop !)) (look ! 5 refl)) (no-more !))) (λ w.
@@ -332,7 +331,7 @@ module _ {M : Type 1} (𝓤 : URA M) (H : Heap 𝓤) (A : Atoms 𝓤) (W : Given
         let h = t .link in
         qed W (Inv t) ∵ exec ! C Λ En sendᴹ (anyQ (afterSeq 𝓤 H (Wp 𝓤 H C Λ En againᴹ (Ends t)) (Ends t))) $
         assigns ! (addr ! (from ! (stop !))) (from ! (stop !)) (init ! 8 refl (tt, tt)) $
-        loan ! fm (ask-send.Lent 𝓤 H A at-mem run) (met .1 .1 .0) D.the-row (λ d m. Sends h (departure d m)) l₄ h (t .known)
+        loan ! fm (ask-send.Lent 𝓤 H A at-mem run) (met .1 .1 .0) D.the-row (λ d m. Sends h (sendLeaves d m)) l₄ h (t .known)
         (λ α δ. ask-send.to-lent 𝓤 H A W at-mem run l₄ α δ h) (λ α δ. ask-send.goes 𝓤 H A W at-mem run l₄ α δ h) (λ α δ. ask-send.given-back 𝓤 H A W at-mem run l₄ α δ h)
         (λ α δ. and-then ! (load ! (from ! (stop !)) (look ! 9 refl)) (no-more !)) (λ v d m e isd ism.
         land ! (from ! (stop !)) (init ! 5 refl (LL.lawful D.the-type D′.the-laws 𝓤 H A W .typed d _ isd .0)) $

@@ -3,45 +3,77 @@ use mathlib.Core.Path.{_≡_, sym, ap, _∙_}
 use Prim.Native.Nat.{ℕ, _-_, _≤_}
 use native.Mathlib.Omega.{arith}
 use lib.ListN.{length-map}
+use Rattle.steps.specs.Parts.{lentLink}
 use Rattle.speed.specs.Openings.{openedTimes}
-use Rattle.speed.proofs.Steps.{Opened, opened-none, opened-more}
+use Rattle.speed.proofs.Steps.{Opened, opened-apart, opened-parts, opened-more}
+use borrow.Author.Needs.{needs}
 use Rattle.speed.proofs.opening.open_times.Statement.{statement}
 use Rattle.speed.proofs.opening.open_times.Tie as tie
 
 abbrev Inv-loop : tie.InvT-loop
-Inv-loop times link₀ n₀ link n = (n ≤ times) × Opened link₀ n link
+Inv-loop link times tree held balance₀ residual₀ active₀ place₀ n₀ balance residual active place n =
+    (n ≤ times) × Opened link n (lentLink (link .tree) (link .size) active place balance residual (link .start) (link .held) (link .lengths) (link .tags))
 
 abbrev μ-loop : tie.MeasureT-loop
-μ-loop times link₀ n₀ link n = times - n
+μ-loop link times tree held balance₀ residual₀ active₀ place₀ n₀ balance residual active place n = times - n
+
+balances-requires : tie.Need-balances-requires Inv-loop μ-loop
+balances-requires c κs = search needs
+
+residuals-requires : tie.Need-residuals-requires Inv-loop μ-loop
+residuals-requires c κs = search needs
 
 loop-holds : tie.Need-loop-holds Inv-loop μ-loop
 loop-holds c =
-    let l = c .args .link in
-    (omega arith, opened-none l (c .pre) (sym (length-map (l .accounts) _) ∙ c .good .0 .1 .1 .1 .1 .1 .1 .0 .1 .0 .1))
+    let b = c .before in
+    let st = b .before .before .before .before in
+    let l = st .args .link in
+    (omega arith, opened-apart l (st .pre) (sym (length-map (l .accounts) _) ∙ st .good .0 .1 .1 .1 .1 .1 .1 .0 .1 .0 .1) _ _ (b .balances .ensures) (c .residuals .ensures))
 
-open-round-requires : tie.Need-open-round-requires Inv-loop μ-loop
-open-round-requires c κs = c .before .loop .inv .1 .sound
+open-next-requires : tie.Need-open-next-requires Inv-loop μ-loop
+open-next-requires c κs =
+    let h = c .before .before .before .before in
+    (_, opened-parts _ _ _ (h .loop .inv .1))
 
 add-n : tie.Need-add-n Inv-loop μ-loop
-add-n c = omega (arith, c .before .loop-test .taken)
+add-n c = omega (arith, c .before .before .before .before .loop-test .taken)
 
 loop-less : tie.Need-loop-less Inv-loop μ-loop
-loop-less c = omega (arith, c .before .loop-test .taken)
+loop-less c = omega (arith, c .before .before .before .before .loop-test .taken)
 
 loop-again : tie.Need-loop-again Inv-loop μ-loop
 loop-again c =
-    let h = c .before .before in (
-      omega (arith, c .before .loop-test .taken),
-      opened-more (h .before .args .link) (h .loop .link) (h .loop .n) (c .open-round .result) (h .loop .inv .1) (c .open-round .ensures),
+    let g = c .before .before .before .before in
+    let h = g .before in (
+      omega (arith, g .loop-test .taken),
+      opened-more _ _ (h .loop .n) _ (h .loop .inv .1) (c .open-next .ensures _ (opened-parts _ _ _ (h .loop .inv .1))),
     )
+
+zipped-requires : tie.Need-zipped-requires Inv-loop μ-loop
+zipped-requires c κs =
+    let h = c .before .before .before in
+    h .loop .inv .1 .many
 
 returns : tie.Need-returns Inv-loop μ-loop
 returns c =
-    let h = c .before in
-    let e : h .loop .n ≡ h .before .args .times = omega (arith, c .loop-test .left, h .loop .inv .0) in
-    h .loop .inv .1 .same ∙ ap (λ (n : ℕ). openedTimes n (h .before .args .link)) e
+    let g = c .before .before .before in
+    let h = g .before in
+    let l = h .before .before .before .before .before .before .args .link in
+    let e : h .loop .n ≡ h .before .before .before .before .before .before .args .times = omega (arith, g .loop-test .left, h .loop .inv .0) in
+    rw (c .zipped .ensures) (h .loop .inv .1 .same ∙ ap (λ (n : ℕ). openedTimes n l) e)
 
 pub open-times-spec : {M : Type 1} → statement M
 open-times-spec =
     tie.close
-    (tie.spec Inv-loop μ-loop loop-holds open-round-requires add-n loop-less loop-again returns)
+    (tie.spec
+    Inv-loop
+    μ-loop
+    balances-requires
+    residuals-requires
+    loop-holds
+    open-next-requires
+    add-n
+    loop-less
+    loop-again
+    zipped-requires
+    returns)

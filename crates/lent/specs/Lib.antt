@@ -1,2 +1,0 @@
--- The calls on a lent link.
-pub mod Answers

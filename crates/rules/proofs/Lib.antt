@@ -1,0 +1,25 @@
+-- The laws of the rules of sending.
+pub mod Sums
+pub mod Shares
+pub mod Waiting
+pub mod Searches
+pub mod Searching
+pub mod Visits
+pub mod DeepTree
+pub mod Stores
+pub mod GivenUp
+pub mod TurnedOff
+pub mod Sender
+pub mod SentBooks
+pub mod Sent
+pub mod ByParent
+pub mod Taken
+pub mod Opened
+pub mod Closing
+pub mod Gains
+pub mod Rounds
+pub mod Within
+pub mod Fitting
+pub mod Meanings
+pub mod OnTheWay
+pub mod Traces

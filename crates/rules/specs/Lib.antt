@@ -1,0 +1,9 @@
+-- The rules of document 01, "Sending", over what a state means, and what their laws are stated with.
+pub mod Active
+pub mod Opening
+pub mod Sending
+pub mod After
+pub mod Wide
+pub mod Waits
+pub mod Within
+pub mod Steps

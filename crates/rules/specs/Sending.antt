@@ -1,0 +1,144 @@
+-- A send on a sound state (document 01, "Sending", steps 1 and 2, and the whole). Demand 2.
+use mathlib.Core.Bool.{Bool, true, false, cond, _&&_}
+use mathlib.Core.List.{List, [], _∷_, _++_}
+use Prim.Native.Nat.{ℕ, zero, suc, _+_, _-_}
+use lib.Dec.{eqb, leb, ltb}
+use lib.ListN.{length, getD, set, drop}
+use Rattle.sets.specs.Set.{has, without}
+use Rattle.units.specs.Cost.{costOf}
+use Rattle.tree.specs.declared.Tree.{Tree}
+use Rattle.tree.specs.Class.{parentOf, isLeaf}
+use Rattle.tree.specs.Sum.{someTo}
+use Rattle.state.specs.declared.Account.{Account}
+use Rattle.state.specs.declared.Packet.{Packet}
+use Rattle.state.specs.Account.{accountOf, balanceOf, heldBy, sentFrom, gained, returned, received}
+use Rattle.state.specs.Queue.{noPacket}
+use Rattle.state.specs.State.{State, queueAt}
+use Rattle.rules.specs.Active.{activeChild, roundActive}
+use Rattle.rules.specs.Opening.{Kind, nextKind, quota, opened}
+
+-- the first packet of class i
+abbrev pub firstOf : State → ℕ → Packet
+firstOf s i = getD (queueAt s i) 0 noPacket
+
+-- class i is an active leaf whose balance covers its first packet
+unfoldable pub ready : State → ℕ → Bool
+ready s i = has (s .active) i && isLeaf (s .tree) i && leb (costOf (firstOf s i .length)) (balanceOf (s .accounts) i)
+
+-- the first of the n numbers from p on for which f holds, or the number after them
+unfoldable pub firstFrom : (ℕ → Bool) → ℕ → ℕ → ℕ
+firstFrom f zero p = p
+firstFrom f (suc n) p = elim (f p) [ true ↦ p | false ↦ firstFrom f n (suc p) ]
+
+-- step 1: the lowest-numbered active leaf not below the place whose balance covers its first packet; 64 where the round has closed
+unfoldable pub nextLeaf : State → ℕ
+nextLeaf s = firstFrom (ready s) (64 - s .place) (s .place)
+
+-- class i is an active leaf
+unfoldable pub activeLeaf : State → ℕ → Bool
+activeLeaf s i = has (s .active) i && isLeaf (s .tree) i
+
+-- its balance covers its first packet
+unfoldable pub covers : State → ℕ → Bool
+covers s i = leb (costOf (firstOf s i .length)) (balanceOf (s .accounts) i)
+
+-- the same step as document 01 tells it, visit by visit from a place on: find the lowest-numbered active leaf not below the place. If its balance covers its
+-- first packet, it sends. Otherwise the place becomes the leaf plus 1 and the search goes on. n is as many visits as there can be (`visits-next`).
+unfoldable pub visits : ℕ → State → ℕ → ℕ
+visits zero s place = 64
+visits (suc n) s place =
+    let i = firstFrom (activeLeaf s) (64 - place) place in
+    elim (ltb i 64) [ true ↦ elim (covers s i) [ true ↦ i | false ↦ visits n s (i + 1) ] | false ↦ 64 ]
+
+-- what a send changes beside the queues and the place: who is active, and the accounts
+pub record Books : Type 0 where
+  pub active : ℕ
+  pub accounts : List Account
+
+-- class i turns inactive and gives what it holds to its parent's residual
+unfoldable pub givenUp : Tree → ℕ → Books → Books
+givenUp t i b =
+    let p = parentOf t i in
+    let held = heldBy (accountOf (b .accounts) i) in
+    let rest = set (b .accounts) i (returned (accountOf (b .accounts) i)) in
+    record { active = without (b .active) i; accounts = set rest p (received (accountOf rest p) held) }
+
+-- the root turns inactive with its last active child and keeps its account
+abbrev pub rootOff : Books → Books
+rootOff b = record { active = without (b .active) 0; accounts = b .accounts }
+
+-- step 2: a class turns inactive, and so does each class above that has no active child left; n is as many steps up as there can be
+unfoldable pub turnsOff : ℕ → Tree → ℕ → Books → Books
+turnsOff zero t i b = b
+turnsOff (suc n) t i b =
+    let p = parentOf t i in
+    let after = givenUp t i b in
+    elim (someTo (activeChild t (after .active) p) (t .count)) [
+      | true ↦ after
+      | false ↦ elim (eqb p 0) [ true ↦ rootOff after | false ↦ turnsOff n t p after ]
+    ]
+
+-- leaf i loses what a packet costs, the root's balance gains it
+abbrev pub paidBy : List Account → ℕ → ℕ → List Account
+paidBy accounts i cost =
+    let less = set accounts i (sentFrom (accountOf accounts i) cost) in
+    set less 0 (gained (accountOf less 0) cost)
+
+-- it pays for its first packet
+unfoldable pub paid : State → ℕ → List Account
+paid s i = paidBy (s .accounts) i (costOf (firstOf s i .length))
+
+-- the books when leaf i has sent its first packet: if that was its last, the leaf turns inactive at once
+unfoldable pub booksAfter : State → ℕ → Books
+booksAfter s i =
+    let b : Books = record { active = s .active; accounts = paid s i } in
+    cond (leb (length (queueAt s i)) 1) (turnsOff 63 (s .tree) i b) b
+
+-- leaf i sends its first packet, and the place becomes that leaf
+unfoldable pub sentState : State → ℕ → State
+sentState s i =
+    let b = booksAfter s i in
+    record {
+      tree = s .tree;
+      size = s .size;
+      active = b .active;
+      place = i;
+      accounts = b .accounts;
+      queues = set (s .queues) i (drop 1 (queueAt s i));
+    }
+
+-- a round that closed and the one that opened in its place
+pub record Turn : Type 0 where
+  pub closed : List Account
+  pub kind : Kind
+  pub quotas : ℕ → ℕ
+  pub after : List Account
+
+unfoldable pub turnOf : State → Turn
+turnOf s = record {
+  closed = s .accounts;
+  kind = nextKind s;
+  quotas = quota (nextKind s) (s .tree) (roundActive s) (s .accounts);
+  after = opened s .accounts;
+}
+
+-- the trace of a send: the rounds closed and opened in the call, then the packet
+pub record Trace : Type 0 where
+  pub turns : List Turn
+  pub class : ℕ
+  pub packet : Packet
+  pub state : State
+
+-- a leaf sends, or the round has closed and a new one is opened in the same call; n is more openings than there can be
+unfoldable pub sends : ℕ → List Turn → State → Trace
+sends zero turns s = record { turns = turns; class = nextLeaf s; packet = firstOf s (nextLeaf s); state = sentState s (nextLeaf s) }
+sends (suc n) turns s =
+    let i = nextLeaf s in
+    elim (ltb i 64) [
+      | true ↦ record { turns = turns; class = i; packet = firstOf s i; state = sentState s i }
+      | false ↦ sends n (turns ++ (turnOf s ∷ [])) (opened s)
+    ]
+
+-- the trace of a whole send
+unfoldable pub traceOf : State → Trace
+traceOf s = sends 64 [] s

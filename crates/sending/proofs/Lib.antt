@@ -1,4 +1,0 @@
-pub mod Fitting
-pub mod Meanings
-pub mod OnTheWay
-pub mod Traces

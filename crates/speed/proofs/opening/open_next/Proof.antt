@@ -1,0 +1,29 @@
+-- `speed::opening::open_next` meets its contract.
+use mathlib.Core.Path.{_∙_}
+use Rattle.rules.proofs.Waiting.{active-meaning}
+use Rattle.steps.proofs.Rounding.{parts-can, parts-opened}
+use Rattle.speed.proofs.opening.open_next.Statement.{statement}
+use Rattle.speed.proofs.opening.open_next.Tie as tie
+
+round-active-requires : tie.Need-round-active-requires
+round-active-requires c κs = c .pre .1 .sound .state .fits .tree
+
+weight-sums-requires : tie.Need-weight-sums-requires
+weight-sums-requires c κs = c .before .pre .1 .sound .state .fits .tree
+
+open-round-requires : tie.Need-open-round-requires
+open-round-requires c κs =
+    let w = c .before .before in
+    let a = w .before in
+    let s = a .before .pre .1 in
+    (parts-can _ _ s _ (a .round-active .ensures ∙ active-meaning _ (s .sound .state .fits .tree)), w .weight-sums .ensures)
+
+returns : tie.Need-returns
+returns c =
+    let a = c .before .before .before .before in
+    λ k s. parts-opened _ _ s _ _ _ (a .round-active .ensures ∙ active-meaning _ (s .sound .state .fits .tree)) (c .open-round .ensures)
+
+pub open-next-spec : {M : Type 1} → statement M
+open-next-spec =
+    tie.close
+    (tie.spec round-active-requires weight-sums-requires open-round-requires returns)

@@ -1,0 +1,85 @@
+-- A packet goes, over the parts of a link.
+use mathlib.Core.Bool.{true}
+use mathlib.Core.List.{List}
+use mathlib.Core.Path.{_≡_, refl, sym, ap, subst, _∙_}
+use Prim.Native.Nat.{ℕ, _≤_, _<_}
+use native.Mathlib.Omega.{arith}
+use lib.ListN.{length, getD}
+use Rattle.units.specs.declared.Bytes.{Bytes}
+use Rattle.units.specs.Cost.{costOf}
+use Rattle.tree.specs.declared.Tree.{Tree}
+use Rattle.tree.specs.Class.{isClass}
+use Rattle.state.specs.declared.Account.{Account}
+use Rattle.state.specs.declared.Link.{Link}
+use Rattle.state.specs.declared.Packet.{Packet}
+use Rattle.state.specs.Account.{balanceOf}
+use Rattle.state.specs.Queue.{packetAt, takenFirst}
+use Rattle.state.specs.State.{meaning}
+use Rattle.rules.specs.Sending.{Books}
+use Rattle.rules.specs.Sending.{firstOf, paidBy, booksAfter, sentState, turnsOff}
+use Rattle.rules.specs.Steps.{Fit}
+use Rattle.rules.specs.After.{sentLink}
+use Rattle.rules.proofs.Fitting.{fit-paid}
+use Rattle.rules.proofs.Meanings.{start-low, sound-fit, link-sender, sender-holds, first-cost, paid-means, books-more, books-last}
+use Rattle.steps.specs.Parts.{zipAccounts, lentLink, queued, booksOf, Grown, GoesNext}
+
+-- the link after, from the books and the queues after
+sent-by : (l : Link) (i : ℕ) (b : Books) (start held : List ℕ) → b ≡ booksAfter (meaning l) i
+    → ((k : Link) → queued k start held (l .lengths) (l .tags) ≡ takenFirst (queued k (l .start) (l .held) (l .lengths) (l .tags)) i)
+    → record { tree = l .tree; size = l .size; active = b .active; place = i; accounts = b .accounts; start = start; held = held; lengths = l .lengths; tags = l .tags } ≡ sentLink l i
+unfolding sentState
+sent-by l i b start held e q =
+    q (record { tree = l .tree; size = l .size; active = b .active; place = i; accounts = b .accounts; start = start; held = held; lengths = l .lengths; tags = l .tags })
+    ∙ rw e refl
+
+module _
+    {t : Tree} {size : Bytes} {place i active count : ℕ} {parent balance residual start held lengths tags : List ℕ}
+    (s : GoesNext t size place i active count parent balance residual start held lengths tags) where
+  abbrev whole : Link
+  whole = lentLink t size active place balance residual start held lengths tags
+
+  -- what the steps ask
+  pub goes-first : (i < 64) × (getD start i 0 < 32)
+  goes-first = (s .next .found, start-low whole i (s .next .sound) (s .next .found))
+
+  pub goes-takes : (i < 64) × (getD start i 0 < 32) × (1 ≤ getD held i 0)
+  goes-takes = (s .next .found, goes-first .1, sender-holds whole i (s .next))
+
+  grown : Grown t count parent
+  grown = record { rules = s .next .sound .state .fits .tree; many = s .many; parents = s .parents }
+
+  class : isClass t i ≡ true
+  class = link-sender whole i (s .next) .class
+
+  -- p is its first packet, by what the step that reads it ensures
+  module _ {p : Packet} {cost : ℕ} (e : (l : Link) (h : List ℕ) → p ≡ packetAt (queued l start h lengths tags) i 0) (k : cost ≡ costOf (p .length)) where
+    costs : cost ≡ costOf (firstOf (meaning whole) i .length)
+    costs = first-cost whole i p cost (s .next) (e whole held) k
+
+    pub goes-pays : Fit (zipAccounts balance residual) × (i < 64) × (cost ≤ balanceOf (zipAccounts balance residual) i)
+    goes-pays =
+        (sound-fit whole (s .wide) (s .next .sound), s .next .found, omega (arith, costs, link-sender whole i (s .next) .covers))
+
+    module _ (b r : List ℕ) (y : zipAccounts b r ≡ paidBy (zipAccounts balance residual) i cost) where
+      pub goes-off : ((u : Tree) × Grown u count parent × (isClass u i ≡ true)) × Fit (zipAccounts b r)
+      goes-off = (
+        (t, grown, class),
+        subst Fit (sym y) (fit-paid (zipAccounts balance residual) i cost (goes-pays .0) (goes-pays .1) (goes-pays .2)),
+      )
+
+      module _ {start′ held′ : List ℕ} (q : (l : Link) → queued l start′ held′ lengths tags ≡ takenFirst (queued l start held lengths tags) i) where
+        -- the link after a packet that was not the last, and after one that was
+        pub goes-more : 1 < getD held i 0 → lentLink t size active i b r start′ held′ lengths tags ≡ sentLink whole i
+        goes-more m =
+            sent-by whole i (booksOf active b r) start′ held′
+            (ap (λ (xs : List Account). record { active = active; accounts = xs }) (y ∙ paid-means whole i cost costs)
+            ∙ sym (books-more whole i (s .next .found) m)) q
+
+        pub goes-last : getD held i 0 ≤ 1 → (a : ℕ) (b′ r′ : List ℕ)
+            → ((u : Tree) → Grown u count parent → isClass u i ≡ true → booksOf a b′ r′ ≡ turnsOff 63 u i (booksOf active b r))
+            → lentLink t size a i b′ r′ start′ held′ lengths tags ≡ sentLink whole i
+        goes-last m a b′ r′ off =
+            sent-by whole i (booksOf a b′ r′) start′ held′
+            (off t grown class
+            ∙ ap (λ (xs : List Account). turnsOff 63 t i (record { active = active; accounts = xs })) (y ∙ paid-means whole i cost costs)
+            ∙ sym (books-last whole i (s .next .found) m)) q

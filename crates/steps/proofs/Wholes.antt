@@ -1,0 +1,73 @@
+-- The parts of a link taken apart, lent, and put together again.
+use mathlib.Core.Bool.{Bool, true, false}
+use mathlib.Core.List.{List, []}
+use mathlib.Core.Path.{_≡_, sym, ap, ap₂, subst, _∙_}
+use Prim.Native.Nat.{ℕ}
+use lib.ListN.{length}
+use Rattle.units.specs.declared.Bytes.{Bytes}
+use Rattle.tree.specs.declared.Tree.{Tree}
+use Rattle.state.specs.declared.Account.{Account}
+use Rattle.state.specs.declared.Link.{Link}
+use Rattle.state.specs.Account.{balanceOf, residualOf}
+use Rattle.state.specs.Queue.{table}
+use Rattle.state.specs.State.{State, meaning, linkOf}
+use Rattle.sound.specs.Sound.{Sound, SoundLink}
+use Rattle.rules.specs.Active.{someWaits}
+use Rattle.rules.specs.Sending.{Trace, traceOf}
+use Rattle.rules.specs.Waits.{Waits}
+use Rattle.rules.specs.Wide.{Wide}
+use Rattle.rules.proofs.Rounds.{two-rounds}
+use Rattle.rules.proofs.Sent.{sent-wide}
+use Rattle.rules.specs.After.{Sent}
+use Rattle.rules.proofs.Meanings.{meaning-wide, waits-leaf}
+use Rattle.steps.specs.declared.Went.{Went}
+use Rattle.steps.specs.Parts.{zipAccounts, lentLink}
+use Rattle.steps.specs.Rounds.{InParts, sentWhere, Departs, Moves}
+use Rattle.steps.proofs.Zips.{zip-parts}
+
+-- every class number keeps an account through a whole send
+trace-wide : (s : State) → Sound s → Wide s → Waits s → length (traceOf s .state .accounts) ≡ 64
+unfolding traceOf
+trace-wide s sound wide waits =
+    let g = two-rounds s sound wide waits in
+    ap (λ (x : Trace). length (x .state .accounts)) (g .gives 62 []) ∙ sent-wide (g .after) (g .sound) (g .wide) (g .leaf) .accounts
+
+sent-many : (l : Link) (some : Bool) → length (l .accounts) ≡ 64 → SoundLink l → some ≡ someWaits (meaning l) → length (sentWhere some l .link .accounts) ≡ 64
+sent-many l false many sound e = many
+sent-many l true many sound e = trace-wide (meaning l) (sound .state) (meaning-wide l many) (waits-leaf (meaning l) (sym e))
+
+pub departs-wide : {l : Link} {w : Went} (after : Link) → length (l .accounts) ≡ 64 → SoundLink l → Departs l w after → length (after .accounts) ≡ 64
+departs-wide {l} {w} after many sound d = ap (λ (s : Sent). length (s .link .accounts)) (d .sent) ∙ sent-many l (w .some) many sound (d .some)
+
+-- the accounts of a link are those of its balances and residuals
+pub in-lists : (accounts : List Account) → length accounts ≡ 64 → (b r : List ℕ) → b ≡ table (balanceOf accounts) 64 → r ≡ table (residualOf accounts) 64
+    → zipAccounts b r ≡ accounts
+in-lists accounts many b r x y = ap₂ zipAccounts x y ∙ zip-parts accounts many
+
+module _
+    {t : Tree} {size : Bytes} {active place : ℕ} {accounts : List Account} {start held lengths tags : List ℕ}
+    (many : length accounts ≡ 64) (sound : SoundLink (linkOf t size active place accounts start held lengths tags))
+    (b r : List ℕ) (x : b ≡ table (balanceOf accounts) 64) (y : r ≡ table (residualOf accounts) 64) where
+  apart : zipAccounts b r ≡ accounts
+  apart = in-lists accounts many b r x y
+
+  whole-is : lentLink t size active place b r start held lengths tags ≡ linkOf t size active place accounts start held lengths tags
+  whole-is = ap (λ (xs : List Account). linkOf t size active place xs start held lengths tags) apart
+
+  pub values-parts : InParts t size active place b r start held lengths tags
+  values-parts = record { sound = subst SoundLink (sym whole-is) sound; wide = ap length apart ∙ many }
+
+  -- after the send
+  module _ {w : Went} (after : Link) (d : Departs (lentLink t size active place b r start held lengths tags) w after) where
+    pub values-wide : length (after .accounts) ≡ 64
+    values-wide = departs-wide after (values-parts .wide) (values-parts .sound) d
+
+    pub values-moves : {xs : List Account} {s h : List ℕ} → after ≡ linkOf t size (w .active) (w .place) xs s h lengths tags
+        → Moves (linkOf t size active place accounts start held lengths tags)
+        (record { some = w .some; class = w .class; packet = w .packet; rounds = w .rounds; active = w .active; place = w .place; accounts = xs; start = s; held = h })
+    values-moves e = record {
+      some = d .some ∙ ap (λ (l : Link). someWaits (meaning l)) whole-is;
+      sent =
+          ap (λ (l : Link). record { class = w .class; packet = w .packet; rounds = w .rounds; link = l }) (sym e)
+          ∙ d .sent ∙ ap (sentWhere (w .some)) whole-is;
+    }

@@ -1,0 +1,49 @@
+-- `steps::send_values` meets its contract.
+use mathlib.Core.Path.{_≡_, refl}
+use lib.ListN.{length}
+use Rattle.steps.proofs.Wholes.{values-parts, values-wide, values-moves}
+use borrow.Author.Needs.{needs}
+use Rattle.steps.proofs.send_values.Statement.{statement}
+use Rattle.steps.proofs.send_values.Tie as tie
+
+-- there are as many accounts as class numbers
+many : (c : tie.Start) → length (c .args .accounts) ≡ 64
+many c = c .good .1 .1 .1 .0 .1 .0 .1
+
+balances-requires : tie.Need-balances-requires
+balances-requires c κs = search needs
+
+residuals-requires : tie.Need-residuals-requires
+residuals-requires c κs = search needs
+
+send-requires : tie.Need-send-requires
+send-requires c κs =
+    let z = c .before .before .before .before .before in
+    let y = z .before in
+    let st = y .before .before in
+    ((st .pre .0, values-parts (many st) (st .pre .1) _ _ (y .balances .ensures) (z .residuals .ensures)), refl)
+
+zipped-requires : tie.Need-zipped-requires
+zipped-requires c κs =
+    let g = c .before .before in
+    let z = g .before .before .before .before .before .before in
+    let y = z .before in
+    let st = y .before .before in
+    let parts = values-parts (many st) (st .pre .1) _ _ (y .balances .ensures) (z .residuals .ensures) in
+    values-wide (many st) (st .pre .1) _ _ (y .balances .ensures) (z .residuals .ensures) _ (g .send .ensures (st .pre .0) parts)
+
+returns : tie.Need-returns
+returns c =
+    let k = c .before in
+    let g = k .before .before .before in
+    let z = g .before .before .before .before .before .before in
+    let y = z .before in
+    let st = y .before .before in
+    λ size sound.
+    let parts = values-parts (many st) sound _ _ (y .balances .ensures) (z .residuals .ensures) in
+    values-moves (many st) sound _ _ (y .balances .ensures) (z .residuals .ensures) _ (g .send .ensures size parts)
+    (rw (k .zipped .ensures) refl)
+
+pub send-values-spec : {M : Type 1} → statement M
+send-values-spec =
+    tie.close (tie.spec balances-requires residuals-requires send-requires zipped-requires returns)

@@ -1,0 +1,72 @@
+-- What opening rounds and a whole send ask of the parts of a link, and what they give; no rule of its own.
+use mathlib.Core.Bool.{Bool, true, false}
+use mathlib.Core.List.{List}
+use mathlib.Core.Path.{_≡_}
+use Prim.Native.Nat.{ℕ}
+use lib.ListN.{length}
+use Rattle.units.specs.declared.Bytes.{Bytes}
+use Rattle.tree.specs.declared.Tree.{Tree}
+use Rattle.state.specs.declared.Link.{Link}
+use Rattle.state.specs.Queue.{noPacket}
+use Rattle.state.specs.State.{meaning, linkOf}
+use Rattle.sound.specs.Sound.{SoundLink}
+use Rattle.rules.specs.Active.{someWaits, roundActive}
+use Rattle.rules.specs.Sending.{nextLeaf, traceOf}
+use Rattle.rules.specs.Waits.{Waits}
+use Rattle.rules.specs.After.{Sent}
+use Rattle.rules.specs.After.{sentBy}
+use Rattle.steps.specs.declared.Gone.{Gone}
+use Rattle.steps.specs.declared.Went.{Went}
+use Rattle.steps.specs.declared.Moved.{Moved}
+use Rattle.steps.specs.Parts.{zipAccounts, lentLink}
+
+-- a sound link in parts
+pub record InParts (t : Tree) (size : Bytes) (active place : ℕ) (balance residual start held lengths tags : List ℕ) : Type 0 where
+  pub sound : SoundLink (lentLink t size active place balance residual start held lengths tags)
+  pub wide : length (zipAccounts balance residual) ≡ 64
+
+-- what an opening does not see of its link
+pub record Unseen : Type 0 where
+  pub size : Bytes
+  pub active : ℕ
+  pub place : ℕ
+  pub held : List ℕ
+  pub tags : List ℕ
+
+-- the link whose round has closed, and the one in which a round has opened
+abbrev pub closedLink : Tree → Unseen → List ℕ → List ℕ → List ℕ → List ℕ → Link
+closedLink t k balance residual start lengths = lentLink t (k .size) (k .active) (k .place) balance residual start (k .held) lengths (k .tags)
+
+abbrev pub openLink : Tree → Unseen → ℕ → List ℕ → List ℕ → List ℕ → List ℕ → Link
+openLink t k active balance residual start lengths = lentLink t (k .size) active 1 balance residual start (k .held) lengths (k .tags)
+
+-- its round has closed, a packet waits, and these are active in the next
+pub record Opens (t : Tree) (k : Unseen) (active : ℕ) (balance residual start lengths : List ℕ) : Type 0 where
+  pub parts : InParts t (k .size) (k .active) (k .place) balance residual start (k .held) lengths (k .tags)
+  pub closed : nextLeaf (meaning (closedLink t k balance residual start lengths)) ≡ 64
+  pub waits : Waits (meaning (closedLink t k balance residual start lengths))
+  pub taken : active ≡ roundActive (meaning (closedLink t k balance residual start lengths))
+
+-- a packet has gone, or none waits
+abbrev pub wentBy : ℕ → ℕ → Gone → Went
+wentBy class rounds gone = record { some = true; class = class; packet = gone .packet; rounds = rounds; active = gone .active; place = class }
+
+abbrev pub nothingGoes : ℕ → ℕ → Went
+nothingGoes active place = record { some = false; class = 0; packet = noPacket; rounds = 0; active = active; place = place }
+
+-- what a send on a sound link gives, where a packet waits and where none does
+abbrev pub sentWhere : Bool → Link → Sent
+sentWhere true l = sentBy l (traceOf (meaning l))
+sentWhere false l = record { class = 0; packet = noPacket; rounds = 0; link = l }
+
+pub record Departs (l : Link) (r : Went) (after : Link) : Type 0 where
+  pub some : r .some ≡ someWaits (meaning l)
+  pub sent : record { class = r .class; packet = r .packet; rounds = r .rounds; link = after } ≡ sentWhere (r .some) l
+
+-- and by value
+abbrev pub movedLink : Link → Moved → Link
+movedLink l r = linkOf (l .tree) (l .size) (r .active) (r .place) (r .accounts) (r .start) (r .held) (l .lengths) (l .tags)
+
+pub record Moves (l : Link) (r : Moved) : Type 0 where
+  pub some : r .some ≡ someWaits (meaning l)
+  pub sent : record { class = r .class; packet = r .packet; rounds = r .rounds; link = movedLink l r } ≡ sentWhere (r .some) l
