@@ -17,6 +17,47 @@ length-small n h = ap length (decimal-small n h)
 pub length-large : (n : ℕ) → 10 ≤ n → length (decimal n) ≡ length (decimal (n / 10)) + 1
 length-large n h = ap length (decimal-large n h) ∙ length-append (decimal (n / 10)) (digit (n % 10) ∷ [])
 
+-- two digits, and so on
+pub length-two : (n : ℕ) → 10 ≤ n → n < 100 → length (decimal n) ≡ 2
+length-two n l u = length-large n (omega arith) ∙ ap (λ (k : ℕ). k + 1) (length-small (n / 10) (omega arith))
+
+pub length-three : (n : ℕ) → 100 ≤ n → n < 1_000 → length (decimal n) ≡ 3
+length-three n l u = length-large n (omega arith) ∙ ap (λ (k : ℕ). k + 1) (length-two (n / 10) (omega arith) (omega arith))
+
+pub length-four : (n : ℕ) → 1_000 ≤ n → n < 10_000 → length (decimal n) ≡ 4
+length-four n l u = length-large n (omega arith) ∙ ap (λ (k : ℕ). k + 1) (length-three (n / 10) (omega arith) (omega arith))
+
+pub length-five : (n : ℕ) → 10_000 ≤ n → n < 100_000 → length (decimal n) ≡ 5
+length-five n l u = length-large n (omega arith) ∙ ap (λ (k : ℕ). k + 1) (length-four (n / 10) (omega arith) (omega arith))
+
+pub length-six : (n : ℕ) → 100_000 ≤ n → n < 1_000_000 → length (decimal n) ≡ 6
+length-six n l u = length-large n (omega arith) ∙ ap (λ (k : ℕ). k + 1) (length-five (n / 10) (omega arith) (omega arith))
+
+pub length-seven : (n : ℕ) → 1_000_000 ≤ n → n < 10_000_000 → length (decimal n) ≡ 7
+length-seven n l u = length-large n (omega arith) ∙ ap (λ (k : ℕ). k + 1) (length-six (n / 10) (omega arith) (omega arith))
+
+pub length-eight : (n : ℕ) → 10_000_000 ≤ n → n < 100_000_000 → length (decimal n) ≡ 8
+length-eight n l u = length-large n (omega arith) ∙ ap (λ (k : ℕ). k + 1) (length-seven (n / 10) (omega arith) (omega arith))
+
+-- and eight more than the hundred-millionth has
+length-by-four : (n : ℕ) → 10_000 ≤ n → length (decimal n) ≡ length (decimal (n / 10_000)) + 4
+length-by-four n l =
+    let e : n / 10 / 10 / 10 / 10 ≡ n / 10_000 = omega arith in
+    let same = ap (λ (k : ℕ). length (decimal k)) e in
+    omega (
+      arith,
+      length-large n (omega arith),
+      length-large (n / 10) (omega arith),
+      length-large (n / 10 / 10) (omega arith),
+      length-large (n / 10 / 10 / 10) (omega arith),
+      same,
+    )
+
+pub length-by-eight : (n : ℕ) → 100_000_000 ≤ n → length (decimal n) ≡ length (decimal (n / 100_000_000)) + 8
+length-by-eight n l =
+    let e : n / 10_000 / 10_000 ≡ n / 100_000_000 = omega arith in
+    omega (arith, length-by-four n (omega arith), length-by-four (n / 10_000) (omega arith), ap (λ (k : ℕ). length (decimal k)) e)
+
 -- the digits of the rest are still to come before those laid; the next one goes to place i
 pub record Spelling (n start : ℕ) (before : List ℕ) (rest i : ℕ) (now : List ℕ) : Type 0 where
   pub text : List ℕ

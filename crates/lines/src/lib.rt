@@ -1,7 +1,7 @@
 // The lines that a program prints, and a line laid into a lent buffer. `lay` is an entry for callers outside and asks nothing; `lay_at` asks for room.
 // The bytes are those of document 01, "A whole run", and of document 02, E13.
 ghost use mathlib.Core.Path.{_≡_};
-ghost use Prim.Native.Nat.{_+_, _-_, _*_, _≤_};
+ghost use Prim.Native.Nat.{_<_, _+_, _-_, _*_, _≤_};
 ghost use lib.ListN.{length};
 ghost use Rattle.io.specs.Counts.{Counts};
 ghost use Rattle.lines.specs.Decimal.{decimal};
@@ -44,17 +44,46 @@ fn put(text: &[u8], at: usize, out: &mut [u8]) -> usize
     at + i
 }
 
-// How many digits a number has.
+// How many digits a number below 100,000,000 has.
+fn few_digits(n: u64) -> usize
+    requires { ⌜ n < 100_000_000 ⌝ }
+    ensures { λ r. ⌜ r ≡ length (decimal n) ⌝ }
+{
+    if n < 10 {
+        return 1;
+    }
+    if n < 100 {
+        return 2;
+    }
+    if n < 1_000 {
+        return 3;
+    }
+    if n < 10_000 {
+        return 4;
+    }
+    if n < 100_000 {
+        return 5;
+    }
+    if n < 1_000_000 {
+        return 6;
+    }
+    if n < 10_000_000 {
+        return 7;
+    }
+    8
+}
+
+// How many digits a number has: eight at a time, and the rest.
 fn digits(n: u64) -> usize
     ensures { λ r. ⌜ r ≡ length (decimal n) ⌝ }
 {
     let mut rest = n;
-    let mut k: usize = 1;
-    while 10 <= rest {
-        rest /= 10;
-        k += 1;
+    let mut k: usize = 0;
+    while 100_000_000 <= rest {
+        rest /= 100_000_000;
+        k += 8;
     }
-    k
+    k + few_digits(rest)
 }
 
 // Lays the digits of a number, the last one first, so that they end before a place.
