@@ -389,3 +389,30 @@ pub fn waits(input: &[u8], from: usize) -> Vec<String> {
     }
     rows
 }
+
+#[cfg(test)]
+mod tests {
+    use super::*;
+
+    /// The listing's packets, in the order in which they go: D, w, the bound, and what the link sent until each had gone.
+    #[test]
+    fn waits_of_the_listing() {
+        let rows = [
+            "| 4 | 4 | 84 | 4 | (21 + 1) × 262 = 5764 | 84 |",
+            "| 1 | 2 | 84 | 1 | (84 + 1) × 262 = 22270 | 84 + 84 = 168 |",
+            "| 2 | 3 | 84 | 2 | (42 + 1) × 262 = 11266 | 84 + 84 + 84 = 252 |",
+            "| 3 | 3 | 84 + 84 = 168 | 2 | (84 + 1) × 262 = 22270 | 84 + 84 + 84 + 84 = 336 |",
+        ];
+        assert_eq!(waits(include_bytes!("tree_p.bin"), 1), rows);
+    }
+
+    /// The page docs/by-hand.md has each of these rows, and the steps of the listing, as they are computed.
+    #[test]
+    fn the_page() {
+        let page = include_str!("../docs/by-hand.md");
+        let listing = include_bytes!("tree_p.bin");
+        for line in waits(listing, 1).into_iter().chain(tables(listing, 1, 1)) {
+            assert!(page.contains(&line), "docs/by-hand.md lacks {line}");
+        }
+    }
+}

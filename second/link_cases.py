@@ -4,8 +4,8 @@
 #   second/link_cases.py            checks that both files are what the text packs to, and each line of the text what the model says
 #   second/link_cases.py --write    puts the model's lines into the text and packs it anew
 # It says what differs, by the names of the cases. Its status is 1 where something differs, 2 where the text cannot be read.
-# The model works documents 01 and 02 in plain whole numbers, and judges nothing by what the crates answer. It was written beside our definitions and
-# the program's source: a second computation, and not the independent reading, which is second/second.rs.
+# The model works the rules (R86 to R164) in plain whole numbers, and judges nothing by what the crates answer. It was written beside our
+# definitions and the program's source: a second computation, and not the independent reading, which is second/second.rs.
 import difflib
 import os
 import sys
@@ -76,7 +76,7 @@ class Link:
         return self.length[at], self.tag[at]
 
 
-# What a packet takes of the wire (document 02, E2): balances, Q and every comparison count charges, all else is bare lengths.
+# What a packet takes of the wire (R15 to R17): balances, Q and every comparison count charges, all else is bare lengths.
 def charge(length):
     return max(length + 4, 64) + 20
 

@@ -1,5 +1,5 @@
 //! The class tree, the plan reader, the refusals and the reading of standard input: what the programs that take a plan share.
-//! Written from the words of document 01 and of request E2 of document 02 only; each program uses a part of it.
+//! Written from the customer's words only, which it quotes (docs/rules.md: R4 to R67); each program uses a part of it.
 #![allow(dead_code)]
 
 use std::io::Read;
@@ -13,11 +13,11 @@ pub const MOST_WEIGHT: u64 = 1_000_000;
 pub const MOST_LONGEST: u64 = 9_216;
 /// "the program's input exceeds 65,536 bytes".
 pub const MOST_INPUT: usize = 65_536;
-/// E2: lengths come "without the frame check sequence. On Ethernet (IEEE 802.3) that adds 4 bytes".
+/// R14: lengths come "without the frame check sequence. On Ethernet (IEEE 802.3) that adds 4 bytes".
 pub const CHECK_SEQUENCE: u64 = 4;
-/// E2: "frames are padded to 64".
+/// R14: "frames are padded to 64".
 pub const LEAST_FRAME: u64 = 64;
-/// E2: "preamble, start delimiter and interframe gap take 20 more".
+/// R14: "preamble, start delimiter and interframe gap take 20 more".
 pub const AROUND_FRAME: u64 = 20;
 /// "Class 0 is the root".
 pub const ROOT: usize = 0;
@@ -25,12 +25,12 @@ pub const ROOT: usize = 0;
 // ---------------------------------------------------------------------------------------------
 // Arithmetic that ends the program on a contradiction instead of wrapping round.
 
-/// Adds two numbers; no sum in document 01 may overflow.
+/// Adds two numbers; no sum of the rules may overflow.
 pub fn add(a: u64, b: u64) -> u64 {
     a.checked_add(b).expect("a sum overflows")
 }
 
-/// Subtracts; no balance in document 01 may fall below 0.
+/// Subtracts; no balance of the rules may fall below 0.
 pub fn sub(a: u64, b: u64) -> u64 {
     a.checked_sub(b).expect("a balance would fall below 0")
 }
@@ -48,7 +48,7 @@ pub fn div(a: u64, b: u64) -> u64 {
 // ---------------------------------------------------------------------------------------------
 // What a packet costs.
 
-/// E2: "The charge is therefore the larger of length + 4 and 64, plus 20."
+/// R15: "The charge is therefore the larger of length + 4 and 64, plus 20."
 pub fn charge(length: u64) -> u64 {
     add(add(length, CHECK_SEQUENCE).max(LEAST_FRAME), AROUND_FRAME)
 }
@@ -71,7 +71,7 @@ pub fn refuse<T>(number: usize, place: usize) -> Result<T, Refusal> {
 // ---------------------------------------------------------------------------------------------
 // The class tree.
 
-/// The three sorts of class that document 01 tells apart.
+/// The three sorts of class that the rules tell apart (R21, R23).
 #[derive(Clone, Copy, PartialEq, Eq, Debug)]
 pub enum Sort {
     Root,
@@ -120,7 +120,7 @@ impl Tree {
         (1..self.classes.len()).filter(|&c| self.classes[c].parent == parent).collect()
     }
 
-    /// "The round size Q is the sum of all weights plus the sum of all leaves' longest packets"; E2: "Q adds the charge of
+    /// R38: "The round size Q is the sum of all weights plus the sum of all leaves' longest packets", and "Q adds the charge of
     /// each longest packet".
     pub fn round_size(&self) -> u64 {
         let mut size = 0;
@@ -310,4 +310,64 @@ pub fn read_input() -> std::io::Result<Vec<u8>> {
     let mut input = Vec::new();
     standard_input.take(MOST_INPUT as u64 + 1).read_to_end(&mut input)?;
     Ok(input)
+}
+
+// ---------------------------------------------------------------------------------------------
+// The reader of events, and trees that no plan gives; second.rs has the plans.
+
+#[cfg(test)]
+mod tests {
+    use super::*;
+
+    /// The number and the place of a refused event, how long the body of an arrival is, or which of the other two it is.
+    fn event(input: &[u8], first: usize) -> String {
+        match event_at(input, first) {
+            Ok(None) => "end".to_string(),
+            Ok(Some(Event::Arrival(body))) => format!("arrival {}", body.len()),
+            Ok(Some(Event::Send)) => "send".to_string(),
+            Err(refusal) => format!("{} at {}", refusal.number, refusal.place),
+        }
+    }
+
+    #[test]
+    fn events() {
+        let input = [17, 16, 4, 0, 10, 0, 0, 0, 4, 16, 4];
+        assert_eq!([0, 1, 9, 11].map(|first| event(&input, first)), ["send", "arrival 7", "1 at 9", "end"]);
+        for kind in (0..=255).filter(|kind| ![16, 17].contains(kind)) {
+            assert_eq!(event(&[17, kind], 1), "2 at 1");
+        }
+    }
+
+    #[test]
+    fn kinds_of_a_plan() {
+        for kind in (0..=255).filter(|kind| ![0, 1, 2].contains(kind)) {
+            assert_eq!(read_plan(&[kind]), refuse(2, 0));
+        }
+        assert_eq!(read_plan(&[1, 0, 0, 0, 0]), refuse(1, 0));
+        assert_eq!(big_endian(&[0, 15, 66, 64]), 1_000_000);
+    }
+
+    #[test]
+    fn trees_that_no_plan_gives() {
+        let leaf = Class { sort: Sort::Leaf, parent: 0, weight: 1, longest: 1 };
+        let breaks: [fn(&mut Tree); 6] = [
+            |t| t.classes[ROOT].weight = 1,
+            |t| t.classes[ROOT].longest = 1,
+            |t| t.classes[1].longest = 1,
+            |t| t.classes[2].parent = 2,
+            |t| t.classes[2].weight = 4,
+            |t| t.classes[2].sort = Sort::Inner,
+        ];
+        let mut tree = Tree::without_classes();
+        assert!(!obeys_plan_rules(&tree));
+        tree.classes.push(Class { sort: Sort::Inner, parent: 0, weight: 3, longest: 0 });
+        tree.classes.push(Class { parent: 1, ..leaf });
+        assert!(obeys_plan_rules(&tree));
+        assert_eq!(tree.round_size(), 3 + 1 + 84);
+        for broken in breaks {
+            let mut tree = tree.clone();
+            broken(&mut tree);
+            assert!(!obeys_plan_rules(&tree));
+        }
+    }
 }

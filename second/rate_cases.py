@@ -1,5 +1,5 @@
 #!/usr/bin/env python3
-# The expected lines of the written-down cases of the rates (document 02, E13), worked out from the request's text by exact whole numbers:
+# The expected lines of the written-down cases of the rates, worked out from the rules (R68 to R85) by exact whole numbers:
 #   second/rate_cases.py < crates/rate_cases/stdin > crates/rate_cases/stdout
 # F is not searched for by halving, as the code does.
 import sys

@@ -1,7 +1,7 @@
-//! The independent program for "Which rates will a plan give?", written from the words of request E13 only.
+//! The independent program for "Which rates will a plan give?", written from the customer's words only (R68 to R85, R174 to R184).
 //! Its words are the capacity in kbit/s and, for each leaf that asks for another rate, CLASS=REQUEST; the plan comes from standard input.
 //! It prints `rate` class request gets unallotted for each class, or `stop` number place; of bad words it says one line on standard error.
-//! It is slow and plain on purpose: F is found in exact fractions, and every sentence of E13 is then checked on what came out.
+//! It is slow and plain on purpose: F is found in exact fractions, and R70 to R85 are then checked one by one on what came out.
 //! Build: rustc -O --edition 2021 rates.rs; test: rustc -O --edition 2021 --test rates.rs -o rates_test
 
 #[path = "plan.rs"]
@@ -184,7 +184,7 @@ fn share_out(tree: &Tree, table: &[u64; NUMBERS], class: usize, answer: &mut Ans
 }
 
 // ---------------------------------------------------------------------------------------------
-// The check: every sentence of E13 on what came out. A sentence that does not hold ends the program.
+// The check: R70 to R85 one by one on what came out. A sentence that does not hold ends the program.
 
 /// What was met on the way; it has no part in the lines.
 #[derive(Default)]
@@ -440,7 +440,7 @@ mod tests {
         tree
     }
 
-    /// Tree P of document 01.
+    /// Tree P.
     fn tree_p() -> Tree {
         tree_of(&[(0, 3, false), (1, 1, true), (1, 2, true), (0, 4, true)])
     }

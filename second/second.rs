@@ -1,4 +1,5 @@
-//! The second, independent program for the class link, written from the words of document 01 and of request E2 of document 02 only.
+//! The second, independent program for the class link, written from the customer's words only: what it quotes, and what docs/rules.md says
+//! in sentences of its own (R4 to R67, R86 to R173, R185 to R195, R200 to R202).
 //! It reads a plan and events from standard input and prints the lines of "A whole run".
 //! It is slow and plain on purpose: every sum is scanned again, every call is followed by a full check.
 //! With words it prints a run worked step by step, for docs/by-hand.md (see by_hand.rs).
@@ -142,7 +143,7 @@ impl Link {
         self.numbers().any(|leaf| self.tree.is_leaf(leaf) && self.active[leaf] && self.is_above(class, leaf))
     }
 
-    /// Whether a leaf's balance covers its first packet; E2: "every comparison with a first packet" reads the charge.
+    /// Whether a leaf's balance covers its first packet; R16: "every comparison with a first packet" reads the charge.
     fn covers_first(&self, leaf: usize) -> bool {
         self.accounts[leaf].balance >= self.queues[leaf][0].charge()
     }
@@ -227,7 +228,7 @@ fn arrival(link: &mut Link, class: usize, length: u64, tag: u64) -> Result<(), R
     if !link.tree.is_leaf(class) {
         return refuse(12, class);
     }
-    // 13: "length 0 or above the leaf's longest"; E2: "Refusal 13 still reads lengths"
+    // 13: "length 0 or above the leaf's longest"; R17: "Refusal 13 still reads lengths"
     if length == 0 || length > link.tree.classes[class].longest {
         return refuse(13, class);
     }

@@ -205,7 +205,7 @@ fn shape_word(shape: Shape) -> &'static str {
 }
 
 // The bytes of a part at most.
-const PART: usize = 65_536;
+const PART: usize = 262_144;
 
 // A send with its arrival, on every recording.
 fn pairs(amount: &Amount) {

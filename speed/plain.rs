@@ -1,4 +1,4 @@
-// The yardstick: the same scheduler written plainly in Rust for speed, from documents 01 and 02 (E2's charge), with no check of soundness
+// The yardstick: the same scheduler written plainly in Rust for speed, from the rules (R15, R86 to R161), with no check of soundness
 // on a call. One struct of arrays. Sets of classes are 64-bit numbers: the leaves that a round has still to visit are kept as a set and
 // found by trailing zeros, a class turns off without a walk because each parent keeps the set of its children, and the leaves that hold a
 // packet are kept as a set too. The active set and its weight sums are worked out at an opening only where that last set has changed
@@ -57,7 +57,7 @@ enum Event {
     Send,
 }
 
-// What the wire carries for a packet (E2).
+// What the wire carries for a packet (R15).
 #[inline(always)]
 fn cost(length: u16) -> u64 {
     (length as u64 + 4).max(64) + 20
@@ -393,7 +393,7 @@ fn line<const N: usize, const M: usize>(line: &mut [u8; LINE], text: &[u8; N], n
     word(line, at, b"\n")
 }
 
-// The lines of a recording's events (document 01, "A whole run") into a buffer, from its start again where it has no room for one more;
+// The lines of a recording's events (R189 to R195) into a buffer, from its start again where it has no room for one more;
 // how many bytes they are. The recording is whole.
 #[inline(never)]
 pub fn text(input: &[u8], out: &mut [u8]) -> usize {

@@ -1,5 +1,5 @@
 // Recordings, made from a seed: a plan, arrivals that fill the queues, then so many times a send and an arrival to the class that sent.
-// They are input bytes of document 01. The plain scheduler says which class sends next, so every arrival goes where a place has just
+// They are input bytes (R40 to R67). The plain scheduler says which class sends next, so every arrival goes where a place has just
 // become free.
 use crate::plain::Plain;
 
@@ -156,7 +156,7 @@ pub fn recording(shape: Shape, weights: Weights, lengths: Lengths, deep: usize, 
     Recording { input, filling: deep * leaves.len(), pairs }
 }
 
-// The same recording for code from before the charge (E2), which charges bare lengths: each packet and each longest packet 24 bytes
+// The same recording for code from before the charge (R15), which charges bare lengths: each packet and each longest packet 24 bytes
 // longer, so that balances, Q and every comparison are the same. No packet may be shorter than 60 bytes or longer than 9,192.
 pub fn for_bare_lengths(input: &[u8]) -> Vec<u8> {
     let mut bytes = input.to_vec();

@@ -1,4 +1,4 @@
--- What was shared out class by class is the answer that the request asks for. Request E13.
+-- What was shared out class by class is the answer that the rules ask for (R71 to R85).
 use mathlib.Core.Bool.{Bool, true, not}
 use mathlib.Core.List.{List}
 use mathlib.Core.Path.{_≡_, refl, sym, ap, _∙_}

@@ -1,5 +1,5 @@
--- Laws of F: a smaller number fits where a larger one does; where a class's request is not met F exists, is the only one and at
--- most what the class has. Request E13.
+-- Laws of F (R73): a smaller number fits where a larger one does; where a class's request is not met F exists, is the only one and at
+-- most what the class has.
 use mathlib.Core.Bool.{Bool, true, false, cond, _&&_}
 use mathlib.Core.List.{List}
 use mathlib.Core.Path.{_≡_, refl}

@@ -1,4 +1,4 @@
--- Two answers to the same question are equal, whatever the tables of requests have at numbers that are no leaf's. Request E13.
+-- Two answers to the same question are equal, whatever the tables of requests have at numbers that are no leaf's (R69).
 use mathlib.Core.Bool.{Bool, true, false, cond, _&&_, not}
 use mathlib.Core.List.{List, [], _∷_}
 use mathlib.Core.Logic.{_⊎_, inl, inr}

@@ -1,5 +1,5 @@
--- Laws of what classes request: the request of the root or an inner class is what its children's add to, and one pass from the
--- highest class down finds it. Request E13.
+-- Laws of what classes request (R70): the request of the root or an inner class is what its children's add to, and one pass from the
+-- highest class down finds it.
 use mathlib.Core.Bool.{Bool, true, false, cond, _&&_}
 use mathlib.Core.List.{List}
 use mathlib.Core.Path.{_≡_, refl, sym, ap, _∙_}

@@ -1,4 +1,4 @@
--- Laws of sharing out class by class upward: one class more is settled, and those before it stay as they are. Request E13.
+-- Laws of sharing out class by class upward (R71 to R76): one class more is settled, and those before it stay as they are.
 use mathlib.Core.Bool.{Bool, true, false, cond}
 use mathlib.Core.List.{List}
 use mathlib.Core.Path.{_≡_, ap, _∙_}

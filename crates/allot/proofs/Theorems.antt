@@ -1,4 +1,4 @@
--- What the rates of a plan promise, from the definitions alone. Request E13.
+-- What the rates of a plan promise (R76 to R79), from the definitions alone.
 use mathlib.Core.Bool.{Bool, true, false, cond}
 use mathlib.Core.List.{List}
 use mathlib.Core.Path.{_≡_, refl}

@@ -1,4 +1,4 @@
--- Which rates a plan gives (document 02, E13): what classes request, how a class shares out what it has, and the answer.
+-- Which rates a plan gives (R68 to R85): what classes request, how a class shares out what it has, and the answer.
 pub mod Request
 pub mod Share
 pub mod Rates

@@ -1,4 +1,4 @@
--- What the inner functions of the crate ask and give. Request E13.
+-- What the inner functions of the crate ask and give; no rule of its own.
 use mathlib.Core.Bool.{true, false, cond}
 use mathlib.Core.List.{List}
 use mathlib.Core.Path.{_≡_}

@@ -1,5 +1,5 @@
-// Which rates a plan gives (document 02, E13): for a tree, a capacity and a request per leaf, what each class requests, what it gets,
-// and what stays unallotted at it. Serves request E13.
+// Which rates a plan gives (R68 to R85): for a tree, a capacity and a request per leaf, what each class requests, what it gets,
+// and what stays unallotted at it. The entry takes any of these (R196).
 // Requests are added up in one pass from the highest class down. Then, class by class from the root upward in number, a class whose
 // request is not met finds its F by halving between 0 and what it has plus 1: 30 probes at most, each over all classes.
 ghost use mathlib.Core.Path.{_≡_};

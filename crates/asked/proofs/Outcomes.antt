@@ -1,4 +1,4 @@
--- What the contract of the answer allows (document 02, E13): one answer; 10, the plan's number, then 20 and 21; of a refusal
+-- What the contract of the answer allows (R182 to R184): one answer; 10, the plan's number, then 20 and 21; of a refusal
 -- `stop` number place is the only line.
 use mathlib.Core.Bool.{not}
 use mathlib.Core.List.{List, [], _∷_}

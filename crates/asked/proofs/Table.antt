@@ -1,4 +1,4 @@
--- What the words ask (document 02, E13): a question is good exactly where every word is taken; class k requests what the last word that
+-- What the words ask (R176 to R181): a question is good exactly where every word is taken; class k requests what the last word that
 -- names it asks, and the capacity where no word does; a word for a class that is no leaf changes nothing.
 use mathlib.Core.Bool.{Bool, true, false, cond}
 use mathlib.Core.List.{List, [], _∷_}
@@ -148,7 +148,7 @@ pub question-good : (word : List ℕ) (words : List (List ℕ)) (n : ℕ) → nu
     → askedBy (word ∷ words) .good ≡ true
 question-good word words n e all = ap (λ (m : Number). heededAll (opened m) words .good) e ∙ taken-good words (opened (Is n)) refl all
 
--- a word for a class that is no leaf is taken and changes nothing
+-- a word for a class that is no leaf is taken and changes nothing (R180)
 pub no-leaf-word : (t : Tree) (capacity : ℕ) (asked : Asked) (class request : ℕ) (r s : Allotted) → isLeaf t class ≡ false
     → Rates t capacity (asked .requests) r
     → Rates t capacity (heeded asked (Asks class request) .requests) s

@@ -1,4 +1,4 @@
-// A planner's question and its answer (document 02, E13): the words, one by one, give a capacity and a table of requests; on the plan's bytes
+// A planner's question and its answer (R176 to R184): the words, one by one, give a capacity and a table of requests; on the plan's bytes
 // these give the rates. No function asks anything but `line`, whose class is a number of the table.
 ghost use mathlib.Core.Path.{_≡_};
 ghost use Prim.Native.Nat.{_<_};

@@ -1,4 +1,4 @@
--- What the parts of the box's loop say: the event at a place as the loop takes it, and the last line. Demands 1 and 2.
+-- What the parts of the box's loop say: the event at a place as the loop takes it. Demands 1 and 2.
 use mathlib.Core.Bool.{Bool, true, false, cond}
 use mathlib.Core.List.{List}
 use mathlib.Core.Path.{_≡_}
@@ -7,12 +7,8 @@ use lib.ListN.{length, drop}
 use Rattle.plan.specs.declared.EventRead.{EventRead}
 use Rattle.plan.specs.declared.EventRead.the-variants.{NoMore, Arrive, SendNext, Fault}
 use Rattle.plan.specs.Event.{usedOf, eventAt}
-use Rattle.state.specs.declared.Link.{Link}
 use Rattle.state.specs.Queue.{noPacket}
-use Rattle.state.specs.State.{meaning}
-use Rattle.lines.specs.declared.Line.{Line}
-use Rattle.lines.specs.declared.Line.the-variants.{End, Stop}
-use Rattle.run.specs.Event.{waitingIn, packetIn}
+use Rattle.run.specs.Event.{packetIn}
 use Rattle.box_loop.specs.declared.Event.{Event}
 
 -- an event that is no arrival: a call or none, and the place after it
@@ -41,10 +37,3 @@ left n e = cond (e .call) (suc (n - e .place)) 0
 pub record Comes (input : List ℕ) (place : ℕ) (e : Event) : Type 0 where
   pub is : e ≡ eventFor place (eventAt (drop place input) place)
   pub less : left (length input) e < suc (length input - place)
-
--- the last line: `stop` for a refused record, `end` with the packets still waiting where the input ends
-abbrev pub lastLine : EventRead → Link → Line
-lastLine (Fault n p) l = Stop n p
-lastLine NoMore l = End (waitingIn (meaning l))
-lastLine (Arrive a) l = End (waitingIn (meaning l))
-lastLine SendNext l = End (waitingIn (meaning l))

@@ -1,8 +1,9 @@
-// The box's loop: it keeps one link record and lends it to both calls. It reads what `linkrun` reads and prints the same lines (document 01, "A whole run").
-// Serves demands 1 and 2: the record goes through the whole run in one place. Two programs run it in the gate.
+// The box's loop: it keeps one link record and lends it to both calls. It reads what `linkrun` reads and prints the same lines (document
+// 01, "A whole run"). Serves demands 1 and 2: the record goes through the whole run in one place. `box_runs` runs it in the gate.
 ghost use mathlib.Core.Path.{_≡_};
 ghost use Rattle.plan.specs.declared.EventRead.the-variants.{NoMore};
-ghost use Rattle.box_loop.specs.Loop.{plainEvent, Comes, lastLine};
+ghost use Rattle.run.specs.Event.{lastLine};
+ghost use Rattle.box_loop.specs.Loop.{plainEvent, Comes};
 use libc::STDIN_FILENO;
 use lines::Line;
 use link::Arrival;
@@ -124,9 +125,14 @@ fn whole(input: &[u8]) {
     }
 }
 
+// A whole run of the next bytes of standard input, as many as there is room for.
+pub fn run_next(room: &mut [u8]) {
+    let n = io::read_full(STDIN_FILENO, room);
+    whole(&room[..n]);
+}
+
 // A whole run of standard input.
 pub fn run() {
-    let mut input = [0u8; checks::MOST_INPUT + 1];
-    let n = io::read_full(STDIN_FILENO, &mut input);
-    whole(&input[..n]);
+    let mut room = [0u8; checks::MOST_INPUT + 1];
+    run_next(&mut room);
 }

@@ -1,4 +1,4 @@
-// Refusals: the numbers of document 01, "Numbers a crew can act on", those of document 02, and the verdict of checks made in a fixed order.
+// Refusals: their numbers, which docs/refusals.md tells one by one, and the verdict of checks made in a fixed order (R4 to R7).
 // Serves demand 1: a refusal is a number and a place, for the first check that fails.
 ghost use mathlib.Core.Path.{_≡_};
 ghost use Rattle.checks.specs.Check.{numberOf, placeOf, firstBroken, inputChecks};

@@ -1,7 +1,7 @@
 -- The fields of a link record behind a reference, each in a cell of its own: what a walk reads, stores and lends. Every entry cites this. Demand 2.
 --     val-at, Fits, typed     the machine value of a field's value, that it is one, and that it has the field's type
 --     cell        a field's cell.        apart, together     the record's cell is its fields' cells, and back, at whatever values they then hold
---     known-parts, of-parts    what is known of a record is what is known of each field, and back.        shaped    so its lists have the lengths of its arrays
+--     known-parts, of-parts    what is known of a record is what is known of each field, and back.
 --     as-held     a field that is an array is handed on as `map` of the identity over its list, which is that list; accounts as their own records
 use Prim.Native.Nat.{ℕ, zero, _+_}
 use mathlib.Core.Path.{_≡_, refl, sym, _∙_}
@@ -35,7 +35,6 @@ use denote.Struct.At.{FieldAt, lawAt, valAt, IsAt, Are}
 use denote.Struct.Laws as LL
 use Rattle.state.specs.declared.Account.{Account}
 use Rattle.state.specs.declared.Link.{Link}
-use Rattle.state.specs.Queue.{Shaped}
 use Rattle.state.specs.State.{linkOf}
 use Rattle.tree.proofs.Tree as T
 use Rattle.tree.proofs.Tree.Laws as T′
@@ -59,18 +58,6 @@ Fits k x = IsAt (L.the-type .parts) L′.the-laws k x
 -- what is known of a record is what is known of each field
 abbrev pub parts-of : (h : Link) → Known h → Are (L.the-type .parts) L′.the-laws (L.struct .as-values h)
 parts-of h is = LL.owed L.the-type L′.the-laws h (lval h ∷ []) is
-
--- so its lists have the lengths of its arrays
-pub shaped : (h : Link) → Known h → Shaped h
-shaped h is =
-    let o = parts-of h is .1 .1 .1 .1 in
-    record {
-      accounts = sym (length-map (h .accounts) _) ∙ o .0 .1 .0 .1;
-      start = sym (length-map (h .start) _) ∙ o .1 .0 .1 .0 .1;
-      held = sym (length-map (h .held) _) ∙ o .1 .1 .0 .1 .0 .1;
-      lengths = sym (length-map (h .lengths) _) ∙ o .1 .1 .1 .0 .1 .0 .1;
-      tags = sym (length-map (h .tags) _) ∙ o .1 .1 .1 .1 .0 .1 .0 .1;
-    }
 
 -- accounts are handed on as their own records
 abbrev pub Accounts : RattleType

@@ -1,6 +1,6 @@
--- The decimal digits of a number (document 01, "A whole run"): the two rules that fix them, and what they are.
-use mathlib.Core.List.{List, [], _∷_, _++_}
-use mathlib.Core.Path.{_≡_, refl, sym, ap, _∙_, subst}
+-- The decimal digits of a number (R166): the two rules that fix them, and what they are.
+use mathlib.Core.List.{List, [], _∷_, _++_, append-assoc}
+use mathlib.Core.Path.{_≡_, refl, sym, ap, ap₂, _∙_, subst}
 use Prim.Native.Nat.{ℕ, zero, suc, _+_, _-_, _*_, _/_, _%_, _^_, _≤_, _<_}
 use native.Mathlib.Decide.{decLt}
 use native.Mathlib.Nat.{pow-suc}
@@ -8,6 +8,7 @@ use native.Mathlib.Omega.{arith}
 use borrow.Author.Tests.{lt-ltb, le-ltb}
 use lib.ListN.{length, getD, length-append, List·getD-append}
 use Rattle.lines.specs.Decimal.{digit, digitsIn, decimal}
+use Rattle.lines.specs.Laid.{twoDigits, fourDigits, eightDigits}
 
 -- a number below 10 is one digit
 in-small : (k n : ℕ) → n < 10 → digitsIn (suc k) n ≡ digit n ∷ []
@@ -41,6 +42,33 @@ decimal-small n h = in-small n n h
 pub decimal-large : (n : ℕ) → 10 ≤ n → decimal n ≡ decimal (n / 10) ++ (digit (n % 10) ∷ [])
 unfolding decimal
 decimal-large n h = in-large n n h ∙ ap (after n) (enough n (suc (n / 10)) (n / 10) (omega arith) (omega arith))
+
+-- a number of two digits
+pub decimal-two : (n : ℕ) → 10 ≤ n → n < 100 → decimal n ≡ twoDigits n
+decimal-two n l u = decimal-large n l ∙ ap (after n) (decimal-small (n / 10) (omega arith))
+
+-- what cuts off the last digits cuts off twice as many, done twice
+module _ (base : ℕ) (last : ℕ → List ℕ) (cut : (n : ℕ) → base ≤ n → decimal n ≡ decimal (n / base) ++ last (n % base)) where
+  twice : (square n : ℕ) → base ≤ n → base ≤ n / base → n / base / base ≡ n / square
+      → n / base % base ≡ n % square / base → n % base ≡ n % square % base
+      → decimal n ≡ decimal (n / square) ++ (last (n % square / base) ++ last (n % square % base))
+  twice square n h g high middle low =
+      cut n h ∙ ap (λ (x : List ℕ). x ++ last (n % base)) (cut (n / base) g)
+      ∙ append-assoc (decimal (n / base / base)) (last (n / base % base)) (last (n % base))
+      ∙ ap₂ (λ (k m : ℕ). decimal k ++ (last m ++ last (n % base))) high middle
+      ∙ ap (λ (m : ℕ). decimal (n / square) ++ (last (n % square / base) ++ last m)) low
+
+-- two digits, four or eight after those of the upper part
+pub decimal-by-two : (n : ℕ) → 100 ≤ n → decimal n ≡ decimal (n / 100) ++ twoDigits (n % 100)
+decimal-by-two n h =
+    twice 10 (λ (d : ℕ). digit d ∷ []) decimal-large 100 n (omega arith) (omega arith) (omega arith) (omega arith) (omega arith)
+
+pub decimal-by-four : (n : ℕ) → 10_000 ≤ n → decimal n ≡ decimal (n / 10_000) ++ fourDigits (n % 10_000)
+decimal-by-four n h = twice 100 twoDigits decimal-by-two 10_000 n (omega arith) (omega arith) (omega arith) (omega arith) (omega arith)
+
+pub decimal-by-eight : (n : ℕ) → 100_000_000 ≤ n → decimal n ≡ decimal (n / 100_000_000) ++ eightDigits (n % 100_000_000)
+decimal-by-eight n h =
+    twice 10_000 fourDigits decimal-by-four 100_000_000 n (omega arith) (omega arith) (omega arith) (omega arith) (omega arith)
 
 -- what holds of one digit, and goes on holding as a last digit is set after it, holds of all decimal digits
 module _ (P : ℕ → List ℕ → Type 0) (one : (n : ℕ) → n < 10 → P n (digit n ∷ [])) (more : (n : ℕ) (ds : List ℕ) → 10 ≤ n → P (n / 10) ds → P n (after n ds)) where
@@ -102,7 +130,7 @@ decimal-leading n = by-digits (λ n ds. 0 < n → (0 < length ds) × (48 < getD 
         (omega (arith, length-append ds (digit (n % 10) ∷ []), was .0), subst (λ (d : ℕ). 48 < d) (sym (List·getD-append ds (digit (n % 10) ∷ []) 0 0 (was .0))) (was .1))
 
 -- a number below a power of 10 has at most that many digits
-decimal-within : (n k : ℕ) → n < 10 ^ suc k → length (decimal n) ≤ suc k
+pub decimal-within : (n k : ℕ) → n < 10 ^ suc k → length (decimal n) ≤ suc k
 decimal-within n = by-digits (λ n ds. (k : ℕ) → n < 10 ^ suc k → length ds ≤ suc k) (λ n h k w. omega arith) more n
   where
     more : (n : ℕ) (ds : List ℕ) → 10 ≤ n → ((k : ℕ) → n / 10 < 10 ^ suc k → length ds ≤ suc k) → (k : ℕ) → n < 10 ^ suc k → length (after n ds) ≤ suc k

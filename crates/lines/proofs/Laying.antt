@@ -1,16 +1,15 @@
 -- Texts laid over a buffer one after another: what the steps of laying a line cite.
 use mathlib.Core.List.{List, [], _∷_, _++_, append-assoc, append-nil}
 use mathlib.Core.Path.{_≡_, refl, sym, ap, ap₂, _∙_, subst}
-use Prim.Native.Nat.{ℕ, zero, suc, _+_, _≤_, _<_}
+use Prim.Native.Nat.{ℕ, suc, _+_, _≤_, _<_}
 use native.Mathlib.Nat.{zero-add, add-zero}
-use native.Mathlib.Numerals.{add-one}
 use native.Mathlib.Omega.{arith}
-use lib.ListN.{length, take, drop, length-append, take-append-drop, getD, set}
-use lib.Seq.{take-at, drop-at, drop-drop, length-take-le, paste, take-suc, take-length}
+use lib.ListN.{length, take, drop, length-append, take-append-drop, set}
+use lib.Seq.{take-at, drop-at, drop-drop, length-take-le, paste, take-length, set-split, append-snoc}
 use Rattle.io.specs.Counts.{Counts}
 use Rattle.lines.specs.declared.Line.{Line}
-use Rattle.lines.specs.Line.{spaced, numbersOf, bytesOf, Lays}
-use Rattle.lines.specs.Laid.{over, LaidAt}
+use Rattle.lines.specs.Line.{numbersOf, textOf, bytesOf, Lays}
+use Rattle.lines.specs.Laid.{over, LaidAt, endOf}
 
 -- the buffer up to a text's end
 front : (at : ℕ) (t b : List ℕ) → at + length t ≤ length b → length (take at b ++ t) ≡ at + length t
@@ -26,20 +25,12 @@ pub over-none : (at : ℕ) (b : List ℕ) → over at [] b ≡ b
 unfolding over
 over-none at b = ap₂ (λ (x : List ℕ) (n : ℕ). x ++ drop n b) (append-nil (take at b)) (add-zero at) ∙ take-append-drop at b
 
--- one byte before a text
-set-take : (i x : ℕ) (b rest : List ℕ) → i < length b → set (take (suc i) b ++ rest) i x ≡ take i b ++ (x ∷ rest)
-set-take i x [] rest h = absurd (omega (arith, h))
-set-take zero x (y ∷ b) rest h = refl
-set-take (suc i) x (y ∷ b) rest h = ap (λ (l : List ℕ). y ∷ l) (set-take i x b rest (omega (arith, h)))
-
-pub over-before : (i x : ℕ) (t b : List ℕ) → i < length b → set (over (suc i) t b) i x ≡ over i (x ∷ t) b
+-- one byte
+pub laid-byte : (i x : ℕ) (b : List ℕ) → i < length b → LaidAt i (x ∷ []) b (i + 1) (set b i x)
 unfolding over
-over-before i x t b h =
-    let past : suc i + length t ≡ i + suc (length t) = omega arith in
-    ap (λ (l : List ℕ). set l i x) (append-assoc (take (suc i) b) t (drop (suc i + length t) b))
-    ∙ set-take i x b (t ++ drop (suc i + length t) b) h
-    ∙ sym (append-assoc (take i b) (x ∷ t) (drop (suc i + length t) b))
-    ∙ ap (λ (k : ℕ). take i b ++ (x ∷ t) ++ drop k b) past
+laid-byte i x b h =
+    let past : suc i ≡ i + 1 = omega arith in
+    (refl, set-split b i x h ∙ sym (append-snoc (take i b) x (drop (suc i) b)) ∙ ap (λ (k : ℕ). take i b ++ (x ∷ []) ++ drop k b) past)
 
 -- at the start the text comes first
 pub over-start : (t b : List ℕ) → over 0 t b ≡ t ++ drop (length t) b
@@ -60,24 +51,32 @@ over-over at t u b h =
     ap₂ (λ (p q : List ℕ). p ++ u ++ q) kept rest ∙ ap (λ (p : List ℕ). p ++ drop (at + length (t ++ u)) b) (append-assoc (take at b) t u)
 
 -- steps one after another
-pub laid-then : (at : ℕ) (t u b c d : List ℕ) (m r : ℕ) → at + length t ≤ length b → LaidAt at t b m c → LaidAt m u c r d → LaidAt at (t ++ u) b r d
-laid-then at t u b c d m r h first next =
-    (omega (arith, first .0, next .0, length-append t u), next .1 ∙ ap₂ (λ (k : ℕ) (x : List ℕ). over k u x) (first .0) (first .1) ∙ over-over at t u b h)
+pub laid-then : (at : ℕ) (t u b c d : List ℕ) (m r : ℕ) → at + length t ≤ length b → LaidAt at t b m c → LaidAt m u c r d
+    → LaidAt at (t ++ u) b r d
+laid-then at t u b c d m r h first next = (
+  omega (arith, first .0, next .0, length-append t u),
+  next .1 ∙ ap₂ (λ (k : ℕ) (x : List ℕ). over k u x) (first .0) (first .1) ∙ over-over at t u b h,
+)
 
--- numbers laid after numbers
-numbers-append : (ns ms : List ℕ) → numbersOf (ns ++ ms) ≡ numbersOf ns ++ numbersOf ms
-numbers-append [] ms = refl
-numbers-append (n ∷ ns) ms = ap (λ (x : List ℕ). spaced n ++ x) (numbers-append ns ms) ∙ sym (append-assoc (spaced n) (numbersOf ns) (numbersOf ms))
+-- the same text, by another name
+pub laid-same : (at : ℕ) (t u b d : List ℕ) (r : ℕ) → u ≡ t → LaidAt at t b r d → LaidAt at u b r d
+laid-same at t u b d r e laid = subst (λ (x : List ℕ). LaidAt at x b r d) (sym e) laid
 
--- one number more
-pub numbers-next : (ns : List ℕ) (i : ℕ) → i < length ns → numbersOf (take (i + 1) ns) ≡ numbersOf (take i ns) ++ spaced (getD ns i 0)
-numbers-next ns i h =
-    ap (λ (k : ℕ). numbersOf (take k ns)) (add-one i) ∙ ap numbersOf (take-suc ns i 0 h) ∙ numbers-append (take i ns) (getD ns i 0 ∷ [])
-    ∙ ap (λ (x : List ℕ). numbersOf (take i ns) ++ x) (append-nil (spaced (getD ns i 0)))
+-- two texts that make up one
+pub laid-as : (at : ℕ) (t u whole b c d : List ℕ) (m r : ℕ) → whole ≡ t ++ u → at + length t ≤ length b
+    → LaidAt at t b m c → LaidAt m u c r d → LaidAt at whole b r d
+laid-as at t u whole b c d m r e h first next = laid-same at (t ++ u) whole b d r e (laid-then at t u b c d m r h first next)
+
+-- a text before the last numbers of a line
+pub laid-end : (at : ℕ) (t ns b c d : List ℕ) (m r : ℕ) → at + length t ≤ length b → LaidAt at t b m c → LaidAt m (endOf ns) c r d
+    → LaidAt at (textOf t ns) b r d
+unfolding endOf
+laid-end at t ns b c d m r = laid-as at t (endOf ns) (textOf t ns) b c d m r (append-assoc t (numbersOf ns) (10 ∷ []))
 
 -- a line's bytes laid, by its case
-pub line-at : (at : ℕ) (line same : Line) (b d : List ℕ) (r : ℕ) → line ≡ same → LaidAt at (bytesOf same) b r d → LaidAt at (bytesOf line) b r d
-line-at at line same b d r e laid = subst (λ (l : Line). LaidAt at (bytesOf l) b r d) (sym e) laid
+pub line-at : (at : ℕ) (line same : Line) (b d : List ℕ) (r : ℕ) → line ≡ same → LaidAt at (bytesOf same) b r d
+    → LaidAt at (bytesOf line) b r d
+line-at at line same b d r e = laid-same at (bytesOf same) (bytesOf line) b d r (ap bytesOf e)
 
 -- a text laid at the start
 pub lays : (line : Line) (b d : List ℕ) (r : ℕ) → LaidAt 0 (bytesOf line) b r d → Lays line b r d

@@ -2,4 +2,3 @@ pub mod Decimals
 pub mod Laying
 pub mod Outcomes
 pub mod Listing
-pub mod Spelling

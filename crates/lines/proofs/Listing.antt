@@ -1,4 +1,4 @@
--- The listing of document 01, "A whole run", byte by byte, and lines that it lacks: a refused arrival, a stop, the largest number, a rate.
+-- The listing byte by byte (R165 to R172), and lines that it lacks: a refused arrival, a stop, the largest number, a rate.
 use mathlib.Core.List.{List, [], _∷_, map}
 use mathlib.Core.Path.{_≡_, refl}
 use Prim.Native.Nat.{ℕ}

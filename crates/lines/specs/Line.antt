@@ -1,4 +1,4 @@
--- The lines that a program prints (document 01, "A whole run"): a word, its numbers, each after one space, and the end of the line.
+-- The lines that a program prints (R165, R167 to R174): a word, its numbers, each after one space, and the end of the line.
 use mathlib.Core.Path.{_≡_}
 use mathlib.Core.List.{List, [], _∷_, _++_}
 use Prim.Native.Nat.{ℕ}
@@ -7,39 +7,39 @@ use Rattle.lines.specs.Decimal.{decimal}
 use Rattle.lines.specs.declared.Line.{Line}
 use Rattle.lines.specs.declared.Line.the-variants.{Link, In, No, Out, Nothing, End, Stop, Rate}
 
--- one space, then a number
+-- one space, then a number (R165)
 abbrev pub spaced : ℕ → List ℕ
 spaced n = 32 ∷ decimal n
 
--- each number after one space
+-- each number after one space (R165)
 abbrev pub numbersOf : List ℕ → List ℕ
 numbersOf [] = []
 numbersOf (n ∷ ns) = spaced n ++ numbersOf ns
 
--- a word, its numbers, the end of the line
+-- a word, its numbers, the end of the line (R165)
 abbrev pub textOf : List ℕ → List ℕ → List ℕ
 textOf word ns = word ++ numbersOf ns ++ (10 ∷ [])
 
--- the bytes of a line, its word in ASCII
+-- the bytes of a line, its word in ASCII (R167 to R174)
 unfoldable pub bytesOf : Line → List ℕ
--- `link`
+-- `link` (R167)
 bytesOf (Link classes size) = textOf (108 ∷ 105 ∷ 110 ∷ 107 ∷ []) (classes ∷ size ∷ [])
--- `in`
+-- `in` (R168)
 bytesOf (In class len tag) = textOf (105 ∷ 110 ∷ []) (class ∷ len ∷ tag ∷ [])
--- `no`
+-- `no` (R169)
 bytesOf (No class len tag number) = textOf (110 ∷ 111 ∷ []) (class ∷ len ∷ tag ∷ number ∷ [])
--- `out`
+-- `out` (R170)
 bytesOf (Out class len tag rounds) = textOf (111 ∷ 117 ∷ 116 ∷ []) (class ∷ len ∷ tag ∷ rounds ∷ [])
--- `none`
+-- `none` (R171)
 bytesOf Nothing = textOf (110 ∷ 111 ∷ 110 ∷ 101 ∷ []) []
--- `end`
+-- `end` (R172)
 bytesOf (End waiting) = textOf (101 ∷ 110 ∷ 100 ∷ []) (waiting ∷ [])
--- `stop`
+-- `stop` (R173)
 bytesOf (Stop number place) = textOf (115 ∷ 116 ∷ 111 ∷ 112 ∷ []) (number ∷ place ∷ [])
--- `rate` (document 02, E13)
+-- `rate` (R174)
 bytesOf (Rate class request gets unallotted) = textOf (114 ∷ 97 ∷ 116 ∷ 101 ∷ []) (class ∷ request ∷ gets ∷ unallotted ∷ [])
 
--- the room that a buffer must have for one more line: no line has more bytes
+-- the room that a buffer must have for one more line: no line has more bytes (R203)
 abbrev pub lineRoom : ℕ
 lineRoom = 96
 

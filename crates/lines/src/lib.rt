@@ -1,12 +1,14 @@
-// The lines that a program prints, and a line laid into a lent buffer. `lay` is an entry for callers outside and asks nothing; `lay_at` asks for room.
-// The bytes are those of document 01, "A whole run", and of document 02, E13.
+// The lines that a program prints, and a line laid into a lent buffer. `lay` is an entry for callers outside and asks nothing; `lay_at`
+// asks for room. A number is laid two digits at a time, without a loop: its upper part, then its last two, four or eight digits.
+// The bytes are those of R165 to R174.
+ghost use mathlib.Core.List.{[], _∷_};
 ghost use mathlib.Core.Path.{_≡_};
-ghost use Prim.Native.Nat.{_<_, _+_, _-_, _*_, _≤_};
+ghost use Prim.Native.Nat.{_<_, _+_, _≤_};
 ghost use lib.ListN.{length};
 ghost use Rattle.io.specs.Counts.{Counts};
-ghost use Rattle.lines.specs.Decimal.{decimal};
-ghost use Rattle.lines.specs.Line.{spaced, numbersOf, textOf, bytesOf, lineRoom, Lays};
-ghost use Rattle.lines.specs.Laid.{over, LaidAt};
+ghost use Rattle.lines.specs.Decimal.{digit, decimal};
+ghost use Rattle.lines.specs.Line.{spaced, bytesOf, lineRoom, Lays};
+ghost use Rattle.lines.specs.Laid.{twoDigits, fourDigits, eightDigits, endOf, LaidAt};
 
 // One line for each thing.
 pub enum Line {
@@ -24,7 +26,7 @@ pub enum Line {
     End(u64),
     // number, place
     Stop(u64, u64),
-    // class, request, what it gets, what stays unallotted (E13)
+    // class, request, what it gets, what stays unallotted
     Rate(u64, u64, u64, u64),
 }
 
@@ -44,61 +46,102 @@ fn put(text: &[u8], at: usize, out: &mut [u8]) -> usize
     at + i
 }
 
-// How many digits a number below 100,000,000 has.
-fn few_digits(n: u64) -> usize
-    requires { ⌜ n < 100_000_000 ⌝ }
-    ensures { λ r. ⌜ r ≡ length (decimal n) ⌝ }
+// The byte of a digit.
+fn byte_of(d: u32) -> u8
+    requires { ⌜ d < 10 ⌝ }
+    ensures { λ r. ⌜ r ≡ digit d ⌝ }
+{
+    b'0' + d as u8
+}
+
+// Lays a number below 100 in two digits, a leading zero too.
+fn put_two(n: u32, at: usize, out: &mut [u8]) -> usize
+    requires { ⌜ (n < 100) × (at + 2 ≤ length (now out)) ⌝ }
+    ensures { λ r. ⌜ LaidAt at (twoDigits n) (now (out .entry)) r (now (out .exit)) ⌝ }
+{
+    out[at] = byte_of(n / 10);
+    out[at + 1] = byte_of(n % 10);
+    at + 2
+}
+
+// Lays a number below 10,000 in four digits.
+fn put_four(n: u32, at: usize, out: &mut [u8]) -> usize
+    requires { ⌜ (n < 10_000) × (at + 4 ≤ length (now out)) ⌝ }
+    ensures { λ r. ⌜ LaidAt at (fourDigits n) (now (out .entry)) r (now (out .exit)) ⌝ }
+{
+    let next = put_two(n / 100, at, out);
+    put_two(n % 100, next, out)
+}
+
+// Lays a number below 100,000,000 in eight digits.
+fn put_eight(n: u32, at: usize, out: &mut [u8]) -> usize
+    requires { ⌜ (n < 100_000_000) × (at + 8 ≤ length (now out)) ⌝ }
+    ensures { λ r. ⌜ LaidAt at (eightDigits n) (now (out .entry)) r (now (out .exit)) ⌝ }
+{
+    let next = put_four(n / 10_000, at, out);
+    put_four(n % 10_000, next, out)
+}
+
+// Lays a number below 100, without a leading zero.
+fn put_short(n: u32, at: usize, out: &mut [u8]) -> usize
+    requires { ⌜ (n < 100) × (at + 2 ≤ length (now out)) ⌝ }
+    ensures { λ r. ⌜ LaidAt at (decimal n) (now (out .entry)) r (now (out .exit)) ⌝ }
 {
     if n < 10 {
-        return 1;
+        out[at] = byte_of(n);
+        return at + 1;
     }
+    put_two(n, at, out)
+}
+
+// Lays a number below 10,000: its hundredth, then two digits.
+fn put_few(n: u32, at: usize, out: &mut [u8]) -> usize
+    requires { ⌜ (n < 10_000) × (at + 4 ≤ length (now out)) ⌝ }
+    ensures { λ r. ⌜ LaidAt at (decimal n) (now (out .entry)) r (now (out .exit)) ⌝ }
+{
     if n < 100 {
-        return 2;
+        return put_short(n, at, out);
     }
-    if n < 1_000 {
-        return 3;
-    }
+    let next = put_short(n / 100, at, out);
+    put_two(n % 100, next, out)
+}
+
+// Lays a number below 100,000,000: its ten-thousandth, then four digits.
+fn put_many(n: u32, at: usize, out: &mut [u8]) -> usize
+    requires { ⌜ (n < 100_000_000) × (at + 8 ≤ length (now out)) ⌝ }
+    ensures { λ r. ⌜ LaidAt at (decimal n) (now (out .entry)) r (now (out .exit)) ⌝ }
+{
     if n < 10_000 {
-        return 4;
+        return put_few(n, at, out);
     }
-    if n < 100_000 {
-        return 5;
-    }
-    if n < 1_000_000 {
-        return 6;
-    }
-    if n < 10_000_000 {
-        return 7;
-    }
-    8
+    let next = put_few(n / 10_000, at, out);
+    put_four(n % 10_000, next, out)
 }
 
-// How many digits a number has: eight at a time, and the rest.
-fn digits(n: u64) -> usize
-    ensures { λ r. ⌜ r ≡ length (decimal n) ⌝ }
+// Lays a number below 1,000,000,000,000: what stands before the last eight digits of any number.
+fn put_upper(n: u64, at: usize, out: &mut [u8]) -> usize
+    requires { ⌜ (n < 1_000_000_000_000) × (at + 12 ≤ length (now out)) ⌝ }
+    ensures { λ r. ⌜ LaidAt at (decimal n) (now (out .entry)) r (now (out .exit)) ⌝ }
 {
-    let mut rest = n;
-    let mut k: usize = 0;
-    while 100_000_000 <= rest {
-        rest /= 100_000_000;
-        k += 8;
+    if n < 100_000_000 {
+        return put_many(n as u32, at, out);
     }
-    k + few_digits(rest)
+    let next = put_few((n / 100_000_000) as u32, at, out);
+    put_eight((n % 100_000_000) as u32, next, out)
 }
 
-// Lays the digits of a number, the last one first, so that they end before a place.
-fn put_digits(n: u64, end: usize, out: &mut [u8])
-    requires { ⌜ (length (decimal n) ≤ end) × (end ≤ length (now out)) ⌝ }
-    ensures { λ _. ⌜ now (out .exit) ≡ over (end - length (decimal n)) (decimal n) (now (out .entry)) ⌝ }
+// Lays a number from 10,000 on. One below 100,000,000 is laid here: handed to `put_many` it would cost a call.
+fn put_large(n: u64, at: usize, out: &mut [u8]) -> usize
+    requires { ⌜ (10_000 ≤ n) × (at + 20 ≤ length (now out)) ⌝ }
+    ensures { λ r. ⌜ LaidAt at (decimal n) (now (out .entry)) r (now (out .exit)) ⌝ }
 {
-    let mut rest = n;
-    let mut i = end - 1;
-    while 10 <= rest {
-        out[i] = b'0' + (rest % 10) as u8;
-        rest /= 10;
-        i -= 1;
+    if n < 100_000_000 {
+        let few = n as u32;
+        let next = put_few(few / 10_000, at, out);
+        return put_four(few % 10_000, next, out);
     }
-    out[i] = b'0' + rest as u8;
+    let next = put_upper(n / 100_000_000, at, out);
+    put_eight((n % 100_000_000) as u32, next, out)
 }
 
 // Lays one space and a number.
@@ -107,34 +150,52 @@ fn put_number(n: u64, at: usize, out: &mut [u8]) -> usize
     ensures { λ r. ⌜ LaidAt at (spaced n) (now (out .entry)) r (now (out .exit)) ⌝ }
     ensures { λ r. ⌜ r ≤ at + 21 ⌝ }
 {
-    let end = at + 1 + digits(n);
-    put_digits(n, end, out);
     out[at] = b' ';
-    end
-}
-
-// Lays each number after one space.
-fn put_numbers(numbers: &[u64], at: usize, out: &mut [u8]) -> usize
-    requires { ⌜ at + 21 * length (now numbers) ≤ length (now out) ⌝ }
-    ensures { λ r. ⌜ LaidAt at (numbersOf (now (numbers .entry))) (now (out .entry)) r (now (out .exit)) ⌝ }
-    ensures { λ r. ⌜ r ≤ at + 21 * length (now (numbers .entry)) ⌝ }
-{
-    let mut next = at;
-    for i in 0..numbers.len() {
-        next = put_number(numbers[i], next, out);
+    if n < 10_000 {
+        return put_few(n as u32, at + 1, out);
     }
-    next
+    put_large(n, at + 1, out)
 }
 
-// Lays a word, its numbers and the end of the line.
-fn put_line(word: &[u8], numbers: &[u64], at: usize, out: &mut [u8]) -> usize
-    requires { ⌜ at + length (now word) + 21 * length (now numbers) + 1 ≤ length (now out) ⌝ }
-    ensures { λ r. ⌜ LaidAt at (textOf (now (word .entry)) (now (numbers .entry))) (now (out .entry)) r (now (out .exit)) ⌝ }
-    ensures { λ r. ⌜ r ≤ at + length (now (word .entry)) + 21 * length (now (numbers .entry)) + 1 ⌝ }
+// Lays the last number of a line, and the end of the line.
+fn put_last(a: u64, at: usize, out: &mut [u8]) -> usize
+    requires { ⌜ at + 22 ≤ length (now out) ⌝ }
+    ensures { λ r. ⌜ LaidAt at (endOf (a ∷ [])) (now (out .entry)) r (now (out .exit)) ⌝ }
+    ensures { λ r. ⌜ r ≤ at + 22 ⌝ }
 {
-    let first = put(word, at, out);
-    let last = put_numbers(numbers, first, out);
-    put(b"\n", last, out)
+    let end = put_number(a, at, out);
+    out[end] = b'\n';
+    end + 1
+}
+
+// Lays the last two.
+fn put_last_two(a: u64, b: u64, at: usize, out: &mut [u8]) -> usize
+    requires { ⌜ at + 43 ≤ length (now out) ⌝ }
+    ensures { λ r. ⌜ LaidAt at (endOf (a ∷ b ∷ [])) (now (out .entry)) r (now (out .exit)) ⌝ }
+    ensures { λ r. ⌜ r ≤ at + 43 ⌝ }
+{
+    let next = put_number(a, at, out);
+    put_last(b, next, out)
+}
+
+// Lays the last three.
+fn put_last_three(a: u64, b: u64, c: u64, at: usize, out: &mut [u8]) -> usize
+    requires { ⌜ at + 64 ≤ length (now out) ⌝ }
+    ensures { λ r. ⌜ LaidAt at (endOf (a ∷ b ∷ c ∷ [])) (now (out .entry)) r (now (out .exit)) ⌝ }
+    ensures { λ r. ⌜ r ≤ at + 64 ⌝ }
+{
+    let next = put_number(a, at, out);
+    put_last_two(b, c, next, out)
+}
+
+// Lays the last four: no line has more.
+fn put_last_four(a: u64, b: u64, c: u64, d: u64, at: usize, out: &mut [u8]) -> usize
+    requires { ⌜ at + 85 ≤ length (now out) ⌝ }
+    ensures { λ r. ⌜ LaidAt at (endOf (a ∷ b ∷ c ∷ d ∷ [])) (now (out .entry)) r (now (out .exit)) ⌝ }
+    ensures { λ r. ⌜ r ≤ at + 85 ⌝ }
+{
+    let next = put_number(a, at, out);
+    put_last_three(b, c, d, next, out)
 }
 
 // Lays a line from a place on where the longest has room, and answers the place after it.
@@ -144,29 +205,35 @@ pub fn lay_at(line: Line, at: usize, out: &mut [u8]) -> usize
     ensures { λ r. ⌜ r ≤ at + lineRoom ⌝ }
 {
     match line {
-        Line::Link(classes, size) => put_line(b"link", &[classes, size], at, out),
-        Line::In(class, length, tag) => put_line(b"in", &[class, length, tag], at, out),
-        Line::No(class, length, tag, number) => put_line(
-            b"no",
-            &[class, length, tag, number],
-            at,
-            out,
-        ),
-        Line::Out(class, length, tag, rounds) => put_line(
-            b"out",
-            &[class, length, tag, rounds],
-            at,
-            out,
-        ),
-        Line::Nothing => put_line(b"none", &[], at, out),
-        Line::End(waiting) => put_line(b"end", &[waiting], at, out),
-        Line::Stop(number, place) => put_line(b"stop", &[number, place], at, out),
-        Line::Rate(class, request, gets, unallotted) => put_line(
-            b"rate",
-            &[class, request, gets, unallotted],
-            at,
-            out,
-        ),
+        Line::Link(classes, size) => {
+            let next = put(b"link", at, out);
+            put_last_two(classes, size, next, out)
+        }
+        Line::In(class, length, tag) => {
+            let next = put(b"in", at, out);
+            put_last_three(class, length, tag, next, out)
+        }
+        Line::No(class, length, tag, number) => {
+            let next = put(b"no", at, out);
+            put_last_four(class, length, tag, number, next, out)
+        }
+        Line::Out(class, length, tag, rounds) => {
+            let next = put(b"out", at, out);
+            put_last_four(class, length, tag, rounds, next, out)
+        }
+        Line::Nothing => put(b"none\n", at, out),
+        Line::End(waiting) => {
+            let next = put(b"end", at, out);
+            put_last(waiting, next, out)
+        }
+        Line::Stop(number, place) => {
+            let next = put(b"stop", at, out);
+            put_last_two(number, place, next, out)
+        }
+        Line::Rate(class, request, gets, unallotted) => {
+            let next = put(b"rate", at, out);
+            put_last_four(class, request, gets, unallotted, next, out)
+        }
     }
 }
 

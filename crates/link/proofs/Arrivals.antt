@@ -24,10 +24,11 @@ use Rattle.state.specs.Account.{balanceOf}
 use Rattle.state.specs.Queue.{Shaped, noPacket, heldOf, queueOf, putLast}
 use Rattle.state.specs.State.{State, meaning, queueAt}
 use Rattle.state.proofs.Tables.{table-length}
+use Rattle.state.proofs.Queues.{shaped-put}
 use Rattle.state.proofs.Meaning.{meaning-held, meaning-put}
 use Rattle.sound.specs.Sound.{InRange, HoldsRight, Sound, SoundLink}
 use Rattle.link.specs.declared.AfterArrival.{AfterArrival}
-use Rattle.link.specs.Arrival.{noLeaf, badLength, full, arrivalChecks, arrived, judged, arrivalLeaves, arrivalGives, arrivalOf, Arrives}
+use Rattle.link.specs.Arrival.{noLeaf, badLength, full, arrivalChecks, arrived, arrivalAnswer, arrivalLeaves, arrivalGives, arrivalOf, Arrives}
 use Rattle.steps.specs.Arrivals.{judgeChecks}
 
 -- ---- the numbers that the code reads
@@ -48,16 +49,26 @@ no-leaf-checks true leaf l i a b p e f =
 
 -- what an arrival gives, by its verdict
 pub arrival-refused : (sound : Bool) (l : Link) (i : ℕ) (p : Packet) {n q : ℕ} → firstBroken (arrivalChecks sound (meaning l) i p) ≡ Refused n q
-    → arrivalOf sound l i p ≡ arrivalLeaves (judged (Refused n q)) l
+    → arrivalOf sound l i p ≡ arrivalLeaves (arrivalAnswer (Refused n q)) l
 unfolding arrivalOf
 arrival-refused sound l i p e = ap (λ (v : Verdict). arrivalGives v l i p) e
 
 pub arrival-taken : (sound : Bool) (l : Link) (i : ℕ) (p : Packet) → firstBroken (arrivalChecks sound (meaning l) i p) ≡ Passed
-    → arrivalOf sound l i p ≡ arrivalLeaves (judged Passed) (putLast l i p)
+    → arrivalOf sound l i p ≡ arrivalLeaves (arrivalAnswer Passed) (putLast l i p)
 unfolding arrivalOf
 arrival-taken sound l i p e = ap (λ (v : Verdict). arrivalGives v l i p) e
 
--- an arrival that is taken breaks none of the four rows
+-- its verdict is that of its checks
+pub arrival-verdict : (sound : Bool) (l : Link) (i : ℕ) (p : Packet)
+    → arrivalOf sound l i p .answer .verdict ≡ firstBroken (arrivalChecks sound (meaning l) i p)
+unfolding arrivalOf
+arrival-verdict sound l i p = go (firstBroken (arrivalChecks sound (meaning l) i p))
+  where
+    go : (v : Verdict) → arrivalGives v l i p .answer .verdict ≡ v
+    go Passed = refl
+    go (Refused n q) = refl
+
+-- an arrival that is taken breaks none of the four numbers
 pub record Taken (sound : Bool) (s : State) (i : ℕ) (p : Packet) : Type 0 where
   pub state : sound ≡ true
   pub leaf : isLeaf (s .tree) i ≡ true
@@ -83,14 +94,14 @@ taken sound s i p e =
 
 -- a number that is no leaf is refused
 pub no-leaf-refused : (sound : Bool) (l : Link) (i : ℕ) (p : Packet) → isLeaf (l .tree) i ≡ false
-    → arrivalOf sound l i p ≡ arrivalLeaves (judged (firstBroken (arrivalChecks sound (meaning l) i p))) l
+    → arrivalOf sound l i p ≡ arrivalLeaves (arrivalAnswer (firstBroken (arrivalChecks sound (meaning l) i p))) l
 unfolding arrivalOf noLeaf
 no-leaf-refused sound l i p f = go (refused-or-passed (firstBroken (arrivalChecks sound (meaning l) i p)))
   where
     go : (firstBroken (arrivalChecks sound (meaning l) i p) ≡ Passed)
         ⊎ ((n : ℕ) × (q : ℕ) × (firstBroken (arrivalChecks sound (meaning l) i p) ≡ Refused n q))
         → arrivalGives (firstBroken (arrivalChecks sound (meaning l) i p)) l i p
-        ≡ arrivalLeaves (judged (firstBroken (arrivalChecks sound (meaning l) i p))) l
+        ≡ arrivalLeaves (arrivalAnswer (firstBroken (arrivalChecks sound (meaning l) i p))) l
     go (inl e) = absurd (not-true-and-false (taken sound (meaning l) i p e .leaf) f)
     go (inr r) = rw (r .2)
 
@@ -195,6 +206,15 @@ arrival-sound l i p shape sound e =
       starts = λ k v. record { start = sound .starts k v .start };
     }
 
+-- its lists are as long as they were
+pub arrival-shaped : (sound : Bool) (l : Link) (i : ℕ) (p : Packet) → Shaped l → Shaped (arrivalOf sound l i p .link)
+unfolding arrivalOf
+arrival-shaped sound l i p shape = go (firstBroken (arrivalChecks sound (meaning l) i p))
+  where
+    go : (v : Verdict) → Shaped (arrivalGives v l i p .link)
+    go Passed = shaped-put l i p shape
+    go (Refused n q) = shape
+
 -- ---- the contract determines the answer
 
 pub arrival-one-answer : (l : Link) (i : ℕ) (p : Packet) (a b : AfterArrival) → Arrives l i p a → Arrives l i p b → a ≡ b
@@ -217,10 +237,10 @@ accepted-sound l i p r x accepted = x .exactly .sound (go (x .sound) refl)
         (ap (λ (a : AfterArrival). a .answer .verdict) (x .answer ∙ ap (λ (b : Bool). arrivalOf b l i p) e ∙ arrival-refused false l i p (decides _ _ refl))))
 
 -- on a record that is not sound every arrival gives 11 at 0, and the very record
-pub unsound-refused : (l : Link) (i : ℕ) (p : Packet) (r : AfterArrival) → (SoundLink l → ⊥) → Arrives l i p r → r ≡ arrivalLeaves (judged (Refused 11 0)) l
+pub unsound-refused : (l : Link) (i : ℕ) (p : Packet) (r : AfterArrival) → (SoundLink l → ⊥) → Arrives l i p r → r ≡ arrivalLeaves (arrivalAnswer (Refused 11 0)) l
 unsound-refused l i p r not-sound x = x .answer ∙ go (x .sound) refl
   where
-    go : (b : Bool) → x .sound ≡ b → arrivalOf (x .sound) l i p ≡ arrivalLeaves (judged (Refused 11 0)) l
+    go : (b : Bool) → x .sound ≡ b → arrivalOf (x .sound) l i p ≡ arrivalLeaves (arrivalAnswer (Refused 11 0)) l
     go true e = absurd (not-sound (x .exactly .sound e))
     go false e = rw e (arrival-refused false l i p (decides _ _ refl))
 

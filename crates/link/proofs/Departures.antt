@@ -1,8 +1,11 @@
--- Laws of a send: what it means, that it keeps a state sound, that it sends while a packet waits, and that its contract determines the answer. Demands 1 and 2.
+-- Laws of a send: what it means, that it keeps a state sound and lists as long as they were, that it sends while a packet waits and
+-- opens at most two rounds (R147), and that its contract determines the answer. Demands 1 and 2.
 use mathlib.Core.Bool.{Bool, true, false, not}
+use mathlib.Core.List.{[]}
 use mathlib.Core.Path.{_≡_, refl, sym, ap, subst, _∙_}
 use Prim.Native.Nat.{_≤_}
 use native.Mathlib.Omega.{arith}
+use lib.ListN.{length}
 use Rattle.checks.specs.declared.Verdict.{Verdict}
 use Rattle.checks.specs.declared.Verdict.the-variants.{Refused}
 use Rattle.checks.specs.Check.{check, firstBroken, Exactly}
@@ -10,10 +13,13 @@ use Rattle.checks.proofs.Laws.{not-both, pass-over, decides, exactly-unique}
 use Rattle.state.specs.declared.Link.{Link}
 use Rattle.state.specs.Queue.{Shaped}
 use Rattle.state.specs.State.{meaning}
+use Rattle.state.proofs.Queues.{shaped-take}
 use Rattle.sound.specs.Sound.{SoundLink}
 use Rattle.rules.specs.Active.{someWaits}
-use Rattle.rules.specs.Sending.{traceOf}
-use Rattle.rules.proofs.Traces.{after-means, after-sound, rounds-most}
+use Rattle.rules.specs.Sending.{Trace, traceOf}
+use Rattle.rules.specs.After.{linkIn}
+use Rattle.rules.proofs.Sent.{sent-wide}
+use Rattle.rules.proofs.Traces.{goes, after-means, after-sound, rounds-most}
 use Rattle.link.specs.declared.AfterSend.{AfterSend}
 use Rattle.link.specs.Send.{departs, sendGives, sendOf, Sends}
 
@@ -42,7 +48,21 @@ nothing-exactly l e = go (someWaits (meaning l)) refl
     go false h = h
     go true h = absurd (not-both (ap (λ (d : AfterSend). d .answer .verdict) (send-goes l h)) e)
 
--- ---- a send on a sound link gives a sound link, and opens at most two rounds
+-- ---- a send on a sound link gives a sound link with its lists as long as they were, and opens at most two rounds
+
+-- the lists of the link after a send that goes are as long as they were
+module _ (l : Link) (shape : Shaped l) (sound : SoundLink l) (waits : someWaits (meaning l) ≡ true) where
+  after-wide : length (traceOf (meaning l) .state .accounts) ≡ 64
+  unfolding traceOf
+  after-wide =
+      let g = goes l shape sound waits in
+      ap (λ (t : Trace). length (t .state .accounts)) (g .gives 62 []) ∙ sent-wide (g .after) (g .sound) (g .wide) (g .leaf) .accounts
+
+  after-shaped : Shaped (departs l (traceOf (meaning l)) .link)
+  after-shaped =
+      let trace = traceOf (meaning l) in
+      shaped-take (linkIn l (trace .state)) (trace .class)
+      (record { accounts = after-wide; start = shape .start; held = shape .held; lengths = shape .lengths; tags = shape .tags })
 
 module _ (l : Link) (shape : Shaped l) (sound : SoundLink l) where
   pub send-sound : SoundLink (sendOf true l .link)
@@ -58,6 +78,14 @@ module _ (l : Link) (shape : Shaped l) (sound : SoundLink l) where
       go : (b : Bool) → someWaits (meaning l) ≡ b → sendOf true l .answer .rounds ≤ 2
       go true h = rw (send-goes l h) (rounds-most l shape sound h)
       go false h = rw (send-nothing l h) (omega arith)
+
+  -- its lists are as long as they were
+  pub send-shaped : Shaped (sendOf true l .link)
+  send-shaped = go (someWaits (meaning l)) refl
+    where
+      go : (b : Bool) → someWaits (meaning l) ≡ b → Shaped (sendOf true l .link)
+      go true h = subst (λ (d : AfterSend). Shaped (d .link)) (sym (send-goes l h)) (after-shaped l shape sound h)
+      go false h = subst (λ (d : AfterSend). Shaped (d .link)) (sym (send-nothing l h)) shape
 
   -- the record after it means the state of the trace
   pub send-means : someWaits (meaning l) ≡ true → meaning (sendOf true l .link) ≡ traceOf (meaning l) .state

@@ -15,14 +15,14 @@ use Rattle.tree.specs.Size.{roundSize}
 use Rattle.tree.proofs.Sums.{sum-zero}
 use Rattle.state.specs.declared.Account.{Account}
 use Rattle.state.specs.declared.Packet.{Packet}
-use Rattle.state.specs.Account.{account, noAccount, accountOf, heldBy}
+use Rattle.state.specs.Account.{account, noAccount, accountOf, fundsOf}
 use Rattle.state.specs.State.{meaning, queueAt, freshLink, noLink}
 use Rattle.state.proofs.Meaning.{meaning-held, fresh-queues}
 use Rattle.state.proofs.Queues.{queue-length}
 use Rattle.sound.specs.Sound.{total, SoundLink}
 use Rattle.link.specs.declared.Answered.{Answered}
 use Rattle.link.specs.declared.AfterArrival.{AfterArrival}
-use Rattle.link.specs.Arrival.{judged, arrivalLeaves, Arrives}
+use Rattle.link.specs.Arrival.{arrivalAnswer, arrivalLeaves, Arrives}
 use Rattle.link.specs.Fresh.{freshOf, MakesFresh}
 use Rattle.link.proofs.Arrivals.{unsound-refused}
 
@@ -44,15 +44,15 @@ module _ (t : Tree) where
   fresh-total =
       omega (
         arith,
-        ap heldBy root-account,
-        sum-zero (λ i. heldBy (accountOf (freshLink t .accounts) i)) 63 (λ i l u. ap heldBy (other-account i l (omega arith))),
+        ap fundsOf root-account,
+        sum-zero (λ i. fundsOf (accountOf (freshLink t .accounts) i)) 63 (λ i l u. ap fundsOf (other-account i l (omega arith))),
       )
 
   no-residual : (i : ℕ) → i < 64 → Dec (i ≡ 0) → accountOf (freshLink t .accounts) i .residual .0 ≡ 0
   no-residual i u (yes e) = rw e (ap (λ (a : Account). a .residual .0) root-account)
   no-residual i u (no ne) = ap (λ (a : Account). a .residual .0) (other-account i (omega arith) u)
 
--- a fresh link of a tree that obeys the plan rules is sound
+-- a fresh link of a tree that obeys the plan rules is sound (R117)
 pub fresh-sound : (t : Tree) → PlanRules t → SoundLink (freshLink t)
 fresh-sound t rules = record {
   state =
@@ -79,7 +79,7 @@ fresh-sound t rules = record {
   starts = λ i u. record { start = omega (arith, getD-replicate {A = ℕ} 64 i 0 0 u) };
 }
 
--- the link without classes is not sound
+-- the link without classes is not sound (R118)
 pub none-not-sound : SoundLink noLink → ⊥
 unfolding noClass
 none-not-sound s = not-true-and-false refl (s .state .fits .tree .closing .classes)
@@ -90,5 +90,5 @@ fresh-one-answer t a b x y =
     x .answer ∙ ap (λ (o : Bool). freshOf o t) (exactly-unique (x .exactly) (y .exactly)) ∙ sym (y .answer)
 
 -- so every arrival on it gives 11 at 0
-pub none-refuses : (i : ℕ) (p : Packet) (r : AfterArrival) → Arrives noLink i p r → r ≡ arrivalLeaves (judged (Refused 11 0)) noLink
+pub none-refuses : (i : ℕ) (p : Packet) (r : AfterArrival) → Arrives noLink i p r → r ≡ arrivalLeaves (arrivalAnswer (Refused 11 0)) noLink
 none-refuses i p r = unsound-refused noLink i p r none-not-sound

@@ -1,5 +1,7 @@
+-- Laws of the calls and of runs.
 pub mod Arrivals
 pub mod Departures
 pub mod OverParts
 pub mod FreshLinks
 pub mod Progress
+pub mod Runs

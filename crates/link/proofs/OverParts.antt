@@ -11,38 +11,38 @@ use Rattle.checks.specs.declared.Verdict.the-variants.{Passed, Refused}
 use Rattle.checks.specs.Check.{firstBroken, Exactly}
 use Rattle.state.specs.declared.Link.{Link}
 use Rattle.state.specs.declared.Packet.{Packet}
-use Rattle.state.specs.Queue.{Shaped, heldOf, slotOf}
-use Rattle.state.specs.State.{meaning, linkOf}
+use Rattle.state.specs.Queue.{Shaped, heldOf, slotOf, queued}
+use Rattle.state.specs.State.{meaning}
 use Rattle.sound.specs.Sound.{SoundLink}
 use Rattle.rules.specs.After.{Sent}
 use Rattle.steps.specs.declared.Moved.{Moved}
 use Rattle.steps.specs.Rounds.{sentWhere, Moves}
 use Rattle.link.specs.declared.Placed.{Placed}
-use Rattle.link.specs.declared.Went.{Went}
-use Rattle.link.specs.Arrival.{judged, arrivalLeaves, arrivalChecks, arrivalOf, Arrives}
+use Rattle.link.specs.declared.Changed.{Changed}
+use Rattle.link.specs.Arrival.{arrivalAnswer, arrivalLeaves, arrivalChecks, arrivalOf, Arrives}
 use Rattle.link.specs.Send.{goes, refused, sendLeaves, sendGives, sendOf}
-use Rattle.link.specs.Parts.{placedAt, laid, ArrivesIn, wentTo, goesBy, moved, SendsIn}
+use Rattle.link.specs.Parts.{placedAt, laid, ArrivesIn, changedTo, goesBy, changedLink, SendsIn}
 use Rattle.link.proofs.Arrivals.{arrival-taken, arrives-by}
 use Rattle.link.proofs.Departures.{send-goes, sends-by}
 
 -- a packet laid at no place changes no place
 pub laid-nowhere : (l : Link) (held : List ℕ) (at : ℕ) (p : Packet) → Shaped l → 2_048 ≤ at
-    → laid l held at p ≡ linkOf (l .tree) (l .size) (l .active) (l .place) (l .accounts) (l .start) held (l .lengths) (l .tags)
+    → laid l held at p ≡ queued l (l .start) held (l .lengths) (l .tags)
 laid-nowhere l held at p shape past =
     rw (set-out (l .lengths) at (p .length) (omega (arith, shape .lengths)), set-out (l .tags) at (p .tag) (omega (arith, shape .tags)))
 
 -- so where the place is none, no packet need be laid
 pub unlaid : (l : Link) (i : ℕ) (p : Packet) (r : Placed) → Shaped l → 2_048 ≤ r .at → Arrives l i p (arrivalLeaves (r .answer) (laid l (r .held) (r .at) p))
-    → Arrives l i p (arrivalLeaves (r .answer) (linkOf (l .tree) (l .size) (l .active) (l .place) (l .accounts) (l .start) (r .held) (l .lengths) (l .tags)))
+    → Arrives l i p (arrivalLeaves (r .answer) (queued l (l .start) (r .held) (l .lengths) (l .tags)))
 unlaid l i p r shape past = subst (λ (m : Link). Arrives l i p (arrivalLeaves (r .answer) m)) (laid-nowhere l (r .held) (r .at) p shape past)
 
 module _ (l : Link) (i : ℕ) (p : Packet) (flag : Bool) (exactly : Exactly flag (SoundLink l)) (r : Placed) where
   -- a refused arrival lays its packet nowhere
-  pub nowhere-arrives : (v : Verdict) → arrivalOf flag l i p ≡ arrivalLeaves (judged v) l → r ≡ placedAt v (l .held) 2_048 → ArrivesIn l i p r
+  pub nowhere-arrives : (v : Verdict) → arrivalOf flag l i p ≡ arrivalLeaves (arrivalAnswer v) l → r ≡ placedAt v (l .held) 2_048 → ArrivesIn l i p r
   nowhere-arrives v gives said shape =
       arrives-by l i p flag _ shape exactly
       (ap (λ (x : Placed). arrivalLeaves (x .answer) (laid l (x .held) (x .at) p)) said
-      ∙ ap (arrivalLeaves (judged v)) (laid-nowhere l (l .held) 2_048 p shape (omega arith))
+      ∙ ap (arrivalLeaves (arrivalAnswer v)) (laid-nowhere l (l .held) 2_048 p shape (omega arith))
       ∙ sym gives)
 
   -- an accepted one lays it behind the last of its queue
@@ -52,16 +52,16 @@ module _ (l : Link) (i : ℕ) (p : Packet) (flag : Bool) (exactly : Exactly flag
       arrives-by l i p flag _ shape exactly
       (ap (λ (x : Placed). arrivalLeaves (x .answer) (laid l (x .held) (x .at) p)) said ∙ sym (arrival-taken flag l i p passed))
 
-module _ (l : Link) (flag : Bool) (exactly : Exactly flag (SoundLink l)) (r : Went) where
+module _ (l : Link) (flag : Bool) (exactly : Exactly flag (SoundLink l)) (r : Changed) where
   -- a refused send changes no part
   pub stays-sends : (n : ℕ) → sendOf flag l ≡ sendGives (Refused n 0) l
-      → r ≡ wentTo (refused (Refused n 0)) (l .active) (l .place) (l .accounts) (l .start) (l .held) → SendsIn l r
-  stays-sends n gives said shape = sends-by l flag _ shape exactly (ap (λ (x : Went). sendLeaves (x .answer) (moved l x)) said ∙ sym gives)
+      → r ≡ changedTo (refused (Refused n 0)) (l .active) (l .place) (l .accounts) (l .start) (l .held) → SendsIn l r
+  stays-sends n gives said shape = sends-by l flag _ shape exactly (ap (λ (x : Changed). sendLeaves (x .answer) (changedLink l x)) said ∙ sym gives)
 
   -- a send that goes changes the parts of the link after it
   pub goes-sends : (m : Moved) → flag ≡ true → Moves l m → m .some ≡ true → r ≡ goesBy m → SendsIn l r
   goes-sends m on moves some said shape =
       sends-by l flag _ shape exactly
-      (ap (λ (x : Went). sendLeaves (x .answer) (moved l x)) said
+      (ap (λ (x : Changed). sendLeaves (x .answer) (changedLink l x)) said
       ∙ ap (λ (x : Sent). sendLeaves (goes (x .class) (x .packet) (x .rounds)) (x .link)) (moves .sent ∙ ap (λ (b : Bool). sentWhere b l) some)
       ∙ sym (ap (λ (b : Bool). sendOf b l) on ∙ send-goes l (sym (moves .some) ∙ some)))

@@ -30,7 +30,7 @@ module _ (l : Link) (shape : Shaped l) (sound : SoundLink l) (waits : someWaits 
     others = λ k ne. sym (queue-after k) ∙ trace-others l shape sound waits k ne;
   })
 
--- while a packet waits, a send on a sound link sends one; 15 exactly when none waits
+-- while a packet waits, a send on a sound link sends one; 15 exactly when none waits (R200)
 pub progress : (l : Link) (d : AfterSend) → SoundLink l → Sends l d → Progress l d
 progress l d sound x = subst (Progress l) (sym (sends-as l d sound x)) (record {
   sends = λ waits. sends-first l (x .shape) sound waits;

@@ -1,4 +1,4 @@
--- An arrival on any link record (document 01, "Numbers a crew can act on" and "The link's state"). Demands 1 and 2.
+-- An arrival on any link record (R153 to R158, R162). Demands 1 and 2.
 use mathlib.Core.Bool.{Bool, _||_, not}
 use mathlib.Core.List.{List, [], _∷_, _++_}
 use mathlib.Core.Path.{_≡_}
@@ -17,44 +17,45 @@ use Rattle.sound.specs.Sound.{SoundLink}
 use Rattle.link.specs.declared.Arrival.{Arrival}
 use Rattle.link.specs.declared.AfterArrival.{AfterArrival}
 
--- 12: the class is not a leaf of the plan
+-- 12: the class is not a leaf of the plan (R154)
 unfoldable pub noLeaf : State → ℕ → Bool
 noLeaf s class = not (isLeaf (s .tree) class)
 
--- 13: length 0 or above the leaf's longest
+-- 13: length 0 or above the leaf's longest (R17, R155)
 unfoldable pub badLength : State → ℕ → Packet → Bool
 badLength s class p = ltb (p .length) 1 || ltb (longestOf (s .tree) class) (p .length)
 
--- 14: that leaf already holds 32 packets
+-- 14: that leaf already holds 32 packets (R156)
 unfoldable pub full : State → ℕ → Bool
 full s class = leb 32 (length (queueAt s class))
 
--- an arrival is checked in the order 11, 12, 13, 14; 11 at 0, the others at the class
+-- an arrival is checked in the order 11, 12, 13, 14; 11 at 0, the others at the class (R153 to R157)
 abbrev pub arrivalChecks : Bool → State → ℕ → Packet → List Check
 arrivalChecks sound s class p =
     check 11 (not sound) 0 ∷ check 12 (noLeaf s class) class ∷ check 13 (badLength s class p) class ∷ check 14 (full s class) class ∷ []
 
--- an accepted packet waits last in its leaf's queue, and nothing else changes: not even the active set
+-- an accepted packet waits last in its leaf's queue, and nothing else changes: not even the active set (R144, R158)
 abbrev pub arrived : State → ℕ → Packet → State
 arrived s class p = withQueue s class (queueAt s class ++ (p ∷ []))
 
 -- the answer: the verdict
-abbrev pub judged : Verdict → Arrival
-judged verdict = record { verdict = verdict }
+abbrev pub arrivalAnswer : Verdict → Arrival
+arrivalAnswer verdict = record { verdict = verdict }
 
--- an answer and the link after it
+-- an answer and the link after it (R164)
 abbrev pub arrivalLeaves : Arrival → Link → AfterArrival
 arrivalLeaves answer link = record { answer = answer; link = link }
 
--- a refused arrival gives the very same record; an accepted one puts the packet last (`putLast` means `arrived`: proofs/Arrivals)
+-- a refused arrival gives the very same record; an accepted one puts the packet last (R158, R162, R197; `putLast` means `arrived`:
+-- proofs/Arrivals)
 abbrev pub arrivalGives : Verdict → Link → ℕ → Packet → AfterArrival
-arrivalGives Passed l class p = arrivalLeaves (judged Passed) (putLast l class p)
-arrivalGives (Refused n q) l class p = arrivalLeaves (judged (Refused n q)) l
+arrivalGives Passed l class p = arrivalLeaves (arrivalAnswer Passed) (putLast l class p)
+arrivalGives (Refused n q) l class p = arrivalLeaves (arrivalAnswer (Refused n q)) l
 
 unfoldable pub arrivalOf : Bool → Link → ℕ → Packet → AfterArrival
 arrivalOf sound l class p = arrivalGives (firstBroken (arrivalChecks sound (meaning l) class p)) l class p
 
--- what an arrival on any record gives; on a sound one it gives a sound one. A record's lists have the lengths of its arrays.
+-- what an arrival on any record gives; on a sound one it gives a sound one (R116). A record's lists have the lengths of its arrays.
 pub record Arrives (l : Link) (class : ℕ) (p : Packet) (r : AfterArrival) : Type 0 where
   pub shape : Shaped l
   pub sound : Bool

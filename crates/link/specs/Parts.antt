@@ -6,22 +6,22 @@ use Rattle.checks.specs.declared.Verdict.{Verdict}
 use Rattle.state.specs.declared.Account.{Account}
 use Rattle.state.specs.declared.Link.{Link}
 use Rattle.state.specs.declared.Packet.{Packet}
-use Rattle.state.specs.Queue.{Shaped}
-use Rattle.state.specs.State.{linkOf}
+use Rattle.state.specs.Queue.{Shaped, queued}
+use Rattle.state.specs.State.{linkInRound}
 use Rattle.steps.specs.declared.Moved.{Moved}
 use Rattle.link.specs.declared.Arrival.{Arrival}
 use Rattle.link.specs.declared.Departure.{Departure}
 use Rattle.link.specs.declared.Placed.{Placed}
-use Rattle.link.specs.declared.Went.{Went}
-use Rattle.link.specs.Arrival.{Arrives, arrivalLeaves, judged}
+use Rattle.link.specs.declared.Changed.{Changed}
+use Rattle.link.specs.Arrival.{Arrives, arrivalLeaves, arrivalAnswer}
 use Rattle.link.specs.Send.{Sends, sendLeaves, goes}
 
 abbrev pub placedAt : Verdict → List ℕ → ℕ → Placed
-placedAt verdict held at = record { answer = judged verdict; held = held; at = at }
+placedAt verdict held at = record { answer = arrivalAnswer verdict; held = held; at = at }
 
 -- the link with so many packets held, and with the packet laid at a waiting place; a place past the last is none
 abbrev pub laid : Link → List ℕ → ℕ → Packet → Link
-laid l held at p = linkOf (l .tree) (l .size) (l .active) (l .place) (l .accounts) (l .start) held (set (l .lengths) at (p .length)) (set (l .tags) at (p .tag))
+laid l held at p = queued l (l .start) held (set (l .lengths) at (p .length)) (set (l .tags) at (p .tag))
 
 -- an arrival over the parts of a link, once the packet is laid where it says
 abbrev pub ArrivesIn : Link → ℕ → Packet → Placed → Type 0
@@ -31,8 +31,8 @@ ArrivesIn l class p r = Shaped l → Arrives l class p (arrivalLeaves (r .answer
 abbrev pub ArrivesAt : Link → ℕ → Packet → Arrival → Link → Type 0
 ArrivesAt l class p answer after = Shaped l → Arrives l class p (arrivalLeaves answer after)
 
-abbrev pub wentTo : Departure → ℕ → ℕ → List Account → List ℕ → List ℕ → Went
-wentTo answer active place accounts start held = record {
+abbrev pub changedTo : Departure → ℕ → ℕ → List Account → List ℕ → List ℕ → Changed
+changedTo answer active place accounts start held = record {
   answer = answer;
   active = active;
   place = place;
@@ -42,13 +42,13 @@ wentTo answer active place accounts start held = record {
 }
 
 -- a packet that goes, and the parts of the link after it
-abbrev pub goesBy : Moved → Went
-goesBy m = wentTo (goes (m .class) (m .packet) (m .rounds)) (m .active) (m .place) (m .accounts) (m .start) (m .held)
+abbrev pub goesBy : Moved → Changed
+goesBy m = changedTo (goes (m .class) (m .packet) (m .rounds)) (m .active) (m .place) (m .accounts) (m .start) (m .held)
 
 -- the link with the parts that a send may change
-abbrev pub moved : Link → Went → Link
-moved l r = linkOf (l .tree) (l .size) (r .active) (r .place) (r .accounts) (r .start) (r .held) (l .lengths) (l .tags)
+abbrev pub changedLink : Link → Changed → Link
+changedLink l r = queued (linkInRound l (r .active) (r .place) (r .accounts)) (r .start) (r .held) (l .lengths) (l .tags)
 
 -- a send over the parts of a link
-abbrev pub SendsIn : Link → Went → Type 0
-SendsIn l r = Shaped l → Sends l (sendLeaves (r .answer) (moved l r))
+abbrev pub SendsIn : Link → Changed → Type 0
+SendsIn l r = Shaped l → Sends l (sendLeaves (r .answer) (changedLink l r))

@@ -1,4 +1,4 @@
--- What a send does to the queues (document 01, "Sending"): while a packet waits, a send on a sound state sends one. Demand 2.
+-- What a send does to the queues (R200): while a packet waits, a send on a sound state sends one. Demand 2.
 use mathlib.Core.Bool.{true, false}
 use mathlib.Core.List.{_∷_}
 use mathlib.Core.Path.{_≡_}
@@ -16,14 +16,15 @@ use Rattle.link.specs.declared.AfterSend.{AfterSend}
 abbrev pub packetOf : Departure → Packet
 packetOf d = record { length = d .length; tag = d .tag }
 
--- a send sends: it passes, its class is a leaf of the plan, its packet is the first of that leaf's queue, which loses it, and no other queue changes
+-- a send sends: it passes, its class is a leaf of the plan, its packet is the first of that leaf's queue, which loses it, and no other
+-- queue changes (R200)
 pub record SendsFirst (l : Link) (d : AfterSend) : Type 0 where
   pub passes : d .answer .verdict ≡ Passed
   pub leaf : isLeaf (l .tree) (d .answer .class) ≡ true
   pub queue : queueAt (meaning l) (d .answer .class) ≡ packetOf (d .answer) ∷ queueAt (meaning (d .link)) (d .answer .class)
   pub others : (k : ℕ) → (k ≡ d .answer .class → ⊥) → queueAt (meaning (d .link)) k ≡ queueAt (meaning l) k
 
--- while a packet waits, a send sends one; 15 exactly when none waits
+-- while a packet waits, a send sends one; 15 exactly when none waits (R200)
 pub record Progress (l : Link) (d : AfterSend) : Type 0 where
   pub sends : someWaits (meaning l) ≡ true → SendsFirst l d
   pub none : someWaits (meaning l) ≡ false → d .answer .verdict ≡ Refused 15 0

@@ -1,4 +1,5 @@
-// The calls of the library: a fresh link from a plan's tree, an arrival and a send. Entries for callers outside: they ask nothing.
+// The calls of the library (R1): a fresh link from a plan's tree, an arrival and a send. Entries for callers outside: they ask nothing
+// (R196).
 // An arrival and a send are worked out once, over the parts of a link with its waiting places lent; the calls by value take a link apart and put
 // it together.
 // Serves demand 1 (numbers 11 to 15, a refused call hands the record back unaltered) and demand 2.
@@ -11,11 +12,12 @@ ghost use Rattle.link.specs.Arrival.{Arrives};
 ghost use Rattle.checks.specs.declared.Verdict.the-variants.{Passed, Refused};
 ghost use Rattle.state.specs.State.{linkOf};
 ghost use Rattle.link.specs.Send.{refused, Sends};
-ghost use Rattle.link.specs.Parts.{placedAt, ArrivesIn, ArrivesAt, wentTo, goesBy, SendsIn};
+ghost use Rattle.link.specs.Parts.{placedAt, ArrivesIn, ArrivesAt, changedTo, goesBy, SendsIn};
 use checks::Verdict;
 use state::Account;
 use state::Link;
 use state::Packet;
+use state::queue;
 use steps::Moved;
 use tree::Tree;
 use units::Bytes;
@@ -62,7 +64,7 @@ pub struct Placed {
 }
 
 // A send over the parts of a link: its answer, and the parts that it may change.
-pub struct Went {
+pub struct Changed {
     pub answer: Departure,
     pub active: u64,
     pub place: usize,
@@ -134,7 +136,7 @@ pub fn arrive_of(
     if let Verdict::Refused(_, _) = verdict {
         return nowhere(verdict, held);
     }
-    let at = steps::free_place(class, start[class], h);
+    let at = queue::free_place(class, start[class], h);
     somewhere(held, class, at)
 }
 
@@ -220,8 +222,8 @@ fn stays(
     accounts: [Account; Link::CLASSES],
     start: [u8; Link::CLASSES],
     held: [u8; Link::CLASSES],
-) -> Went
-    ensures { λ r. ⌜ r ≡ wentTo (refused (Refused number 0)) active place accounts start held ⌝ }
+) -> Changed
+    ensures { λ r. ⌜ r ≡ changedTo (refused (Refused number 0)) active place accounts start held ⌝ }
 {
     let verdict = Verdict::Refused(number, 0);
     let answer = Departure {
@@ -231,7 +233,7 @@ fn stays(
         tag: 0,
         rounds: 0,
     };
-    Went {
+    Changed {
         answer,
         active,
         place,
@@ -242,7 +244,7 @@ fn stays(
 }
 
 // A packet goes: the parts of the link after it.
-fn goes(moved: Moved) -> Went
+fn goes(moved: Moved) -> Changed
     ensures { λ r. ⌜ r ≡ goesBy moved ⌝ }
 {
     let packet = moved.packet;
@@ -257,7 +259,7 @@ fn goes(moved: Moved) -> Went
     let accounts = moved.accounts;
     let start = moved.start;
     let held = moved.held;
-    Went {
+    Changed {
         answer,
         active: moved.active,
         place: moved.place,
@@ -278,7 +280,7 @@ pub fn send_of<'a>(
     held: [u8; Link::CLASSES],
     lengths: &'a [u16; 2048],
     tags: &'a [u32; 2048],
-) -> Went
+) -> Changed
     ensures { λ r. ⌜ SendsIn (linkOf tree size active place accounts start held (now (lengths .entry)) (now (tags .entry))) r ⌝ }
 {
     if !sound::is_sound_of(tree, size, active, place, accounts, start, held, lengths) {

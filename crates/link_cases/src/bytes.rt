@@ -1,4 +1,5 @@
-// The numbers and the texts of a command, big-endian; what lies past the input's end reads as 0. They run, and the answers are compared with the written-down ones.
+// The numbers and the texts of a command, big-endian; what lies past the input's end reads as 0. They run, and the answers are compared
+// with the written-down ones.
 ghost use Prim.Native.Nat.{_<_};
 
 // A byte, wide.

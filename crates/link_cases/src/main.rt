@@ -1,20 +1,23 @@
-// Commands on one link record, a line for each answer: fresh links, arrivals, sends and soundness of any record of numbers (demands 1 and 2); it runs, and is compared with the written-down answers.
+// Commands on one link record, a line for each answer: fresh links, arrivals, sends and soundness of any record of numbers (demands 1
+// and 2); it runs, and is compared with the written-down answers.
 mod books;
 mod bytes;
 mod fields;
-mod lines;
+mod output;
 mod same;
 
 ghost use Prim.Native.Nat.{_<_, _≤_};
+ghost use Rattle.state.specs.Queue.{startOf, heldOf};
 use bytes::number_8;
 use bytes::number_16;
 use bytes::number_32;
 use bytes::number_64;
 use libc::STDIN_FILENO;
-use lines::number;
-use lines::word;
+use output::number;
+use output::word;
 use state::Link;
 use state::Packet;
+use state::queue;
 use tree::Tree;
 
 // Commands by their first bytes, each with its body. A name: length 1, text.
@@ -65,7 +68,7 @@ fn fresh(tree: Tree) -> Link {
     let got = link::fresh(tree);
     let verdict = got.verdict;
     let after = got.link;
-    lines::verdict(b"fresh ", verdict);
+    output::verdict(b"fresh ", verdict);
     number(b" size ", after.size.0);
     word(b"\n");
     after
@@ -85,6 +88,12 @@ fn held(link: Link, class: usize) -> u64 {
     link.held[class] as u64
 }
 
+// Whether a call handed back the very same record; the record after it.
+fn compared(before: Link, after: Link) -> Link {
+    output::either(same::same_link(before, after), b" same\n", b" changed\n");
+    after
+}
+
 // An arrival, and whether the record came back the very same.
 fn arrive(before: Link, command: &[u8]) -> Link {
     let class = number_64(command, 1) as usize;
@@ -95,10 +104,9 @@ fn arrive(before: Link, command: &[u8]) -> Link {
     let answer = got.answer;
     let verdict = answer.verdict;
     let after = got.link;
-    lines::verdict(b"in ", verdict);
+    output::verdict(b"in ", verdict);
     number(b" held ", held(after, class));
-    lines::either(same::same_link(before, after), b" same\n", b" changed\n");
-    after
+    compared(before, after)
 }
 
 // A packet that left.
@@ -114,7 +122,22 @@ fn untaken(link: Link) -> Link {
     link
 }
 
-// The first packet of a class leaves, where there is one.
+// The first packet of a class leaves.
+fn left(mut link: Link, class: usize) -> Link
+    requires { ⌜ (class < 64) × (startOf link class < 32) × (1 ≤ heldOf link class) ⌝ }
+{
+    let mut start = link.start;
+    let mut held = link.held;
+    let lengths = link.lengths;
+    let tags = link.tags;
+    took(queue::first(class, &start, &lengths, &tags));
+    queue::take(class, &mut start, &mut held);
+    link.start = start;
+    link.held = held;
+    link
+}
+
+// It does where there is one.
 fn take(before: Link, command: &[u8]) -> Link {
     let class = number_64(command, 1) as usize;
     if 63 < class {
@@ -126,8 +149,7 @@ fn take(before: Link, command: &[u8]) -> Link {
     if 31 < before.start[class] {
         return untaken(before);
     }
-    took(before.first(class));
-    before.take(class)
+    left(before, class)
 }
 
 // A value stored into one number of the record.
@@ -139,13 +161,13 @@ fn store(before: Link, command: &[u8]) -> Link {
 
 // Whether the record is sound.
 fn sound(link: Link) -> Link {
-    lines::either(sound::is_sound(link), b"sound yes\n", b"sound no\n");
+    output::either(sound::is_sound(link), b"sound yes\n", b"sound no\n");
     link
 }
 
 // Whether the record is the very same as the kept one.
 fn compare(link: Link, kept: Link) -> Link {
-    lines::either(
+    output::either(
         same::same_link(link, kept),
         b"kept same\n",
         b"kept changed\n",
@@ -158,14 +180,12 @@ fn send(before: Link) -> Link {
     let got = link::send(before);
     let answer = got.answer;
     let verdict = answer.verdict;
-    let after = got.link;
-    lines::verdict(b"out ", verdict);
+    output::verdict(b"out ", verdict);
     number(b" class ", answer.class as u64);
     number(b" length ", answer.length as u64);
     number(b" tag ", answer.tag as u64);
     number(b" rounds ", answer.rounds as u64);
-    lines::either(same::same_link(before, after), b" same\n", b" changed\n");
-    after
+    compared(before, got.link)
 }
 
 // The record after a command.
@@ -228,21 +248,23 @@ fn run(input: &[u8]) {
     let mut kept = Link::none();
     let mut at: usize = 0;
     while at < input.len() {
-        link = after(link, kept, &input[at..]);
-        kept = kept_after(link, kept, &input[at..]);
-        at = next(at, size(&input[at..]), input.len());
+        let command = &input[at..];
+        link = after(link, kept, command);
+        kept = kept_after(link, kept, command);
+        at = next(at, size(command), input.len());
     }
 }
 
 // The most bytes of commands.
-const MOST: usize = 131_072;
+const MOST: usize = 98_304;
+
+// Every command of standard input, read into the room that is lent.
+fn run_read(room: &mut [u8]) {
+    let n = io::read_full(STDIN_FILENO, room);
+    run(&room[..n]);
+}
 
 fn main() {
-    let mut input = [0u8; MOST + 1];
-    let n = io::read_full(STDIN_FILENO, &mut input);
-    if MOST < n {
-        word(b"too long\n");
-        return;
-    }
-    run(&input[..n]);
+    let mut room = [0u8; MOST];
+    run_read(&mut room);
 }

@@ -1,78 +1,43 @@
-// Whether two link records are the very same, number by number, in all their waiting places; it runs, and is compared with the written-down answers.
+// Whether two link records are the very same, number by number, in all their waiting places; it runs, and is compared with the
+// written-down answers.
 use state::Account;
 use state::Link;
 use tree::Tree;
-use units::Weight;
 
-// The same bytes.
-fn same_bytes(a: &[u8], b: &[u8]) -> bool {
-    let mut i: usize = 0;
-    while i < a.len() {
-        if b.len() <= i {
-            return false;
-        }
-        if a[i] != b[i] {
-            return false;
-        }
-        i += 1;
-    }
-    a.len() == b.len()
+// The same account.
+fn same_account(a: Account, b: Account) -> bool {
+    (a.balance.0 == b.balance.0) & (a.residual.0 == b.residual.0)
 }
 
-// The same lengths.
-fn same_lengths(a: &[u16], b: &[u16]) -> bool {
-    let mut i: usize = 0;
-    while i < a.len() {
-        if b.len() <= i {
-            return false;
-        }
-        if a[i] != b[i] {
-            return false;
-        }
-        i += 1;
-    }
-    a.len() == b.len()
-}
-
-// The same tags.
-fn same_tags(a: &[u32], b: &[u32]) -> bool {
-    let mut i: usize = 0;
-    while i < a.len() {
-        if b.len() <= i {
-            return false;
-        }
-        if a[i] != b[i] {
-            return false;
-        }
-        i += 1;
-    }
-    a.len() == b.len()
-}
-
-// The same weights.
-fn same_weights(a: [Weight; 64], b: [Weight; 64]) -> bool {
+// The same in every class number of the tree.
+fn same_classes(a: Tree, b: Tree) -> bool {
     for i in 0..64 {
-        let x = a[i];
-        let y = b[i];
-        if x.0 != y.0 {
+        let x = a.weight[i];
+        let y = b.weight[i];
+        if (a.parent[i] != b.parent[i]) | (x.0 != y.0) | (a.longest[i] != b.longest[i]) {
             return false;
         }
     }
     true
 }
 
-// The same account.
-fn same_account(a: Account, b: Account) -> bool {
-    if a.balance.0 != b.balance.0 {
-        return false;
+// The same in every account and every queue's start and count.
+fn same_queues(a: Link, b: Link) -> bool {
+    for i in 0..64 {
+        if !same_account(a.accounts[i], b.accounts[i]) {
+            return false;
+        }
+        if (a.start[i] != b.start[i]) | (a.held[i] != b.held[i]) {
+            return false;
+        }
     }
-    a.residual.0 == b.residual.0
+    true
 }
 
-// The same accounts.
-fn same_accounts(a: [Account; 64], b: [Account; 64]) -> bool {
-    for i in 0..64 {
-        if !same_account(a[i], b[i]) {
+// The same in every waiting place.
+fn same_places(a: Link, b: Link) -> bool {
+    for i in 0..2048 {
+        if (a.lengths[i] != b.lengths[i]) | (a.tags[i] != b.tags[i]) {
             return false;
         }
     }
@@ -81,55 +46,22 @@ fn same_accounts(a: [Account; 64], b: [Account; 64]) -> bool {
 
 // The same tree.
 fn same_tree(a: Tree, b: Tree) -> bool {
-    if a.count != b.count {
+    if (a.count != b.count) | (a.leaves != b.leaves) {
         return false;
     }
-    if a.leaves != b.leaves {
-        return false;
-    }
-    if !same_bytes(&a.parent, &b.parent) {
-        return false;
-    }
-    if !same_weights(a.weight, b.weight) {
-        return false;
-    }
-    same_lengths(&a.longest, &b.longest)
-}
-
-// The same queues, in the same places, and the same in every other place.
-fn same_queues(a: Link, b: Link) -> bool {
-    if !same_bytes(&a.start, &b.start) {
-        return false;
-    }
-    if !same_bytes(&a.held, &b.held) {
-        return false;
-    }
-    if !same_lengths(&a.lengths, &b.lengths) {
-        return false;
-    }
-    same_tags(&a.tags, &b.tags)
+    same_classes(a, b)
 }
 
 // The same link record.
 pub(crate) fn same_link(a: Link, b: Link) -> bool {
-    if a.size.0 != b.size.0 {
+    if (a.size.0 != b.size.0) | (a.active != b.active) | (a.place != b.place) {
         return false;
     }
-    if a.active != b.active {
+    if !same_tree(a.tree, b.tree) {
         return false;
     }
-    if a.place != b.place {
+    if !same_queues(a, b) {
         return false;
     }
-    let ours = a.tree;
-    let theirs = b.tree;
-    if !same_tree(ours, theirs) {
-        return false;
-    }
-    let held = a.accounts;
-    let kept = b.accounts;
-    if !same_accounts(held, kept) {
-        return false;
-    }
-    same_queues(a, b)
+    same_places(a, b)
 }

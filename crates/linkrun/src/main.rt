@@ -1,8 +1,8 @@
-// A whole run: a plan and its events from standard input, one line for each thing (document 01, "A whole run"); run and compared with the listing.
-// It reads, calls and writes, part by part; the lines are those of `run`. Serves demands 1 and 2.
+// A whole run: a plan and its events from standard input, one line for each thing (R185 to R195); run and compared with the listing.
+// It reads, calls and writes, part by part; the lines are those of `run` and `parts`. Serves demands 1 and 2.
 use libc::STDIN_FILENO;
 use libc::STDOUT_FILENO;
-use run::PartRun;
+use parts::PartRun;
 
 // The bytes of a part at most.
 const TEXT: usize = 65_536;
@@ -21,7 +21,7 @@ fn whole(input: &[u8]) {
     };
     let mut text = [0u8; TEXT];
     while part.more {
-        part = run::part(part.link, input, part.place, &mut text);
+        part = parts::part(part.link, input, part.place, &mut text);
         let laid = part.laid;
         io::write_all(STDOUT_FILENO, &text[..laid]);
     }

@@ -1,4 +1,4 @@
--- M1 to M12 and the listing of document 01, "A whole run": what the definitions give is what the table has. Demands 1 and 2.
+-- M1 to M12 and the listing: what the definitions give is what the table has. Demands 1 and 2.
 use mathlib.Core.List.{map}
 use mathlib.Core.Path.{_≡_, refl}
 use Rattle.checks.specs.Check.{firstBroken, classByClass}
@@ -18,13 +18,14 @@ use Rattle.rules.specs.Opening.{surplusAt, hasSurplus, kindOf, quotaIn, quota, 
 use Rattle.rules.specs.Sending.{ready, firstFrom, nextLeaf, givenUp, turnsOff, paid, booksAfter, sentState, turnOf, sends, traceOf}
 use Rattle.link.specs.Arrival.{noLeaf, badLength, full, arrivalOf}
 use Rattle.link.specs.Send.{sendOf}
-use Rattle.marked.specs.Run.{readOf, accountsOf, openingOf, openingAt, classesIn, waitingIn, AllRight}
+use Rattle.link.specs.Run.{runOf, madeIn, closedIn, waitingIn}
+use Rattle.marked.specs.Run.{readOf, accountsOf, openingOf, classesIn, callsIn, exchangesOf, AllRight}
 use Rattle.marked.specs.Table.{markedCases}
-use Rattle.marked.proofs.Computed.{answersOf, callsOn, found, expected, all-right}
+use Rattle.marked.proofs.Computed.{exchangesOn, found, expected, all-right}
 
 -- by computing all the definitions named here
 computed : map found markedCases ≡ map expected markedCases
-unfolding markedCases found expected readOf accountsOf openingOf openingAt classesIn waitingIn answersOf callsOn
+unfolding markedCases found expected readOf accountsOf openingOf classesIn callsIn exchangesOf exchangesOn
     firstBroken classByClass has with without costOf
     isClass isLeaf isInner isChild childWeight childrenWeight hasChild sumTo someTo allWeights longestCost allLongest roundSize
     tooMany badParent badWeight badLongest tooHeavy childless noClass
@@ -32,7 +33,7 @@ unfolding markedCases found expected readOf accountsOf openingOf openingAt class
     table queueOf climbs atOrBelow waits someWaits someBelow setOf upward roundActive activeChild activeWeight weightSum
     surplusAt hasSurplus kindOf quotaIn quota due handsDown openedLeaf openedInner openedAccount openedAccounts nextKind opened
     ready firstFrom nextLeaf givenUp turnsOff paid booksAfter sentState turnOf sends traceOf
-    noLeaf badLength full arrivalOf sendOf
+    noLeaf badLength full arrivalOf sendOf runOf madeIn closedIn waitingIn
 computed = refl
 
 -- each is right of every run of the library

@@ -1,3 +1,3 @@
--- The marked cases of document 01: what a run gives, and the table.
+-- The marked cases: what a run gives, and the table.
 pub mod Run
 pub mod Table

@@ -1,17 +1,27 @@
--- The listing and the marked cases M1 to M12 of document 01, "A whole run", worked anew with charges (document 02, E2), and three more for what M4, M5
--- and M7 showed before: the input, the calls, and what each of them is to give. Demands 1 and 2.
+-- The listing and the marked cases M1 to M12, worked with charges (R15, R16), and three more: two rounds in a send, a leaf that turned
+-- inactive, a surplus round that sends. The input, the calls, and what each of them is to give. Demands 1 and 2.
 use mathlib.Core.List.{List, [], _∷_, _++_}
 use Prim.Native.Nat.{ℕ}
 use lib.ListN.{replicate}
 use Rattle.checks.specs.declared.Verdict.the-variants.{Passed, Refused}
 use Rattle.state.specs.Queue.{table}
 use Rattle.rules.specs.Opening.{main, surplus}
-use Rattle.marked.specs.Run.{Read, arrival, send, opening, show, end, Opening, Answer, arrived, sent, opened, shown, waiting, Step, _⟶_, Entry}
+use Rattle.link.specs.declared.Arrival.{Arrival}
+use Rattle.link.specs.declared.Departure.{Departure}
+use Rattle.link.specs.Run.{arrival as arrives, send as sends}
+use Rattle.marked.specs.Run.{Read, opening, show, end, Accounts, Opening, Shown, Ask, call, look, Exchange, _⟶_, Entry}
 
--- the run of an entry, and more calls after it
+-- the run of an entry, and more after it
 infixl 60 _then_
-abbrev _then_ : Entry → List Step → Entry
-e then steps = record { input = e .input; read = e .read; steps = e .steps ++ steps }
+abbrev _then_ : Entry → List Exchange → Entry
+e then exchanges = record { input = e .input; read = e .read; exchanges = e .exchanges ++ exchanges }
+
+-- the calls: an arrival of a packet with this class, length and tag, or a send
+abbrev arrival : ℕ → ℕ → ℕ → Ask
+arrival class length tag = call (arrives class (record { length = length; tag = tag }))
+
+abbrev send : Ask
+send = call sends
 
 -- answers by short names: a plan's classes, Q and bytes used, or its refusal; a packet taken or refused; a packet out with its rounds, or none
 abbrev accepted : ℕ → ℕ → ℕ → Read
@@ -20,17 +30,21 @@ accepted classes size used = record { verdict = Passed; used = used; classes = c
 abbrev stop : ℕ → ℕ → Read
 stop number place = record { verdict = Refused number place; used = 0; classes = 0; size = 0 }
 
-abbrev taken : Answer
-taken = arrived Passed
+abbrev taken : Arrival
+taken = record { verdict = Passed }
 
-abbrev refused : ℕ → ℕ → Answer
-refused number place = arrived (Refused number place)
+abbrev refused : ℕ → ℕ → Arrival
+refused number place = record { verdict = Refused number place }
 
-abbrev out : ℕ → ℕ → ℕ → ℕ → Answer
-out class length tag rounds = sent Passed class length tag rounds
+abbrev out : ℕ → ℕ → ℕ → ℕ → Departure
+out class length tag rounds = record { verdict = Passed; class = class; length = length; tag = tag; rounds = rounds }
 
-abbrev none : Answer
-none = sent (Refused 15 0) 0 0 0 0
+abbrev none : Departure
+none = record { verdict = Refused 15 0; class = 0; length = 0; tag = 0; rounds = 0 }
+
+-- who is active, and the accounts
+abbrev shown : List ℕ → Accounts → Shown
+shown active accounts = record { active = active; accounts = accounts }
 
 -- numbers of classes 0 to 4, and 0 for every other class number
 abbrev these : List ℕ → List ℕ
@@ -51,26 +65,26 @@ treeWith weight =
 
 -- M1 the plan is accepted, Q 262, 31 bytes used.
 abbrev m1 : Entry
-m1 = record { input = treeWith 3; read = accepted 4 262 31; steps = [] }
+m1 = record { input = treeWith 3; read = accepted 4 262 31; exchanges = [] }
 
 -- The listing: four arrivals, five sends, and no packet left.
-abbrev arrivals : List Step
+abbrev arrivals : List Exchange
 arrivals = arrival 2 2 1 ⟶ taken ∷ arrival 3 10 2 ⟶ taken ∷ arrival 3 10 3 ⟶ taken ∷ arrival 4 10 4 ⟶ taken ∷ []
 
-abbrev firstSend : List Step
+abbrev firstSend : List Exchange
 firstSend = send ⟶ out 4 10 4 1 ∷ []
 
-abbrev twoMore : List Step
+abbrev twoMore : List Exchange
 twoMore = send ⟶ out 2 2 1 1 ∷ send ⟶ out 3 10 2 0 ∷ []
 
-abbrev fourthSend : List Step
+abbrev fourthSend : List Exchange
 fourthSend = send ⟶ out 3 10 3 0 ∷ []
 
-abbrev lastSend : List Step
+abbrev lastSend : List Exchange
 lastSend = send ⟶ none ∷ []
 
 abbrev listing : Entry
-listing = m1 then arrivals then firstSend then twoMore then fourthSend then lastSend then (end ⟶ waiting 0 ∷ [])
+listing = m1 then arrivals then firstSend then twoMore then fourthSend then lastSend then (look end ⟶ 0 ∷ [])
 
 -- M2 the first opening: quotas 37 (root) and 37 (class 1); balances of classes 0 to 4: 3, 0, 37, 74, 148.
 abbrev firstOpening : Opening
@@ -82,31 +96,31 @@ firstOpening = record {
 }
 
 abbrev m2 : Entry
-m2 = m1 then arrivals then (opening 0 ⟶ opened (firstOpening ∷ []) ∷ []) then firstSend
+m2 = m1 then arrivals then (look (opening 0) ⟶ (firstOpening ∷ []) ∷ []) then firstSend
 
 -- M3 after the first send: root B 87, R 64; class 4 is inactive.
-abbrev afterFirst : Answer
+abbrev afterFirst : Shown
 afterFirst = shown (0 ∷ 1 ∷ 2 ∷ 3 ∷ []) (record { B = these (87 ∷ 0 ∷ 37 ∷ 74 ∷ 0 ∷ []); R = these (64 ∷ 0 ∷ 0 ∷ 0 ∷ 0 ∷ []) })
 
 abbrev m3 : Entry
-m3 = m1 then arrivals then firstSend then (show ⟶ afterFirst ∷ [])
+m3 = m1 then arrivals then firstSend then (look show ⟶ afterFirst ∷ [])
 
 -- M4 the fourth send opens no surplus round: class 3 has B 90, and its packet costs 84; class 1 R 3.
 abbrev m4 : Entry
 m4 = m1 then arrivals then firstSend then twoMore then
-    (show ⟶ shown (0 ∷ 1 ∷ 3 ∷ []) (record { B = these (169 ∷ 0 ∷ 0 ∷ 90 ∷ 0 ∷ []); R = these (0 ∷ 3 ∷ 0 ∷ 0 ∷ 0 ∷ []) })
-    ∷ opening 0 ⟶ opened []
+    (look show ⟶ shown (0 ∷ 1 ∷ 3 ∷ []) (record { B = these (169 ∷ 0 ∷ 0 ∷ 90 ∷ 0 ∷ []); R = these (0 ∷ 3 ∷ 0 ∷ 0 ∷ 0 ∷ []) })
+    ∷ look (opening 0) ⟶ []
     ∷ [])
     then fourthSend
 
 -- M5 nor does it open a main round after one.
 abbrev m5 : Entry
-m5 = m1 then arrivals then firstSend then twoMore then (opening 1 ⟶ opened [] ∷ []) then fourthSend
+m5 = m1 then arrivals then firstSend then twoMore then (look (opening 1) ⟶ [] ∷ []) then fourthSend
 
 -- M6 at the end: root B 253, R 9, all else 0.
 abbrev m6 : Entry
 m6 = m1 then arrivals then firstSend then twoMore then fourthSend then lastSend then
-    (show ⟶ shown [] (record { B = these (253 ∷ 0 ∷ 0 ∷ 0 ∷ 0 ∷ []); R = these (9 ∷ 0 ∷ 0 ∷ 0 ∷ 0 ∷ []) }) ∷ [])
+    (look show ⟶ shown [] (record { B = these (253 ∷ 0 ∷ 0 ∷ 0 ∷ 0 ∷ []); R = these (9 ∷ 0 ∷ 0 ∷ 0 ∷ 0 ∷ []) }) ∷ [])
 
 -- M7 an arrival (class 2, length 1, tag 5) after the first send: the next three sends give tags 1, 2, 3, the first with 1 round opened, a main round.
 -- The arrival itself changes nothing that shows.
@@ -120,7 +134,7 @@ secondOpening = record {
 
 abbrev m7 : Entry
 m7 = m1 then arrivals then firstSend then
-    (arrival 2 1 5 ⟶ taken ∷ show ⟶ afterFirst ∷ opening 0 ⟶ opened (secondOpening ∷ []) ∷ [])
+    (arrival 2 1 5 ⟶ taken ∷ look show ⟶ afterFirst ∷ look (opening 0) ⟶ (secondOpening ∷ []) ∷ [])
     then twoMore then fourthSend
 
 -- Two rounds in a send: M7's run one send longer gives tag 5. Its surplus round sends nothing: class 1 quota 6, class 2 B 9; the main round after it has
@@ -142,7 +156,7 @@ mainOpening = record {
 }
 
 abbrev twoRounds : Entry
-twoRounds = m7 then (opening 0 ⟶ opened (surplusOpening ∷ []) ∷ opening 1 ⟶ opened (mainOpening ∷ []) ∷ send ⟶ out 2 1 5 2 ∷ [])
+twoRounds = m7 then (look (opening 0) ⟶ (surplusOpening ∷ []) ∷ look (opening 1) ⟶ (mainOpening ∷ []) ∷ send ⟶ out 2 1 5 2 ∷ [])
 
 -- A leaf that turned inactive: an arrival (class 4, length 10, tag 5) after the first send leaves class 4 inactive, and waits for the next round. That one
 -- opens in the next send, with class 4 in it: quotas 21 and 21, class 4 B 84.
@@ -157,8 +171,8 @@ rejoins = record {
 abbrev nextRound : Entry
 nextRound = m1 then arrivals then firstSend then
     (arrival 4 10 5 ⟶ taken
-    ∷ show ⟶ afterFirst
-    ∷ opening 0 ⟶ opened (rejoins ∷ [])
+    ∷ look show ⟶ afterFirst
+    ∷ look (opening 0) ⟶ (rejoins ∷ [])
     ∷ send ⟶ out 3 10 2 1
     ∷ send ⟶ out 4 10 5 0
     ∷ [])
@@ -179,21 +193,21 @@ surplusRound = m1 then
     ∷ arrival 2 10 3 ⟶ taken
     ∷ send ⟶ out 2 10 1 1
     ∷ send ⟶ out 3 10 2 0
-    ∷ opening 0 ⟶ opened (surplusSends ∷ [])
+    ∷ look (opening 0) ⟶ (surplusSends ∷ [])
     ∷ send ⟶ out 2 10 3 1
     ∷ [])
 
 -- M8 empty input: 1 at 0.
 abbrev m8 : Entry
-m8 = record { input = []; read = stop 1 0; steps = [] }
+m8 = record { input = []; read = stop 1 0; exchanges = [] }
 
 -- M9 the single byte 0: 9 at 0.
 abbrev m9 : Entry
-m9 = record { input = 0 ∷ []; read = stop 9 0; steps = [] }
+m9 = record { input = 0 ∷ []; read = stop 9 0; exchanges = [] }
 
 -- M10 class 1 with weight 2: 7 at 1.
 abbrev m10 : Entry
-m10 = record { input = treeWith 2; read = stop 7 1; steps = [] }
+m10 = record { input = treeWith 2; read = stop 7 1; exchanges = [] }
 
 -- M11 arrivals to class 4 of length 0 and 11: 13; of length 10: taken. To class 1: 12.
 abbrev m11 : Entry

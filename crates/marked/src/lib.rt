@@ -1,1 +1,1 @@
-// The marked cases M1 to M12 of document 01: a table, and one statement that the definitions give it. No code.
+// The marked cases M1 to M12: a table, and one statement that the definitions give it. No code.

@@ -50,7 +50,7 @@ event-given rest = go (givesArrival (kindAt rest))
     go true = refl
     go false = refl
 
--- document 01's number of an event record: that of the first check broken, in the order 2, 1; the end of input between events has none
+-- the number of an event record: that of the first check broken, in the order 2, 1 (R65); the end of input between events has none (R66)
 pub event-number : (rest : List ℕ) (place : ℕ) → missing rest ≡ false → verdictOf (eventAt rest place) ≡ firstBroken (eventChecks rest place)
 unfolding eventAt
 event-number rest place e = rw e (go (firstBroken (eventChecks rest place)))

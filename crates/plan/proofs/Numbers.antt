@@ -108,8 +108,8 @@ deciding s =
         off false e = refl
 
 -- a refusal with another's number and place
-moved : (s : List ℕ) {m q n p : ℕ} → Refused m q ≡ Refused n p → Row s m q → Row s n p
-moved s {m} {q} {n} {p} e r =
+same-row : (s : List ℕ) {m q n p : ℕ} → Refused m q ≡ Refused n p → Row s m q → Row s n p
+same-row s {m} {q} {n} {p} e r =
     let a : m ≡ n = cc in
     let b : q ≡ p = cc in
     rw (← a, ← b) r
@@ -127,7 +127,7 @@ module _ (s : List ℕ) (k : ℕ) {n p : ℕ} where
   -- after the end record
   from-closing : EndRecord s k → firstBroken (closingChecks (treeOf s k)) ≡ Refused n p → Row s n p
   from-closing r e =
-      ⊎-elim (λ h. moved s (h .1) (row9 k r (h .0))) (λ h. classes (h .0) (classes-which (closingOf t) (t .count) (h .1)))
+      ⊎-elim (λ h. same-row s (h .1) (row9 k r (h .0))) (λ h. classes (h .0) (classes-which (closingOf t) (t .count) (h .1)))
       (broken-or-later (check 9 (noClass t) 0) _ e)
     where
       t : Tree
@@ -143,24 +143,24 @@ module _ (s : List ℕ) (k : ℕ) {n p : ℕ} where
             children = λ i l u. closing-passed t i (w .3 i l u) .0;
             shares = λ i l u. closing-passed t i (w .3 i l u) .1;
           } in
-          ⊎-elim (λ h. moved s (h .1) (row8 k c r a is below (h .0)))
+          ⊎-elim (λ h. same-row s (h .1) (row8 k c r a is below (h .0)))
           (λ h.
-          ⊎-elim (λ g. moved s (g .1) (row7 k c r a is below (h .0) (g .0))) (λ g. absurd (not-both none-broken (g .1)))
+          ⊎-elim (λ g. same-row s (g .1) (row7 k c r a is below (h .0) (g .0))) (λ g. absurd (not-both none-broken (g .1)))
           (broken-or-later (check 7 (tooHeavy t c) c) [] (h .1)))
           (broken-or-later (check 8 (childless t c) c) _ (w .4))
 
   -- the class of a class record
   from-class : ClassRecord s k → passes s k ≡ false → firstBroken (checksOf s k) ≡ Refused n p → Row s n p
   from-class r off e =
-      ⊎-elim (λ h. moved s (h .1) (row3 k r (h .0)))
+      ⊎-elim (λ h. same-row s (h .1) (row3 k r (h .0)))
       (λ h3.
-      ⊎-elim (λ h. moved s (h .1) (row4 k r (h3 .0) (last badParent true (h .0))))
+      ⊎-elim (λ h. same-row s (h .1) (row4 k r (h3 .0) (last badParent true (h .0))))
       (λ h4.
-      ⊎-elim (λ h. moved s (h .1) (row5 k r (h3 .0) (last badParent false (h4 .0)) (last badWeight true (h .0))))
+      ⊎-elim (λ h. same-row s (h .1) (row5 k r (h3 .0) (last badParent false (h4 .0)) (last badWeight true (h .0))))
       (λ h5.
       ⊎-elim
       (λ h.
-      moved s (h .1) (row6 k r (h3 .0) (last badParent false (h4 .0)) (last badWeight false (h5 .0)) (last badLongest true (h .0))))
+      same-row s (h .1) (row6 k r (h3 .0) (last badParent false (h4 .0)) (last badWeight false (h5 .0)) (last badLongest true (h .0))))
       (λ h6. absurd (not-both none-broken (h6 .1)))
       (broken-or-later (check 6 (badLongest t (t .count)) (after s k)) [] (h5 .1)))
       (broken-or-later (check 5 (badWeight t (t .count)) (after s k)) _ (h4 .1)))
@@ -177,11 +177,11 @@ module _ (s : List ℕ) (k : ℕ) {n p : ℕ} where
   from-head : Reached s k → passes s k ≡ false → firstBroken (checksOf s k) ≡ Refused n p → Row s n p
   unfolding recordChecks
   from-head reached off e =
-      ⊎-elim (λ h. moved s (h .1) (row1-before k reached (h .0)))
+      ⊎-elim (λ h. same-row s (h .1) (row1-before k reached (h .0)))
       (λ h1.
-      ⊎-elim (λ h. moved s (h .1) (row2 k reached (h1 .0) (h .0)))
+      ⊎-elim (λ h. same-row s (h .1) (row2 k reached (h1 .0) (h .0)))
       (λ h2.
-      ⊎-elim (λ h. moved s (h .1) (row1-inside k reached (h1 .0) (h2 .0) (h .0)))
+      ⊎-elim (λ h. same-row s (h .1) (row1-inside k reached (h1 .0) (h2 .0) (h .0)))
       (λ h3. whole (record { reached = reached; there = h1 .0; known = h2 .0; whole = h3 .0 }) (givesClass (kindAt (restOf s k))) refl)
       (broken-or-later (check 1 (cut (restOf s k)) (after s k)) _ (h2 .1)))
       (broken-or-later (check 2 (unknown Plan (restOf s k)) (after s k)) _ (h1 .1)))
@@ -211,7 +211,7 @@ gives-row s e =
     let d = deciding s in
     from-record s (passedOver s) (d .0) (d .1) (sym (outcome-verdict (firstBroken (decidingChecks s (passedOver s))) (treeOf s (passedOver s)) (after s (passedOver s) + 1)) ∙ e)
 
--- number n at place p exactly when its row says so
+-- number n at place p exactly when its row says so (R63)
 pub number-exactly : (s : List ℕ) (n p : ℕ) → (planOf s .verdict ≡ Refused n p) ↔ Row s n p
 number-exactly s n p = (gives-row s, row-gives s n p)
 

@@ -35,7 +35,7 @@ use Rattle.plan.specs.Steps.{ClassSays, WholeSays, StepSays}
 pub rest-part : (s : List ℕ) (place : ℕ) → take (length s - place) (drop place s) ≡ drop place s
 rest-part s place = take-all (length s - place) (drop place s) (omega (arith, length-drop place s))
 
--- the checks of a record, by the rows of its head
+-- the checks of a record, by the numbers of its head
 module _ (s : List ℕ) (place : ℕ) (t : Tree) where
   pub record-missing : missing (drop place s) ≡ true → firstBroken (recordChecks s place t) ≡ Refused 1 (length s)
   unfolding recordChecks
@@ -135,7 +135,7 @@ pass-refused s k e = rw e (and-no (givesClass (kindAt (drop (after s k) s))))
     and-no true = refl
     and-no false = refl
 
--- a record that passes breaks no row of its head, and its class none of the rows 3 to 6
+-- a record that passes breaks no number of its head, and its class none of the numbers 3 to 6
 pub record Taken (s : List ℕ) (k : ℕ) (t : Tree) : Type 0 where
   pub there : missing (drop (after s k) s) ≡ false
   pub known : unknown Plan (drop (after s k) s) ≡ false
@@ -163,7 +163,7 @@ unfolding tooMany
 room-left s k e =
     omega (arith, tree-count s k, ltb-false 63 (treeOf s k .count + 1) (taken s k e .few))
 
--- the tree of records that pass: no class breaks rows 4, 5 and 6
+-- the tree of records that pass: no class breaks numbers 4, 5 and 6
 pub tree-passes : (s : List ℕ) (k : ℕ) → ((j : ℕ) → j < k → passes s j ≡ true) → ClassesPass (treeOf s k)
 unfolding treeOf
 tree-passes s zero h = none-pass

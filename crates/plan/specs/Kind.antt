@@ -1,5 +1,5 @@
--- The table of kinds (document 01, "The plan's bytes"): kind byte, length of the body, where the kind may stand, what its record
--- gives. A kind is one row here, and one in the code's table (src/kind.rt). Demand 1.
+-- The table of kinds (R40 to R47): kind byte, length of the body, where the kind may stand, what its record gives. A kind is one row here,
+-- and one in the code's table (src/kind.rt). Demand 1.
 use mathlib.Core.Bool.{Bool, true, false, cond}
 use Prim.Native.Nat.{ℕ}
 use lib.Dec.{eqb}
@@ -14,7 +14,7 @@ abbrev pub kindRow : ℕ → Bool → Bool → Given → RecordKind
 kindRow body plan events gives = record { body = body; plan = plan; events = events; gives = gives }
 
 -- the kind of a kind byte. Bodies: of an inner class parent 1, weight 4; of a leaf parent 1, weight 4, longest 2; of an arrival
--- class 1, length 2, tag 4; of the others none. Any other byte is unknown
+-- class 1, length 2, tag 4; of the others none. Any other byte is unknown (R40 to R47)
 unfoldable pub recordKind : ℕ → RecordKind
 recordKind byte =
     cond (eqb byte 0) (kindRow 0 true false End)
@@ -24,7 +24,7 @@ recordKind byte =
     (cond (eqb byte 17) (kindRow 0 false true Send)
     (kindRow 0 false false Nothing)))))
 
--- where a kind may stand
+-- where a kind may stand (R47)
 abbrev pub standsIn : Section → RecordKind → Bool
 standsIn Plan k = k .plan
 standsIn Events k = k .events
@@ -54,7 +54,7 @@ arrivalGiven Arrival = true
 arrivalGiven Send = false
 arrivalGiven Nothing = false
 
--- so of the record of a kind
+-- so of the record of a kind (R43, R44, R50)
 abbrev pub givesClass : RecordKind → Bool
 givesClass k = classGiven (k .gives)
 

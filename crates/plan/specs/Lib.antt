@@ -1,4 +1,4 @@
--- The plan's bytes and the event records of document 01.
+-- The plan's bytes and the event records (R40 to R67).
 pub mod Kind
 pub mod Record
 pub mod Reader

@@ -1,4 +1,4 @@
--- What the reader says of any bytes: class records and one end record, checked in the order of document 01. Demand 1.
+-- What the reader says of any bytes: class records and one end record, checked in a fixed order (R50 to R62). Demand 1.
 use mathlib.Core.Bool.{Bool, cond, _&&_}
 use mathlib.Core.List.{List, [], _∷_, _++_}
 use Prim.Native.Nat.{ℕ, zero, suc, _+_}
@@ -16,12 +16,13 @@ use Rattle.plan.specs.Kind.{givesClass}
 use Rattle.plan.specs.Record.{kindAt, missing, unknown, cut, classAt}
 
 -- the record at a place (the first stands at 0) is checked in the order 2, 1, 3, 4, 5, 6; a missing kind byte is 1, at the input's length
+-- (R53 to R55, R58)
 abbrev pub headChecks : List ℕ → ℕ → List Check
 headChecks input place =
     let rest = drop place input in
     check 1 (missing rest) (length input) ∷ check 2 (unknown Plan rest) place ∷ check 1 (cut rest) place ∷ []
 
--- t is the tree with the class that the record gives, its last
+-- t is the tree with the class that the record gives, its last (R56 to R58)
 abbrev pub newClassChecks : Tree → ℕ → List Check
 newClassChecks t place = check 3 (tooMany t) place ∷ classChecks t (t .count) place
 
@@ -30,43 +31,44 @@ recordChecks input place tree =
     let rest = drop place input in
     headChecks input place ++ cond (givesClass (kindAt rest)) (newClassChecks (added tree (classAt rest)) place) []
 
--- the first byte after the first k records
+-- the first byte after the first k records (R52)
 unfoldable pub after : List ℕ → ℕ → ℕ
 after input zero = 0
 after input (suc k) = after input k + 1 + kindAt (drop (after input k) input) .body
 
--- the tree of the first k class records: the classes 1 to k, in plan order
+-- the tree of the first k class records: the classes 1 to k, in plan order (R22, R51)
 unfoldable pub treeOf : List ℕ → ℕ → Tree
 treeOf input zero = noTree
 treeOf input (suc k) = added (treeOf input k) (classAt (drop (after input k) input))
 
--- the checks of the record after the first k class records
+-- the checks of the record after the first k class records (R59)
 abbrev pub checksOf : List ℕ → ℕ → List Check
 checksOf input k = recordChecks input (after input k) (treeOf input k)
 
--- that record gives a class and breaks no rule
+-- that record gives a class and breaks no rule (R59)
 unfoldable pub passes : List ℕ → ℕ → Bool
 passes input k = givesClass (kindAt (drop (after input k) input)) && passed (firstBroken (checksOf input k))
 
--- how many of f 0, f 1, .. f (n - 1) hold in a row, from f 0 on
+-- how many of f 0, f 1, .. f (n - 1) hold in a row, from f 0 on (R59)
 unfoldable pub inRow : (ℕ → Bool) → ℕ → ℕ
 inRow f zero = 0
 inRow f (suc n) = let k = inRow f n in cond (eqb k n && f n) (suc n) k
 
--- how many class records are passed over; the record after them decides
+-- how many class records are passed over; the record after them decides (R50, R59)
 unfoldable pub passedOver : List ℕ → ℕ
 passedOver input = inRow (passes input) 63
 
--- its checks, and after the end record the closing ones
+-- its checks, and after the end record the closing ones (R50, R59, R60)
 unfoldable pub decidingChecks : List ℕ → ℕ → List Check
 decidingChecks input k = checksOf input k ++ closingChecks (treeOf input k)
 
 -- an accepted plan gives its tree and the bytes used; a refused one number, place, 0 bytes used and the tree without classes
+-- (R61, R62, R163)
 abbrev pub outcome : Verdict → Tree → ℕ → PlanRead
 outcome Passed tree used = record { verdict = Passed; used = used; tree = tree }
 outcome (Refused n p) tree used = record { verdict = Refused n p; used = 0; tree = noTree }
 
--- the whole plan
+-- the whole plan (R50, R61)
 unfoldable pub planOf : List ℕ → PlanRead
 planOf input =
     let k = passedOver input in

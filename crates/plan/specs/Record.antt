@@ -1,4 +1,4 @@
--- One record: one byte of kind, then a body whose length the kind fixes (document 01, "The plan's bytes"). Demand 1.
+-- One record: one byte of kind, then a body whose length the kind fixes (R42 to R55). Demand 1.
 -- A record is read off the rest of the input, which begins with the record's first byte.
 use mathlib.Core.Bool.{Bool, true, false, cond, not}
 use mathlib.Core.List.{List}
@@ -10,7 +10,7 @@ use Rattle.plan.specs.declared.kind.RecordKind.{RecordKind}
 use Rattle.plan.specs.declared.kind.Section.{Section}
 use Rattle.plan.specs.Kind.{recordKind, standsIn, givesLeaf}
 
--- numbers are big-endian
+-- numbers are big-endian (R48)
 abbrev pub byteAt : List ℕ → ℕ → ℕ
 byteAt s k = getD s k 0
 
@@ -24,23 +24,23 @@ number32 s k = byteAt s k * 16_777_216 + byteAt s (k + 1) * 65_536 + byteAt s (k
 unfoldable pub kindAt : List ℕ → RecordKind
 kindAt rest = recordKind (byteAt rest 0)
 
--- 1: the input ends before the kind byte
+-- 1: the input ends before the kind byte (R53)
 unfoldable pub missing : List ℕ → Bool
 missing rest = eqb (length rest) 0
 
--- 2: unknown kind
+-- 2: unknown kind (R54)
 unfoldable pub unknown : Section → List ℕ → Bool
 unknown section rest = not (standsIn section (kindAt rest))
 
--- 1: the input ends inside the body
+-- 1: the input ends inside the body (R55)
 unfoldable pub cut : List ℕ → Bool
 cut rest = ltb (length rest) (1 + kindAt rest .body)
 
--- the body is the part after the kind byte
+-- the body is the part after the kind byte (R49)
 unfoldable pub bodyOf : List ℕ → List ℕ
 bodyOf rest = take (kindAt rest .body) (drop 1 rest)
 
--- the class of a body: parent 1, weight 4, and of a leaf longest 2
+-- the class of a body: parent 1, weight 4, and of a leaf longest 2 (R35, R42, R43)
 abbrev pub innerClass : List ℕ → Class
 innerClass body = record { parent = byteAt body 0; weight = record { 0 = number32 body 1 }; longest = 0; leaf = false }
 
@@ -50,6 +50,6 @@ leafClass body = record { parent = byteAt body 0; weight = record { 0 = number32
 abbrev pub classOf : Bool → List ℕ → Class
 classOf leaf body = cond leaf (leafClass body) (innerClass body)
 
--- the class that a class record gives
+-- the class that a class record gives (R51)
 unfoldable pub classAt : List ℕ → Class
 classAt rest = classOf (givesLeaf (kindAt rest)) (bodyOf rest)

@@ -1,4 +1,4 @@
--- When each number is given, row by row of document 01's table, and where: each with no earlier check broken. Demand 1.
+-- When each of the numbers 1 to 9 is given, and where (R53 to R60, R63): each with no earlier check broken. Demand 1.
 -- The reader gives a number at a place exactly when its row says so here (proofs/Numbers.antt).
 use mathlib.Core.Bool.{true, false}
 use mathlib.Core.List.{List}
@@ -17,34 +17,34 @@ use Rattle.plan.specs.Reader.{after, treeOf, passes}
 abbrev pub restOf : List ℕ → ℕ → List ℕ
 restOf s k = drop (after s k) s
 
--- the first k records give classes and break no rule
+-- the first k records give classes and break no rule (R63)
 pub record Reached (s : List ℕ) (k : ℕ) : Type 0 where
   pub most : k ≤ 63
   pub below : (j : ℕ) → j < k → passes s j ≡ true
 
--- the record after them is whole and of a kind that stands in a plan
+-- the record after them is whole and of a kind that stands in a plan (R63)
 pub record WholeRecord (s : List ℕ) (k : ℕ) : Type 0 where
   pub reached : Reached s k
   pub there : missing (restOf s k) ≡ false
   pub known : unknown Plan (restOf s k) ≡ false
   pub whole : cut (restOf s k) ≡ false
 
--- and it gives class k + 1
+-- and it gives class k + 1 (R63)
 pub record ClassRecord (s : List ℕ) (k : ℕ) : Type 0 where
   pub record′ : WholeRecord s k
   pub class : givesClass (kindAt (restOf s k)) ≡ true
 
--- or it is the end record
+-- or it is the end record (R63)
 pub record EndRecord (s : List ℕ) (k : ℕ) : Type 0 where
   pub record′ : WholeRecord s k
   pub end : givesClass (kindAt (restOf s k)) ≡ false
 
--- no class numbered below c breaks row 8 or 7
+-- no class numbered below c breaks 8 or 7 (R63)
 pub record ClosedBelow (t : Tree) (c : ℕ) : Type 0 where
   pub children : (i : ℕ) → 1 ≤ i → i < c → childless t i ≡ false
   pub shares : (i : ℕ) → 1 ≤ i → i < c → tooHeavy t i ≡ false
 
--- `Row s n p`: number n is given at place p
+-- `Row s n p`: number n is given at place p (R63)
 pub data Row (s : List ℕ) : ℕ → ℕ → Type 0 where
   -- 1: the input ends before the kind byte; the input's length
   row1-before : (k : ℕ) → Reached s k → missing (restOf s k) ≡ true → Row s 1 (length s)

@@ -18,7 +18,7 @@ use Rattle.plan.specs.Kind.{givesClass}
 use Rattle.plan.specs.Record.{kindAt, missing, unknown, cut, classAt}
 use Rattle.plan.specs.Reader.{recordChecks, newClassChecks}
 
--- the head of a record: the first of rows 1, 2, 1 that is broken, or the kind
+-- the head of a record: the first of the numbers 1, 2, 1 that is broken, or the kind
 abbrev pub HeadSays : Section → List ℕ → Head → Type 0
 HeadSays section rest Missing = missing rest ≡ true
 HeadSays section rest Strange = (missing rest ≡ false) × (unknown section rest ≡ true)

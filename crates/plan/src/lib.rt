@@ -1,4 +1,4 @@
-// The plan reader and the event reader: any bytes in, document 01's answer out, and never a fault. Entries for callers outside.
+// The plan reader and the event reader: any bytes in, the answer of R40 to R67 out, and never a fault. Entries for callers (R1, R196).
 // Serves demand 1. What they are made of stands in the modules, each named for its specs file; `reader::read_records` reads
 // the records alone.
 pub mod event;

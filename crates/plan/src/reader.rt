@@ -1,5 +1,5 @@
 // The plan reader in two halves: the records, each put to the tree so far, and then closing.
-// Serves demand 1: numbers 1 to 9, each given exactly when its row says, for the first check broken.
+// Serves demand 1: numbers 1 to 9, each given exactly when R53 to R60 say, for the first check broken (R63).
 ghost use mathlib.Core.Path.{_≡_};
 ghost use mathlib.Core.Bool.{false};
 ghost use Prim.Native.Nat.{_+_, _^_, _≤_, _<_};
@@ -33,7 +33,7 @@ pub struct RecordRead {
     pub tree: Tree,
 }
 
-// A class put to the tree: row 3, then rows 4, 5 and 6.
+// A class put to the tree: number 3, then numbers 4, 5 and 6.
 fn put_class(tree: Tree, class: Class, place: usize, to: usize) -> RecordRead
     ensures { λ r. ⌜ ClassSays tree class place to (r .tree) (r .next) ⌝ }
 {

@@ -1,4 +1,4 @@
-// One record: its head, rows 1 and 2, and the body of a class, read by its kind's reader.
+// One record: its head, numbers 1 and 2, and the body of a class, read by its kind's reader.
 // Serves demand 1.
 ghost use mathlib.Core.Path.{_≡_};
 ghost use mathlib.Core.Bool.{cond};
@@ -89,7 +89,7 @@ pub(crate) fn read_class(leaf: bool, body: &[u8]) -> Class
     inner_class(body)
 }
 
-// Rows 1 and 2 of the record at the front of the rest.
+// Numbers 1 and 2 of the record at the front of the rest.
 pub(crate) fn read_head(rest: &[u8], section: Section) -> Head
     ensures { λ r. ⌜ HeadSays section (now (rest .entry)) r ⌝ }
 {

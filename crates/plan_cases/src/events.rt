@@ -2,9 +2,9 @@
 ghost use Prim.Native.Nat.{_≤_};
 use crate::bytes::from;
 use crate::bytes::number_16;
-use crate::lines::number;
-use crate::lines::refusal;
-use crate::lines::word;
+use crate::output::number;
+use crate::output::refusal;
+use crate::output::word;
 use plan::Arrived;
 use plan::EventRead;
 

@@ -3,9 +3,9 @@
 use crate::bytes::from;
 use crate::bytes::number_8;
 use crate::bytes::number_16;
-use crate::lines::number;
-use crate::lines::refusal;
-use crate::lines::word;
+use crate::output::number;
+use crate::output::refusal;
+use crate::output::word;
 use checks::Verdict;
 use plan::EventRead;
 

@@ -1,16 +1,16 @@
-// Named cases of document 01 beside its marked table, packed as commands: each is run, and its lines are compared with the
+// Named cases of the plan rules and the readers (R21 to R67), packed as commands: each is run, and its lines are compared with the
 // written-down ones. Serves demand 1: what the plan reader, the event reader and the plan rules say. The cases are edited in second/plan_cases.txt.
 mod bytes;
 mod events;
 mod kinds;
-mod lines;
+mod output;
 mod plans;
 mod trees;
 
 ghost use Prim.Native.Nat.{_≤_, _<_};
 use bytes::number_8;
 use libc::STDIN_FILENO;
-use lines::word;
+use output::word;
 use tree::Tree;
 
 // Commands by their first bytes; then a name (length 1, text) and a body (length 2, bytes). A remark: its name on a line.
@@ -112,14 +112,15 @@ fn run(input: &[u8]) {
 }
 
 // The most bytes of commands.
-const MOST: usize = 131_072;
+const MOST: usize = 65_536;
+
+// Every command of standard input, read into the room that is lent.
+fn run_read(room: &mut [u8]) {
+    let n = io::read_full(STDIN_FILENO, room);
+    run(&room[..n]);
+}
 
 fn main() {
-    let mut input = [0u8; MOST + 1];
-    let n = io::read_full(STDIN_FILENO, &mut input);
-    if MOST < n {
-        word(b"too long\n");
-        return;
-    }
-    run(&input[..n]);
+    let mut room = [0u8; MOST];
+    run_read(&mut room);
 }

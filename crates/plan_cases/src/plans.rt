@@ -1,6 +1,6 @@
 // What the reader says of a plan; it runs, and is compared with the written-down answers.
-use crate::lines::number;
-use crate::lines::word;
+use crate::output::number;
+use crate::output::word;
 use tree::Tree;
 
 // The round size Q, where the tree obeys the plan rules.

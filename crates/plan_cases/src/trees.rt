@@ -4,8 +4,8 @@ ghost use Prim.Native.Nat.{_<_};
 use crate::bytes::number_8;
 use crate::bytes::number_16;
 use crate::bytes::number_64;
-use crate::lines::number;
-use crate::lines::word;
+use crate::output::number;
+use crate::output::word;
 use tree::Tree;
 use units::Weight;
 
@@ -60,53 +60,39 @@ pub(crate) fn rules(name: &[u8], tree: Tree) -> Tree {
     tree
 }
 
-// The tree with another count of classes, or another set of leaves.
-fn with_count(mut tree: Tree, count: usize) -> Tree {
-    tree.count = count;
-    tree
-}
-
-fn with_leaves(mut tree: Tree, leaves: u64) -> Tree {
-    tree.leaves = leaves;
-    tree
-}
-
-// The tree with another parent, weight or longest packet at a number.
-fn with_parent(mut tree: Tree, i: usize, parent: u8) -> Tree {
+// The tree with another value in one of its numbers, cut to its width: its count of classes or its leaves, or at a class number its parent,
+// weight or longest packet.
+fn with_number(mut tree: Tree, field: u64, i: usize, value: u64) -> Tree {
+    if field == 0 {
+        tree.count = value as usize;
+        return tree;
+    }
+    if field == 1 {
+        tree.leaves = value;
+        return tree;
+    }
     if 63 < i {
         return tree;
     }
-    tree.parent[i] = parent;
-    tree
-}
-
-fn with_weight(mut tree: Tree, i: usize, weight: u32) -> Tree {
-    if 63 < i {
+    if field == 2 {
+        tree.parent[i] = (value % 256) as u8;
         return tree;
     }
-    let w = Weight(weight);
-    tree.weight[i] = w;
-    tree
-}
-
-fn with_longest(mut tree: Tree, i: usize, longest: u16) -> Tree {
-    if 63 < i {
+    if field == 3 {
+        let w = Weight((value % 4_294_967_296) as u32);
+        tree.weight[i] = w;
         return tree;
     }
-    tree.longest[i] = longest;
+    tree.longest[i] = (value % 65_536) as u16;
     tree
 }
 
-// A value stored into one number, cut to its width: field 1, index 2, value 8.
+// A value stored into one number: field 1, index 2, value 8.
 pub(crate) fn stored(tree: Tree, body: &[u8]) -> Tree {
-    let i = number_16(body, 1) as usize;
-    let value = number_64(body, 3);
-    match number_8(body, 0) {
-        0 => with_count(tree, value as usize),
-        1 => with_leaves(tree, value),
-        2 => with_parent(tree, i, (value % 256) as u8),
-        3 => with_weight(tree, i, (value % 4_294_967_296) as u32),
-        4 => with_longest(tree, i, (value % 65_536) as u16),
-        _ => tree,
-    }
+    with_number(
+        tree,
+        number_8(body, 0),
+        number_16(body, 1) as usize,
+        number_64(body, 3),
+    )
 }

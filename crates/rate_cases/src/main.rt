@@ -1,4 +1,4 @@
-// Written-down cases of the rates of a tree (document 02, E13) that no single run of `rates` reaches; it runs, and is compared.
+// Written-down cases of the rates of a tree (R68 to R85) that no single run of `rates` reaches; it runs, and is compared.
 // The cases are the lines of its input: `# NAME` begins a case with no tree, `inner PARENT WEIGHT` and `leaf PARENT WEIGHT` add a class,
 // `wild COUNT` sets the class count, `capacity N`, `every N` and `request CLASS N` set what is asked, and `answer` prints the rates.
 // The expected lines are worked out by second/rate_cases.py.

@@ -1,4 +1,4 @@
-// Which rates will a plan give (document 02, E13): the words are the capacity and CLASS=REQUEST, the plan comes from standard input, and
+// Which rates will a plan give (R174 to R184): the words are the capacity and CLASS=REQUEST, the plan comes from standard input, and
 // each class has a line. It reads, calls and prints; what a word means stands in `words`, the question and its answer in `asked`.
 // Run on tree P and compared.
 ghost use Prim.Native.Nat.{_≤_};

@@ -4,7 +4,7 @@ ghost use Prim.Native.Nat.{_<_};
 use libc::STDIN_FILENO;
 use libc::STDOUT_FILENO;
 use lines::Line;
-use run::PartRun;
+use parts::PartRun;
 
 // What was printed of a run so far: its lines, and a sum in which each byte counts by its place.
 struct Tally {
@@ -62,7 +62,7 @@ fn whole(input: &[u8]) -> Tally {
     };
     let mut text = [0u8; TEXT];
     while part.more {
-        part = run::part(part.link, input, part.place, &mut text);
+        part = parts::part(part.link, input, part.place, &mut text);
         let laid = part.laid;
         tally = with_text(tally, &text[..laid]);
     }

@@ -1,4 +1,5 @@
--- What holds at a closing: every leaf holds less than its longest packet costs, and where no class has a surplus the root holds enough for a quota. Demands 2 and 3.
+-- What holds at a closing: every leaf holds less than its longest packet costs, and where no class has a surplus the root holds enough for
+-- a quota. Demands 2 and 3.
 use mathlib.Core.Bool.{Bool, true, false, cond, _&&_, not}
 use mathlib.Core.List.{List}
 use mathlib.Core.Path.{_≡_, refl, sym}
@@ -22,7 +23,7 @@ use Rattle.tree.proofs.Classes.{both-true, class-in, class-range}
 use Rattle.tree.proofs.Rules.{few-classes, longest-range}
 use Rattle.tree.proofs.Sums.{some-found, some-which, sum-same, sum-within, sum-longer, sum-add}
 use Rattle.state.specs.declared.Account.{Account}
-use Rattle.state.specs.Account.{accountOf, balanceOf, heldBy}
+use Rattle.state.specs.Account.{accountOf, balanceOf, fundsOf}
 use Rattle.state.specs.State.{State}
 use Rattle.sound.specs.Sound.{Sound, total}
 use Rattle.rules.specs.Active.{roundActive, weightSum}
@@ -67,17 +68,18 @@ module _ (s : State) (sound : Sound s) (closed : nextLeaf s ≡ 64) where
       cost-grows (firstOf s i .length) (longestOf (s .tree) i) (sound .holds i u .range leaf 0 (sound .waiting i u .waits leaf on) .high)
 
   -- every leaf, active or not, holds less than its longest packet costs
-  pub leaf-short : (i : ℕ) → isClass (s .tree) i ≡ true → isLeaf (s .tree) i ≡ true → heldBy (accountOf (s .accounts) i) < longestCost (s .tree) i
+  pub leaf-short : (i : ℕ) → isClass (s .tree) i ≡ true → isLeaf (s .tree) i ≡ true
+      → fundsOf (accountOf (s .accounts) i) < longestCost (s .tree) i
   unfolding longestCost
   leaf-short i is leaf = rw leaf (go (has (s .active) i) refl)
     where
       u : i < 64
       u = class-few (s .tree) i rules is
 
-      none : heldBy (accountOf (s .accounts) i) ≡ balanceOf (s .accounts) i
+      none : fundsOf (accountOf (s .accounts) i) ≡ balanceOf (s .accounts) i
       none = omega (arith, sound .zero i u .leaf leaf)
 
-      go : (b : Bool) → has (s .active) i ≡ b → heldBy (accountOf (s .accounts) i) < costOf (longestOf (s .tree) i)
+      go : (b : Bool) → has (s .active) i ≡ b → fundsOf (accountOf (s .accounts) i) < costOf (longestOf (s .tree) i)
       go true on = omega (arith, none, closed-short i is leaf on, first-most i is leaf on)
       go false off =
           omega (
@@ -104,12 +106,12 @@ none-found f n i e l u = go (f i) refl
 
 -- so in a main round no active inner class has a surplus
 pub no-surplus : (s : State) → nextKind s ≡ main → (i : ℕ) → isClass (s .tree) i ≡ true → isLeaf (s .tree) i ≡ false
-    → has (roundActive s) i ≡ true → heldBy (accountOf (s .accounts) i) < weightSum (s .tree) (roundActive s) i
+    → has (roundActive s) i ≡ true → fundsOf (accountOf (s .accounts) i) < weightSum (s .tree) (roundActive s) i
 unfolding nextKind kindOf hasSurplus surplusAt isInner
 no-surplus s kind i is inner on =
     let r = class-range (s .tree) i is in
     let e = none-found _ (s .tree .count) i (main-none _ kind) (r .0) (r .1) in
-    leb-false (weightSum (s .tree) (roundActive s) i) (heldBy (accountOf (s .accounts) i)) (rw (is, inner, on) at e)
+    leb-false (weightSum (s .tree) (roundActive s) i) (fundsOf (accountOf (s .accounts) i)) (rw (is, inner, on) at e)
 
 -- an inner class is a class and no leaf
 inner-parts : (t : Tree) (i : ℕ) → isInner t i ≡ true → (isClass t i ≡ true) × (isLeaf t i ≡ false)
@@ -124,16 +126,16 @@ inner-parts t i e =
 
 -- a class with a surplus is inner and active, and holds its weight sum
 surplus-parts : (t : Tree) (active : ℕ) (accounts : List Account) (i : ℕ) → hasSurplus t active accounts i ≡ true
-    → (isInner t i ≡ true) × (has active i ≡ true) × (weightSum t active i ≤ heldBy (accountOf accounts i))
+    → (isInner t i ≡ true) × (has active i ≡ true) × (weightSum t active i ≤ fundsOf (accountOf accounts i))
 unfolding hasSurplus surplusAt
 surplus-parts t active accounts i e =
-    let a = both-true (isInner t i && has active i) (leb (weightSum t active i) (heldBy (accountOf accounts i))) e in
+    let a = both-true (isInner t i && has active i) (leb (weightSum t active i) (fundsOf (accountOf accounts i))) e in
     let b = both-true (isInner t i) (has active i) (a .0) in
-    (b .0, b .1, leb-true (weightSum t active i) (heldBy (accountOf accounts i)) (a .1))
+    (b .0, b .1, leb-true (weightSum t active i) (fundsOf (accountOf accounts i)) (a .1))
 
 -- where no active inner class has a surplus, the round that opens is a main round
 pub main-where : (s : State) → ((i : ℕ) → isClass (s .tree) i ≡ true → isLeaf (s .tree) i ≡ false → has (roundActive s) i ≡ true
-    → heldBy (accountOf (s .accounts) i) < weightSum (s .tree) (roundActive s) i) → nextKind s ≡ main
+    → fundsOf (accountOf (s .accounts) i) < weightSum (s .tree) (roundActive s) i) → nextKind s ≡ main
 unfolding nextKind kindOf
 main-where s short = go (someTo (hasSurplus (s .tree) (roundActive s) (s .accounts)) (s .tree .count)) refl
   where
@@ -165,11 +167,12 @@ sums-within t active rules =
 
 module _ (s : State) (sound : Sound s) (closed : nextLeaf s ≡ 64) (kind : nextKind s ≡ main) where
   -- at a closing without a surplus a class holds at most its longest packet's cost, or its weight sum
-  most : (i : ℕ) → isClass (s .tree) i ≡ true → heldBy (accountOf (s .accounts) i) ≤ longestCost (s .tree) i + weightSum (s .tree) (roundActive s) i
+  most : (i : ℕ) → isClass (s .tree) i ≡ true
+      → fundsOf (accountOf (s .accounts) i) ≤ longestCost (s .tree) i + weightSum (s .tree) (roundActive s) i
   most i is = go (isLeaf (s .tree) i) (has (roundActive s) i) refl refl
     where
       go : (b d : Bool) → isLeaf (s .tree) i ≡ b → has (roundActive s) i ≡ d
-          → heldBy (accountOf (s .accounts) i) ≤ longestCost (s .tree) i + weightSum (s .tree) (roundActive s) i
+          → fundsOf (accountOf (s .accounts) i) ≤ longestCost (s .tree) i + weightSum (s .tree) (roundActive s) i
       go true d leaf e = omega (arith, leaf-short s sound closed i is leaf)
       go false true leaf e = omega (arith, no-surplus s kind i is leaf e)
       go false false leaf e =
@@ -179,13 +182,14 @@ module _ (s : State) (sound : Sound s) (closed : nextLeaf s ≡ 64) (kind : next
           omega (arith, sound .zero i u .balance l z, sound .zero i u .residual l z)
 
   -- a number past the last class holds nothing
-  past-none : (i : ℕ) → s .tree .count < i → i ≤ 63 → heldBy (accountOf (s .accounts) i) ≡ 0
+  past-none : (i : ℕ) → s .tree .count < i → i ≤ 63 → fundsOf (accountOf (s .accounts) i) ≡ 0
   past-none i l u =
       let z = sound .past .past i l in
       omega (arith, sound .zero i (omega arith) .balance (omega arith) z, sound .zero i (omega arith) .residual (omega arith) z)
 
   -- so all but the root hold at most all longest packets' cost and all weight sums
-  others-most : sumTo (λ i. heldBy (accountOf (s .accounts) i)) 63 ≤ allLongest (s .tree) + sumTo (weightSum (s .tree) (roundActive s)) (s .tree .count)
+  others-most : sumTo (λ i. fundsOf (accountOf (s .accounts) i)) 63 ≤ allLongest (s .tree) + sumTo (weightSum (s .tree) (roundActive s))
+      (s .tree .count)
   unfolding allLongest
   others-most =
       rw past
@@ -194,15 +198,15 @@ module _ (s : State) (sound : Sound s) (closed : nextLeaf s ≡ 64) (kind : next
       few : s .tree .count ≤ 63
       few = few-classes (s .tree) (sound .fits .tree)
 
-      past : sumTo (λ i. heldBy (accountOf (s .accounts) i)) 63 ≡ sumTo (λ i. heldBy (accountOf (s .accounts) i)) (s .tree .count)
-      past = sum-longer (λ i. heldBy (accountOf (s .accounts) i)) (s .tree .count) 63 few past-none
+      past : sumTo (λ i. fundsOf (accountOf (s .accounts) i)) 63 ≡ sumTo (λ i. fundsOf (accountOf (s .accounts) i)) (s .tree .count)
+      past = sum-longer (λ i. fundsOf (accountOf (s .accounts) i)) (s .tree .count) 63 few past-none
 
-      parts : sumTo (λ i. heldBy (accountOf (s .accounts) i)) (s .tree .count)
+      parts : sumTo (λ i. fundsOf (accountOf (s .accounts) i)) (s .tree .count)
           ≤ sumTo (λ i. longestCost (s .tree) i + weightSum (s .tree) (roundActive s) i) (s .tree .count)
       parts = sum-within _ _ (s .tree .count) (λ i l u. most i (class-in (s .tree) i l u))
 
   -- and the root holds the rest of Q, its weight sum at least
-  pub root-has : weightSum (s .tree) (roundActive s) 0 ≤ heldBy (accountOf (s .accounts) 0)
+  pub root-has : weightSum (s .tree) (roundActive s) 0 ≤ fundsOf (accountOf (s .accounts) 0)
   unfolding total roundSize
   root-has =
       omega (arith, sound .adds .adds, sound .fits .size, others-most, sums-within (s .tree) (roundActive s) (sound .fits .tree))

@@ -1,4 +1,5 @@
--- Six sends on a tree three classes deep, computed from the definitions: a main round, a surplus round that sends nothing with the main round after
+-- Six sends on a tree three classes deep, computed from the definitions: a main round, a surplus round that sends nothing with the main
+-- round after
 -- it, one that sends, and classes that turn inactive up to the root. It refuses a slip in the rules where they are made. Demand 2.
 use mathlib.Core.Bool.{Bool, true, false}
 use mathlib.Core.List.{List, [], _∷_, _++_}
@@ -18,8 +19,10 @@ use Rattle.state.specs.Queue.{table, queueOf}
 use Rattle.state.specs.State.{State, meaning, freshLink, queueAt, withQueue}
 use Rattle.tree.specs.Below.{climbs, atOrBelow}
 use Rattle.rules.specs.Active.{waits, someBelow, setOf, upward, roundActive, activeChild, activeWeight, weightSum}
-use Rattle.rules.specs.Opening.{surplusAt, hasSurplus, kindOf, quotaIn, quota, due, handsDown, openedLeaf, openedInner, openedAccount, openedAccounts, nextKind, opened}
-use Rattle.rules.specs.Sending.{ready, firstFrom, nextLeaf, givenUp, turnsOff, paid, booksAfter, sentState, Turn, turnOf, sends, traceOf}
+use Rattle.rules.specs.Opening.{surplusAt, hasSurplus, kindOf, quotaIn, quota, due, handsDown, openedLeaf, openedInner, openedAccount}
+use Rattle.rules.specs.Opening.{openedAccounts, nextKind, opened}
+use Rattle.rules.specs.Sending.{ready, firstFrom, nextLeaf, givenUp, turnsOff, paid, booksAfter, sentState, Turn, turnOf, sends}
+use Rattle.rules.specs.Sending.{traceOf}
 
 class : ℕ → ℕ → ℕ → Bool → Class
 class parent weight longest leaf = record { parent = parent; weight = record { 0 = weight }; longest = longest; leaf = leaf }
@@ -29,7 +32,8 @@ class parent weight longest leaf = record { parent = parent; weight = record { 0
 tree : Tree
 tree =
     added
-    (added (added (added (added (added noTree (class 0 5 0 false)) (class 1 3 0 false)) (class 2 1 100 true)) (class 2 2 90 true)) (class 1 2 80 true))
+    (added (added (added (added (added noTree (class 0 5 0 false)) (class 1 3 0 false)) (class 2 1 100 true)) (class 2 2 90 true))
+    (class 1 2 80 true))
     (class 0 4 70 true)
 
 arrive : State → ℕ → ℕ → ℕ → State
@@ -56,7 +60,8 @@ shownIn : List Turn → List (List ℕ)
 shownIn [] = []
 shownIn (x ∷ xs) = table (x .quotas) 3 ∷ balances (x .after) ∷ residuals (x .after) ∷ shownIn xs
 
--- of the send that follows n others: class, length, tag and rounds; the place and the active set after it; balances; residuals; and its rounds
+-- of the send that follows n others: class, length, tag and rounds; the place and the active set after it; balances; residuals; and its
+-- rounds
 seenOf : ℕ → List (List ℕ)
 seenOf n =
     let t = traceOf (after n) in
@@ -116,7 +121,8 @@ six-sends : table seenOf 6
     ∷ (0 ∷ 0 ∷ 0 ∷ 0 ∷ 0 ∷ 0 ∷ 0 ∷ [])
     ∷ [])
     ∷ []
-unfolding class tree arrive start after seenOf shownIn balances residuals roundSize allWeights allLongest longestCost sumTo someTo isClass isLeaf isInner isChild has with without costOf
-    table queueOf climbs atOrBelow waits someBelow setOf upward roundActive activeChild activeWeight weightSum surplusAt hasSurplus kindOf quotaIn quota due handsDown openedLeaf
-    openedInner openedAccount openedAccounts nextKind opened ready firstFrom nextLeaf givenUp turnsOff paid booksAfter sentState turnOf sends traceOf
+unfolding class tree arrive start after seenOf shownIn balances residuals roundSize allWeights allLongest longestCost sumTo someTo isClass
+    isLeaf isInner isChild has with without costOf table queueOf climbs atOrBelow waits someBelow setOf upward roundActive activeChild
+    activeWeight weightSum surplusAt hasSurplus kindOf quotaIn quota due handsDown openedLeaf openedInner openedAccount openedAccounts
+    nextKind opened ready firstFrom nextLeaf givenUp turnsOff paid booksAfter sentState turnOf sends traceOf
 six-sends = refl

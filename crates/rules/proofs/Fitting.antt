@@ -15,17 +15,18 @@ use Rattle.rules.specs.Sending.{Books}
 use Rattle.rules.specs.Sending.{paidBy, givenUp}
 use Rattle.rules.proofs.GivenUp.{given-length, given-total}
 use Rattle.state.specs.declared.Account.{Account}
-use Rattle.state.specs.Account.{accountOf, balanceOf, heldBy, sentFrom, gained}
+use Rattle.state.specs.Account.{accountOf, balanceOf, fundsOf, sentFrom, gained}
 use Rattle.sound.proofs.Totals.{total-part}
 use Rattle.rules.proofs.Stores.{total-set}
 use Rattle.rules.specs.Steps.{Fit}
 
 -- no class holds more than all together
-pub held-small : (accounts : List Account) (i : ℕ) → Fit accounts → i < 64 → heldBy (accountOf accounts i) ≤ mostSize
-held-small accounts i f u = omega (arith, total-part accounts i u, f .small)
+pub funds-small : (accounts : List Account) (i : ℕ) → Fit accounts → i < 64 → fundsOf (accountOf accounts i) ≤ mostSize
+funds-small accounts i f u = omega (arith, total-part accounts i u, f .small)
 
 -- the accounts after a store that adds nothing to the total
-pub fit-set : (accounts : List Account) (i : ℕ) (a : Account) → Fit accounts → i < 64 → heldBy a ≤ heldBy (accountOf accounts i) → Fit (set accounts i a)
+pub fit-set : (accounts : List Account) (i : ℕ) (a : Account) → Fit accounts → i < 64 → fundsOf a ≤ fundsOf (accountOf accounts i)
+    → Fit (set accounts i a)
 fit-set accounts i a f u h = record {
   many = length-set accounts i a ∙ f .many;
   small = omega (arith, total-set accounts i a (f .many) u, f .small);

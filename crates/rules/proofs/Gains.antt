@@ -12,7 +12,7 @@ use Rattle.tree.specs.Class.{parentOf, weightOf, isClass, isLeaf, isInner, isCh
 use Rattle.tree.specs.Rules.{tooHeavy, PlanRules}
 use Rattle.tree.proofs.Classes.{class-in, class-range}
 use Rattle.tree.proofs.Rules.{parent-lower}
-use Rattle.state.specs.Account.{accountOf, balanceOf, heldBy}
+use Rattle.state.specs.Account.{accountOf, balanceOf, fundsOf}
 use Rattle.state.specs.State.{State}
 use Rattle.sound.specs.Below.{Above}
 use Rattle.sound.specs.Sound.{Sound}
@@ -61,10 +61,12 @@ module _ (s : State) (sound : Sound s) (closed : nextLeaf s ≡ 64) (kind : next
   unfolding share
   root-share ab on =
       rw (quota-root main (s .tree) (roundActive s) (s .accounts))
-      (one-each (heldBy (accountOf (s .accounts) 0)) (weightSum (s .tree) (roundActive s) 0) (sum-some s rules 0 ab on) (root-has s sound closed kind))
+      (one-each (fundsOf (accountOf (s .accounts) 0)) (weightSum (s .tree) (roundActive s) 0) (sum-some s rules 0 ab on)
+      (root-has s sound closed kind))
 
   -- an inner class has at least its weight from its parent, which covers its weight sum
-  inner-share : (i : ℕ) → isClass (s .tree) i ≡ true → Above (s .tree) i → has (roundActive s) i ≡ true → 1 ≤ share (parentOf (s .tree) i) → 1 ≤ share i
+  inner-share : (i : ℕ) → isClass (s .tree) i ≡ true → Above (s .tree) i → has (roundActive s) i ≡ true → 1 ≤ share (parentOf (s .tree) i)
+      → 1 ≤ share i
   unfolding share
   inner-share i is ab on up =
       rw (quota-step main (s .tree) (roundActive s) (s .accounts) rules i (class-range (s .tree) i is .0) (class-few (s .tree) i rules is))
@@ -91,8 +93,9 @@ module _ (s : State) (sound : Sound s) (closed : nextLeaf s ≡ 64) (kind : next
   unfolding share
   main-quota p ab on = share-down p p (omega arith) ab on
 
--- and every active leaf gains at least its weight
-pub main-gains : (s : State) → Sound s → Wide s → nextLeaf s ≡ 64 → nextKind s ≡ main → (i : ℕ) → isClass (s .tree) i ≡ true → isLeaf (s .tree) i ≡ true
+-- and every active leaf gains at least its weight (R150)
+pub main-gains : (s : State) → Sound s → Wide s → nextLeaf s ≡ 64 → nextKind s ≡ main → (i : ℕ) → isClass (s .tree) i ≡ true
+    → isLeaf (s .tree) i ≡ true
     → has (roundActive s) i ≡ true → balanceOf (s .accounts) i + weightOf (s .tree) i ≤ balanceOf (opened s .accounts) i
 main-gains s sound wide closed kind i is leaf on =
     let tree = sound .fits .tree in

@@ -1,4 +1,4 @@
--- Turning inactive, and each class above without an active child after it (document 01, "Sending", step 2), one class at a time. Demand 2.
+-- Turning inactive, and each class above without an active child after it (R140 to R143), one class at a time. Demand 2.
 use mathlib.Core.Bool.{Bool, true, false}
 use mathlib.Core.Path.{_≡_, refl, sym, _∙_}
 use Prim.Native.Nat.{ℕ, zero, suc, _≤_, _<_}
@@ -12,7 +12,7 @@ use Rattle.tree.specs.Rules.{PlanRules}
 use Rattle.tree.specs.Sum.{someTo}
 use Rattle.tree.proofs.Classes.{class-in, class-range}
 use Rattle.tree.proofs.Rules.{parent-lower, few-classes}
-use Rattle.state.specs.Account.{accountOf, heldBy, returned, received}
+use Rattle.state.specs.Account.{accountOf, fundsOf, returned, received}
 use Rattle.sound.specs.Sound.{total}
 use Rattle.rules.specs.Sending.{Books}
 use Rattle.rules.specs.Active.{activeChild}
@@ -50,7 +50,8 @@ pub step-up : (n : ℕ) (t : Tree) (i : ℕ) (b : Books) → someTo (activeChild
 step-up n t i b none ne = turns-suc n t i b ∙ (rw (none, ne-eqb (parentOf t i) 0 ne))
 
 -- enough steps are enough
-pub turns-enough : (n m : ℕ) (t : Tree) (i : ℕ) (b : Books) → PlanRules t → isClass t i ≡ true → i ≤ n → i ≤ m → turnsOff n t i b ≡ turnsOff m t i b
+pub turns-enough : (n m : ℕ) (t : Tree) (i : ℕ) (b : Books) → PlanRules t → isClass t i ≡ true → i ≤ n → i ≤ m
+    → turnsOff n t i b ≡ turnsOff m t i b
 turns-enough zero m t i b rules is a c = absurd (omega (arith, class-range t i is .0))
 turns-enough (suc n) zero t i b rules is a c = absurd (omega (arith, class-range t i is .0))
 turns-enough (suc n) (suc m) t i b rules is a c =
@@ -95,18 +96,18 @@ pub given-length : (t : Tree) (i : ℕ) (b : Books) → length (givenUp t i b .a
 unfolding givenUp
 given-length t i b =
     let rest = set (b .accounts) i (returned (accountOf (b .accounts) i)) in
-    length-set rest (parentOf t i) (received (accountOf rest (parentOf t i)) (heldBy (accountOf (b .accounts) i)))
+    length-set rest (parentOf t i) (received (accountOf rest (parentOf t i)) (fundsOf (accountOf (b .accounts) i)))
     ∙ length-set (b .accounts) i (returned (accountOf (b .accounts) i))
 
 pub given-total : (t : Tree) (i : ℕ) (b : Books) → length (b .accounts) ≡ 64 → i < 64 → parentOf t i < 64
     → total (givenUp t i b .accounts) ≡ total (b .accounts)
 unfolding givenUp
 given-total t i b many u v =
-    let held = heldBy (accountOf (b .accounts) i) in
+    let funds = fundsOf (accountOf (b .accounts) i) in
     let rest = set (b .accounts) i (returned (accountOf (b .accounts) i)) in
     let less = total-set (b .accounts) i (returned (accountOf (b .accounts) i)) many u in
     let more =
-    total-set rest (parentOf t i) (received (accountOf rest (parentOf t i)) held)
+    total-set rest (parentOf t i) (received (accountOf rest (parentOf t i)) funds)
     (length-set (b .accounts) i (returned (accountOf (b .accounts) i)) ∙ many) v
     in
     omega (arith, less, more)

@@ -49,7 +49,8 @@ sound-fit l many sound =
     record { many = many; small = omega (arith, st .adds .adds, st .fits .size, size-ceiling (l .tree) (st .fits .tree)) }
 
 -- a link in another state means that state
-pub meaning-in : (l : Link) (s : State) → l .tree ≡ s .tree → l .size .0 ≡ s .size → meaning l .queues ≡ s .queues → meaning (linkIn l s) ≡ s
+pub meaning-in : (l : Link) (s : State) → l .tree ≡ s .tree → l .size .0 ≡ s .size → meaning l .queues ≡ s .queues
+    → meaning (linkIn l s) ≡ s
 unfolding queueOf
 meaning-in l s tree size queues = λ k. record {
   tree = tree k;
@@ -73,7 +74,8 @@ opened-link-sound l wide sound = record {
 
 -- the leaf that sends next
 pub link-sender : (l : Link) (i : ℕ) → SendsNext l i → Sender (meaning l) i
-link-sender l i n = subst (Sender (meaning l)) (sym (n .next)) (next-sender (meaning l) (n .sound .state) (subst (λ (k : ℕ). k < 64) (n .next) (n .found)))
+link-sender l i n =
+    subst (Sender (meaning l)) (sym (n .next)) (next-sender (meaning l) (n .sound .state) (subst (λ (k : ℕ). k < 64) (n .next) (n .found)))
 
 pub sender-holds : (l : Link) (i : ℕ) → SendsNext l i → 1 ≤ heldOf l i
 sender-holds l i n = omega (arith, meaning-held l i (n .found), link-sender l i n .holds)
@@ -89,7 +91,8 @@ unfolding paid
 paid-means l i cost e = ap (paidBy (l .accounts) i) e
 
 -- the books after a packet that was not the last, and after one that was
-pub books-more : (l : Link) (i : ℕ) → i < 64 → 1 < heldOf l i → booksAfter (meaning l) i ≡ record { active = l .active; accounts = paid (meaning l) i }
+pub books-more : (l : Link) (i : ℕ) → i < 64 → 1 < heldOf l i
+    → booksAfter (meaning l) i ≡ record { active = l .active; accounts = paid (meaning l) i }
 unfolding booksAfter
 books-more l i u h = rw (lt-leb (length (queueAt (meaning l) i)) 1 (omega (arith, meaning-held l i u)))
 
@@ -103,7 +106,14 @@ pub sent-means : (l : Link) (i : ℕ) → Shaped l → SendsNext l i → meaning
 unfolding sentState queueOf
 sent-means l i shape n =
     meaning-take (linkIn l (sentState (meaning l) i)) i
-    (record { accounts = wide-after (meaning l) i (n .sound .state) (meaning-wide l (shape .accounts)) (link-sender l i n) .accounts; start = shape .start; held = shape .held; lengths = shape .lengths; tags = shape .tags })
+    (record {
+      accounts = wide-after (meaning l) i (n .sound .state) (meaning-wide l (shape .accounts))
+          (link-sender l i n) .accounts;
+      start = shape .start;
+      held = shape .held;
+      lengths = shape .lengths;
+      tags = shape .tags;
+    })
     (n .found) (sender-holds l i n)
 
 -- a packet waits where a leaf's count says so
@@ -111,7 +121,8 @@ pub waits-means : (l : Link) → SoundLink l → someWaits (meaning l) ≡ someT
 unfolding someWaits waits holdsSome
 waits-means l sound =
     some-same _ _ (l .tree .count)
-    (λ j a b. ap (λ (n : ℕ). isLeaf (l .tree) j && leb 1 n) (meaning-held l j (omega (arith, few-classes (l .tree) (sound .state .fits .tree)))))
+    (λ j a b. ap (λ (n : ℕ). isLeaf (l .tree) j && leb 1 n)
+    (meaning-held l j (omega (arith, few-classes (l .tree) (sound .state .fits .tree)))))
 
 -- and then some leaf holds one
 pub waits-leaf : (s : State) → someWaits s ≡ true → Waits s
@@ -119,7 +130,13 @@ unfolding someWaits waits
 waits-leaf s e =
     let w = some-which (waits s) (s .tree .count) e in
     let b = both-true (isLeaf (s .tree) (w .0)) (leb 1 (length (queueAt s (w .0)))) (w .3) in
-    record { leaf = w .0; class = class-in (s .tree) (w .0) (w .1) (w .2); is-leaf = b .0; holds = leb-true 1 (length (queueAt s (w .0))) (b .1) }
+    record {
+      leaf = w .0;
+      class = class-in (s .tree) (w .0) (w .1) (w .2);
+      is-leaf = b .0;
+      holds = leb-true 1 (length (queueAt s (w .0)))
+          (b .1);
+    }
 
 -- and a sound link gives a sound one
 start-after : (l : Link) (i k : ℕ) → length (l .start) ≡ 64 → i < 64 → startOf l k ≤ 31 → startOf (takenFirst l i) k ≤ 31

@@ -22,7 +22,8 @@ use Rattle.rules.specs.Steps.{SendsNext, OnTheWay}
 use Rattle.rules.proofs.Meanings.{meaning-wide, opened-means, opened-link-sound, sender-holds}
 
 -- at first none has opened
-pub way-starts : (l : Link) (at : ℕ) → length (l .accounts) ≡ 64 → SoundLink l → Waits (meaning l) → at ≡ nextLeaf (meaning l) → OnTheWay l at l 0
+pub way-starts : (l : Link) (at : ℕ) → length (l .accounts) ≡ 64 → SoundLink l → Waits (meaning l) → at ≡ nextLeaf (meaning l)
+    → OnTheWay l at l 0
 unfolding traceOf
 way-starts l at many sound waits next = record {
   sound = sound;
@@ -46,7 +47,8 @@ more-left l₀ at l rounds w closed = omega (arith, w .few, not-two)
         omega (arith, here, w .next, closed)
 
 -- one round more
-pub way-on : (l₀ : Link) (at : ℕ) (l : Link) (rounds : ℕ) (l′ : Link) (at′ : ℕ) → OnTheWay l₀ at l rounds → at ≡ 64 → l′ ≡ openedLink l → at′ ≡ nextLeaf (meaning l′)
+pub way-on : (l₀ : Link) (at : ℕ) (l : Link) (rounds : ℕ) (l′ : Link) (at′ : ℕ) → OnTheWay l₀ at l rounds → at ≡ 64 → l′ ≡ openedLink l
+    → at′ ≡ nextLeaf (meaning l′)
     → OnTheWay l₀ at′ l′ (rounds + 1)
 way-on l₀ at l rounds l′ at′ w closed e next =
     let wide = meaning-wide l (w .many) in
@@ -93,5 +95,6 @@ way-ends l₀ at l rounds p l′ w n first after =
     after ∙ ap (λ (x : Link). takenFirst (linkIn x (sentState (meaning l) at)) at) (w .same)
     in
     (λ k. record { class = at; packet = packet k; rounds = sym (w .counted) k; link = link k })
-    ∙ ap (λ (i : ℕ). sentBy l₀ (record { turns = w .turns; class = i; packet = firstOf (meaning l) i; state = sentState (meaning l) i })) (n .next)
+    ∙ ap (λ (i : ℕ). sentBy l₀ (record { turns = w .turns; class = i; packet = firstOf (meaning l) i; state = sentState (meaning l) i }))
+    (n .next)
     ∙ ap (sentBy l₀) (sym (w .trace ∙ gone))

@@ -14,7 +14,7 @@ use Rattle.tree.specs.Sum.{sumTo}
 use Rattle.tree.proofs.Classes.{root-no-class, class-range}
 use Rattle.tree.proofs.Rules.{few-classes, size-ceiling}
 use Rattle.state.specs.declared.Account.{Account}
-use Rattle.state.specs.Account.{noAccount, accountOf, balanceOf, residualOf, heldBy, tookQuota, handedDown}
+use Rattle.state.specs.Account.{noAccount, accountOf, balanceOf, residualOf, fundsOf, tookQuota, handedDown}
 use Rattle.state.specs.Queue.{table}
 use Rattle.state.specs.State.{State}
 use Rattle.state.proofs.Tables.{table-at, table-length}
@@ -23,13 +23,15 @@ use Rattle.sound.specs.Sound.{Sound, HoldsRight, ActiveHolds, AboveActive, Zero
 use Rattle.tree.proofs.Sums.{sum-same, sum-longer, sum-add}
 use Rattle.sound.proofs.Totals.{total-part}
 use Rattle.rules.specs.Active.{roundActive, weightSum}
-use Rattle.rules.specs.Opening.{Kind, main, surplus, quota, due, handsDown, rootQuota, openedLeaf, openedInner, openedAccount, openedAccounts, nextKind, opened}
+use Rattle.rules.specs.Opening.{Kind, main, surplus, quota, due, handsDown, rootQuota, openedLeaf, openedInner, openedAccount}
+use Rattle.rules.specs.Opening.{openedAccounts, nextKind, opened}
 use Rattle.rules.specs.Steps.{CanOpen}
 use Rattle.rules.proofs.Shares.{quota-root, quota-step, quota-back, quota-inactive, down-within}
 use Rattle.rules.proofs.Sums.{sum-without}
 use Rattle.rules.specs.Wide.{Wide}
 use Rattle.rules.proofs.ByParent.{sum-by-parent}
-use Rattle.rules.proofs.Taken.{leaf-class, leaf-childless, taken-past, taken-fits, taken-waits, taken-up, taken-by-leaf, taken-off, sum-some}
+use Rattle.rules.proofs.Taken.{leaf-class, leaf-childless, taken-past, taken-fits, taken-waits, taken-up, taken-by-leaf, taken-off}
+use Rattle.rules.proofs.Taken.{sum-some}
 
 -- the root is no leaf
 pub root-no-leaf : (t : Tree) → PlanRules t → isLeaf t 0 ≡ false
@@ -49,7 +51,8 @@ module _ (kind : Kind) (t : Tree) (active : ℕ) (accounts : List Account) where
 
   -- an active leaf gains its due
   leaf-account : (i : ℕ) → 1 ≤ i → has active i ≡ true → isLeaf t i ≡ true
-      → openedAccount kind t active accounts i ≡ tookQuota (accountOf accounts i) (weightOf t i * quota kind t active accounts (parentOf t i))
+      → openedAccount kind t active accounts i
+      ≡ tookQuota (accountOf accounts i) (weightOf t i * quota kind t active accounts (parentOf t i))
   unfolding openedAccount openedLeaf due
   leaf-account i l on leaf = rw (ne-eqb i 0 (λ z. omega arith), on, leaf)
 
@@ -63,7 +66,8 @@ module _ (kind : Kind) (t : Tree) (active : ℕ) (accounts : List Account) where
 
 -- the root's stays in a surplus round; in a main round R joins B, which falls by what it hands down
 main-root : (t : Tree) (active : ℕ) (accounts : List Account)
-    → openedAccount main t active accounts 0 ≡ handedDown (tookQuota (accountOf accounts 0) 0) (weightSum t active 0 * rootQuota main t active accounts)
+    → openedAccount main t active accounts 0
+    ≡ handedDown (tookQuota (accountOf accounts 0) 0) (weightSum t active 0 * rootQuota main t active accounts)
 unfolding openedAccount
 main-root t active accounts = refl
 
@@ -82,10 +86,10 @@ module _ (kind : Kind) (t : Tree) (active : ℕ) (accounts : List Account) (can 
   gives i = weightSum t active i * quota kind t active accounts i
 
   before : ℕ → ℕ
-  before i = heldBy (accountOf accounts i)
+  before i = fundsOf (accountOf accounts i)
 
   after : ℕ → ℕ
-  after i = heldBy (openedAccount kind t active accounts i)
+  after i = fundsOf (openedAccount kind t active accounts i)
 
   -- an inactive class and a leaf hand down nothing
   gives-idle : (i : ℕ) → 1 ≤ i → i < 64 → has active i ≡ false → gives i ≡ 0
@@ -112,9 +116,9 @@ module _ (kind : Kind) (t : Tree) (active : ℕ) (accounts : List Account) (can 
   changes i l u = go (has active i) (isLeaf t i) refl refl
     where
       go : (a b : Bool) → has active i ≡ a → isLeaf t i ≡ b → after i + gives i ≡ before i + gets i
-      go false b off leaf = omega (arith, ap heldBy (idle-account kind t active accounts i l off), gives-idle i l u off, gets-off i off)
-      go true true on leaf = omega (arith, ap heldBy (leaf-account kind t active accounts i l on leaf), gives-leaf i leaf, gets-on i on)
-      go true false on inner = omega (arith, ap heldBy (inner-account kind t active accounts i l on inner), down, gets-on i on)
+      go false b off leaf = omega (arith, ap fundsOf (idle-account kind t active accounts i l off), gives-idle i l u off, gets-off i off)
+      go true true on leaf = omega (arith, ap fundsOf (leaf-account kind t active accounts i l on leaf), gives-leaf i leaf, gets-on i on)
+      go true false on inner = omega (arith, ap fundsOf (inner-account kind t active accounts i l on inner), down, gets-on i on)
         where
           down : gives i ≤ before i + weightOf t i * quota kind t active accounts (parentOf t i)
           down = down-within kind t active accounts can i l u
@@ -124,11 +128,13 @@ module _ (kind : Kind) (t : Tree) (active : ℕ) (accounts : List Account) (can 
   unfolding before after gives
   root-changes = rw (quota-root kind t active accounts) (go kind)
     where
-      go : (k : Kind) → heldBy (openedAccount k t active accounts 0) + weightSum t active 0 * rootQuota k t active accounts ≡ heldBy (accountOf accounts 0)
+      go : (k : Kind) → fundsOf (openedAccount k t active accounts 0) + weightSum t active 0 * rootQuota k t active accounts
+          ≡ fundsOf (accountOf accounts 0)
       go main =
-          let down = quota-back (heldBy (accountOf accounts 0)) (weightSum t active 0) (weightSum t active 0) (rootQuota main t active accounts) refl refl in
-          omega (arith, ap heldBy (main-root t active accounts), down)
-      go surplus = omega (arith, ap heldBy (surplus-root t active accounts), mul-zero (weightSum t active 0))
+          let down = quota-back (fundsOf (accountOf accounts 0)) (weightSum t active 0) (weightSum t active 0)
+          (rootQuota main t active accounts) refl refl in
+          omega (arith, ap fundsOf (main-root t active accounts), down)
+      go surplus = omega (arith, ap fundsOf (surplus-root t active accounts), mul-zero (weightSum t active 0))
 
   -- so the classes together change by what they are due and what they hand down
   sums-change : sumTo after 63 + sumTo gives 63 ≡ sumTo before 63 + sumTo gets 63
@@ -146,8 +152,8 @@ module _ (kind : Kind) (t : Tree) (active : ℕ) (accounts : List Account) (can 
   total-after : total (openedAccounts kind t active accounts) ≡ after 0 + sumTo after 63
   unfolding total openedAccounts after
   total-after =
-      ap₂ _+_ (ap heldBy (at 0 (omega arith)))
-      (sum-same (λ i. heldBy (accountOf (openedAccounts kind t active accounts) i)) after 63 (λ i l u. ap heldBy (at i (omega arith))))
+      ap₂ _+_ (ap fundsOf (at 0 (omega arith)))
+      (sum-same (λ i. fundsOf (accountOf (openedAccounts kind t active accounts) i)) after 63 (λ i l u. ap fundsOf (at i (omega arith))))
     where
       at : (i : ℕ) → i < 64 → accountOf (table (openedAccount kind t active accounts) 64) i ≡ openedAccount kind t active accounts i
       at i u = table-at (openedAccount kind t active accounts) noAccount 64 i u
@@ -172,12 +178,20 @@ module _ (s : State) (sound : Sound s) (wide : Wide s) where
   can-open = record {
     rules = sound .fits .tree;
     many = wide .accounts;
-    small = λ i u. omega (arith, total-part (s .accounts) i u, sound .adds .adds, sound .fits .size, size-ceiling (s .tree) (sound .fits .tree));
+    small = λ i u. omega (
+      arith,
+      total-part (s .accounts) i u,
+      sound .adds .adds,
+      sound .fits .size,
+      size-ceiling (s .tree)
+          (sound .fits .tree),
+    );
     upward = taken-up s (sound .fits .tree);
   }
 
   -- the account of each class is what the rules say
-  pub opened-account : (i : ℕ) → i < 64 → accountOf (opened s .accounts) i ≡ openedAccount (nextKind s) (s .tree) (roundActive s) (s .accounts) i
+  pub opened-account : (i : ℕ) → i < 64
+      → accountOf (opened s .accounts) i ≡ openedAccount (nextKind s) (s .tree) (roundActive s) (s .accounts) i
   unfolding opened openedAccounts
   opened-account i u = table-at (openedAccount (nextKind s) (s .tree) (roundActive s) (s .accounts)) noAccount 64 i u
 
@@ -215,7 +229,8 @@ module _ (s : State) (sound : Sound s) (wide : Wide s) where
       ∙ main-root (s .tree) (roundActive s) (s .accounts)
       in
       let above : Above (s .tree) 0 = record { class = omega arith; inner = root-no-leaf (s .tree) (sound .fits .tree) } in
-      let left = left-over (heldBy (accountOf (s .accounts) 0)) (weightSum (s .tree) (roundActive s) 0) _ (sum-some s (sound .fits .tree) 0 above on) refl in
+      let left = left-over (fundsOf (accountOf (s .accounts) 0)) (weightSum (s .tree) (roundActive s) 0) _
+      (sum-some s (sound .fits .tree) 0 above on) refl in
       (ap (λ (a : Account). a .residual .0) is, omega (arith, ap (λ (a : Account). a .balance .0) is, left))
 
   -- an active inner class likewise, in both kinds of rounds
@@ -232,7 +247,8 @@ module _ (s : State) (sound : Sound s) (wide : Wide s) where
   pub opened-leaf : (i : ℕ) → isClass (s .tree) i ≡ true → isLeaf (s .tree) i ≡ true → has (roundActive s) i ≡ true
       → (residualOf (opened s .accounts) i ≡ 0)
       × (balanceOf (opened s .accounts) i
-      ≡ balanceOf (s .accounts) i + weightOf (s .tree) i * quota (nextKind s) (s .tree) (roundActive s) (s .accounts) (parentOf (s .tree) i))
+      ≡ balanceOf (s .accounts) i + weightOf (s .tree) i * quota (nextKind s) (s .tree) (roundActive s) (s .accounts)
+      (parentOf (s .tree) i))
   opened-leaf i is leaf on =
       let r = class-range (s .tree) i is in
       let u : i < 64 = omega (arith, few-classes (s .tree) (sound .fits .tree)) in
@@ -249,19 +265,22 @@ module _ (s : State) (sound : Sound s) (wide : Wide s) where
   -- active leaves hold a packet
   opened-waiting : (i : ℕ) → i < 64 → ActiveHolds (opened s) i
   unfolding opened
-  opened-waiting i u = record { waits = λ leaf on. taken-waits s (sound .fits .tree) i (leaf-class (s .tree) i (sound .fits .tree) u leaf) leaf on }
+  opened-waiting i u =
+      record { waits = λ leaf on. taken-waits s (sound .fits .tree) i (leaf-class (s .tree) i (sound .fits .tree) u leaf) leaf on }
 
   -- a class above is active exactly when an active leaf is below it
   opened-above : (i : ℕ) → i < 64 → AboveActive (opened s) i
   unfolding opened
-  opened-above i u = record { leaf-below = taken-by-leaf s (sound .fits .tree) .has-leaf i; active = taken-by-leaf s (sound .fits .tree) .from-leaf i }
+  opened-above i u =
+      record { leaf-below = taken-by-leaf s (sound .fits .tree) .has-leaf i; active = taken-by-leaf s (sound .fits .tree) .from-leaf i }
 
   -- so an inactive class has B = R = 0, and leaves have R = 0
   opened-zero : (i : ℕ) → i < 64 → ZeroWhere (opened s) i
   unfolding opened
   opened-zero i u = record {
     balance = λ l off. ap (λ (a : Account). a .balance .0) (opened-idle i l u off) ∙ sound .zero i u .balance l (taken-off s sound i off);
-    residual = λ l off. ap (λ (a : Account). a .residual .0) (opened-idle i l u off) ∙ sound .zero i u .residual l (taken-off s sound i off);
+    residual = λ l off. ap (λ (a : Account). a .residual .0) (opened-idle i l u off)
+        ∙ sound .zero i u .residual l (taken-off s sound i off);
     leaf = λ leaf. go leaf (has (roundActive s) i) refl;
   }
     where

@@ -1,4 +1,5 @@
--- A main round sends, and a surplus round that sends nothing is followed by a main round; so a send opens at most two rounds. Demands 2 and 3.
+-- A main round sends (R149), and a surplus round that sends nothing is followed by a main round (R148); so a send opens at most two rounds
+-- (R147). Demands 2 and 3.
 use mathlib.Core.Bool.{true, false}
 use mathlib.Core.List.{List, [], _∷_, _++_, append-assoc, append-nil}
 use mathlib.Core.Path.{_≡_, refl, sym, ap, ap₂, _∙_}
@@ -11,7 +12,7 @@ use Rattle.sets.specs.Set.{has}
 use Rattle.tree.specs.declared.Tree.{Tree}
 use Rattle.tree.specs.Class.{isClass, isLeaf}
 use Rattle.tree.proofs.Classes.{class-range}
-use Rattle.state.specs.Account.{accountOf, heldBy}
+use Rattle.state.specs.Account.{accountOf, fundsOf}
 use Rattle.state.specs.State.{State}
 use Rattle.sound.specs.Sound.{Sound}
 use Rattle.rules.specs.Active.{roundActive, weightSum}
@@ -45,7 +46,7 @@ opened-sum s i = ap₂ (λ (t : Tree) (active : ℕ). weightSum t active i) (ope
 module _ (s : State) (sound : Sound s) (wide : Wide s) where
   -- after an opening no active inner class has a surplus, so the next round is a main round
   inner-less : (i : ℕ) → isClass (s .tree) i ≡ true → isLeaf (s .tree) i ≡ false → has (roundActive s) i ≡ true
-      → heldBy (accountOf (opened s .accounts) i) < weightSum (opened s .tree) (roundActive (opened s)) i
+      → fundsOf (accountOf (opened s .accounts) i) < weightSum (opened s .tree) (roundActive (opened s)) i
   inner-less i is inner on =
       let r = class-range (s .tree) i is in
       let h = opened-inner s sound wide i (r .0) (record { class = r .1; inner = inner }) on in
@@ -113,7 +114,13 @@ pub record Goes (s : State) : Type 0 where
   pub few : length more ≤ 2
   pub gives : (n : ℕ) (turns : List Turn)
       → sends (suc (suc n)) turns s
-      ≡ record { turns = turns ++ more; class = nextLeaf after; packet = firstOf after (nextLeaf after); state = sentState after (nextLeaf after) }
+      ≡ record {
+        turns = turns ++ more;
+        class = nextLeaf after;
+        packet = firstOf after (nextLeaf after);
+        state = sentState after
+            (nextLeaf after);
+      }
 
 -- the trace of a send that has opened these rounds
 abbrev gone : State → List Turn → Trace

@@ -1,7 +1,7 @@
 -- The laws of the search for the next leaf: which numbers it passes and where it ends. Demand 2.
 use mathlib.Core.Bool.{Bool, true, false, _&&_}
 use mathlib.Core.Path.{_≡_, sym, ap, _∙_}
-use Prim.Native.Nat.{ℕ, zero, suc, _+_, _-_, _*_, _%_, _≤_, _<_}
+use Prim.Native.Nat.{ℕ, zero, suc, _+_, _-_, _%_, _≤_, _<_}
 use native.Mathlib.Omega.{arith}
 use lib.Dec.{leb}
 use lib.ListN.{getD}
@@ -12,7 +12,7 @@ use Rattle.tree.proofs.Classes.{both-true}
 use Rattle.state.specs.declared.Link.{Link}
 use Rattle.state.specs.declared.Packet.{Packet}
 use Rattle.state.specs.Account.{balanceOf}
-use Rattle.state.specs.Queue.{startOf, heldOf}
+use Rattle.state.specs.Queue.{startOf, heldOf, slot}
 use Rattle.state.specs.State.{State, meaning}
 use Rattle.state.proofs.Meaning.{meaning-held, meaning-first}
 use Rattle.sound.specs.Sound.{SoundLink}
@@ -77,14 +77,14 @@ ready-is s k e = rw e
 
 -- in a sound link its first packet lies at its start
 pub ready-at : (l : Link) (k : ℕ) → SoundLink l → k < 64 → (has (l .active) k && isLeaf (l .tree) k) ≡ true
-    → ready (meaning l) k ≡ leb (costOf (getD (l .lengths) (k * 32 + startOf l k) 0)) (balanceOf (l .accounts) k)
+    → ready (meaning l) k ≡ leb (costOf (getD (l .lengths) (slot k (startOf l k)) 0)) (balanceOf (l .accounts) k)
 ready-at l k s u e =
     let w = both-true (has (l .active) k) (isLeaf (l .tree) k) e in
     let held : 1 ≤ heldOf l k = rw (meaning-held l k u) at (s .state .waiting k u .waits (w .1) (w .0)) in
     let start : (startOf l k + 0) % 32 ≡ startOf l k = omega (arith, s .starts k u .start) in
     ready-is (meaning l) k e
     ∙ ap (λ (p : Packet). leb (costOf (p .length)) (balanceOf (l .accounts) k)) (meaning-first l k u held)
-    ∙ ap (λ (n : ℕ). leb (costOf (getD (l .lengths) (k * 32 + n) 0)) (balanceOf (l .accounts) k)) start
+    ∙ ap (λ (n : ℕ). leb (costOf (getD (l .lengths) (slot k n) 0)) (balanceOf (l .accounts) k)) start
 
 -- the next class i, from a place on, of the set of the active leaves
 module _ (l : Link) (leaves p i : ℕ) (b : Both (l .active) (l .tree .leaves) leaves) (n : Next leaves p i) where
@@ -96,6 +96,6 @@ module _ (l : Link) (leaves p i : ℕ) (b : Both (l .active) (l .tree .leaves) l
 
   -- and it sends where its balance covers the packet at its start
   pub leaf-ready : SoundLink l → i < 64
-      → ready (meaning l) i ≡ leb (costOf (getD (l .lengths) (i * 32 + startOf l i) 0)) (balanceOf (l .accounts) i)
+      → ready (meaning l) i ≡ leb (costOf (getD (l .lengths) (slot i (startOf l i)) 0)) (balanceOf (l .accounts) i)
   unfolding isLeaf
   leaf-ready s u = ready-at l i s u (sym (b .both i) ∙ n .found u)

@@ -1,4 +1,4 @@
--- The leaf that sends next (document 01, "Sending", step 1), as soundness has it. Demand 2.
+-- The leaf that sends next (R135, R136), as soundness has it. Demand 2.
 use mathlib.Core.Bool.{true, false, _&&_}
 use mathlib.Core.Path.{_≡_}
 use Prim.Native.Nat.{ℕ, _+_, _-_, _≤_, _<_}
@@ -82,7 +82,8 @@ next-sender s sound u = record {
     last (no l) = absurd (not-true-and-false (parts .0) (sound .past .past i (omega arith)))
 
 -- every active leaf before it has a balance smaller than its first packet
-pub before-lacks : (s : State) (i : ℕ) → Sound s → Sender s i → (k : ℕ) → k < 64 → isLeaf (s .tree) k ≡ true → has (s .active) k ≡ true → k < i
+pub before-lacks : (s : State) (i : ℕ) → Sound s → Sender s i → (k : ℕ) → k < 64 → isLeaf (s .tree) k ≡ true → has (s .active) k ≡ true
+    → k < i
     → balanceOf (s .accounts) k < costOf (firstOf s k .length)
 before-lacks s i sound is k u f a l = go (decLe (s .place) k)
   where

@@ -1,4 +1,4 @@
--- The state when a leaf has sent its first packet is sound (document 01, "Sending", steps 1 and 2). Demand 2.
+-- The state when a leaf has sent its first packet (R138 to R143) is sound. Demand 2.
 use mathlib.Core.Bool.{true}
 use mathlib.Core.List.{List, []}
 use mathlib.Core.Path.{_≡_, sym, ap, subst, _∙_}
@@ -70,7 +70,8 @@ module _ (s : State) (i : ℕ) (sound : Sound s) (wide : Wide s) (is : Sender s 
             few = λ f. omega (arith, held, sound .holds k u .few f);
             range =
                 λ f j h.
-                subst (λ (q : List Packet). InRange (s .tree) k (getD q j noPacket)) (sym same) (sound .holds k u .range f j (omega (arith, held, h)));
+                subst (λ (q : List Packet). InRange (s .tree) k (getD q j noPacket)) (sym same)
+                (sound .holds k u .range f j (omega (arith, held, h)));
             other = λ f. held ∙ sound .holds k u .other f;
           }
 

@@ -1,4 +1,4 @@
--- The accounts and the active set when a leaf has sent its first packet (document 01, "Sending", steps 1 and 2). Demand 2.
+-- The accounts and the active set when a leaf has sent its first packet (R138 to R143). Demand 2.
 use mathlib.Core.Bool.{Bool, true, false, cond}
 use mathlib.Core.Path.{_≡_, refl, sym, ap, _∙_}
 use Prim.Native.Nat.{ℕ, _≤_, _<_}
@@ -17,7 +17,7 @@ use Rattle.tree.specs.Rules.{PlanRules}
 use Rattle.tree.proofs.Classes.{root-no-class}
 use Rattle.tree.proofs.Rules.{few-classes}
 use Rattle.state.specs.declared.Account.{Account}
-use Rattle.state.specs.Account.{noAccount, accountOf, balanceOf, residualOf, heldBy, sentFrom, gained}
+use Rattle.state.specs.Account.{noAccount, accountOf, balanceOf, residualOf, fundsOf, sentFrom, gained}
 use Rattle.state.specs.State.{State, queueAt}
 use Rattle.sound.specs.Sound.{total, Sound}
 use Rattle.sound.proofs.Active.{ByChild, leaf-to-child}
@@ -49,7 +49,8 @@ paid-total s i wide u covers =
     omega (arith, one, two, covers)
 
 -- the leaf's account, the root's, and any other
-pub paid-leaf : (s : State) (i : ℕ) → Wide s → 1 ≤ i → i < 64 → accountOf (paid s i) i ≡ sentFrom (accountOf (s .accounts) i) (costOf (firstOf s i .length))
+pub paid-leaf : (s : State) (i : ℕ) → Wide s → 1 ≤ i → i < 64
+    → accountOf (paid s i) i ≡ sentFrom (accountOf (s .accounts) i) (costOf (firstOf s i .length))
 unfolding paid
 paid-leaf s i wide l u =
     let cost = costOf (firstOf s i .length) in
@@ -58,7 +59,8 @@ paid-leaf s i wide l u =
     getD-set-other less 0 i (gained (accountOf less 0) cost) noAccount (λ z. omega arith)
     ∙ getD-set-same (s .accounts) i out noAccount (omega (arith, wide .accounts))
 
-pub paid-root : (s : State) (i : ℕ) → Wide s → 1 ≤ i → accountOf (paid s i) 0 ≡ gained (accountOf (s .accounts) 0) (costOf (firstOf s i .length))
+pub paid-root : (s : State) (i : ℕ) → Wide s → 1 ≤ i
+    → accountOf (paid s i) 0 ≡ gained (accountOf (s .accounts) 0) (costOf (firstOf s i .length))
 unfolding paid
 paid-root s i wide l =
     let cost = costOf (firstOf s i .length) in
@@ -127,7 +129,7 @@ module _ (s : State) (i : ℕ) (sound : Sound s) (wide : Wide s) (is : Sender s 
     empty =
         λ k l u a.
         let same = paid-other s i k (λ e. not-true-and-false (is .active) (ap (has (s .active)) (sym e) ∙ a)) (λ z. omega arith) in
-        ap heldBy same ∙ omega (arith, sound .zero k u .balance l a, sound .zero k u .residual l a);
+        ap fundsOf same ∙ omega (arith, sound .zero k u .balance l a, sound .zero k u .residual l a);
     leaf = λ k u f. leaf k u f (ℕ-discrete k i);
   }
     where
@@ -137,7 +139,8 @@ module _ (s : State) (i : ℕ) (sound : Sound s) (wide : Wide s) (is : Sender s 
           ∙ ap (λ (a : Account). a .residual .0) (paid-leaf s i wide (is .low) (is .high))
           ∙ sound .zero i (is .high) .leaf (is .leaf)
       leaf k u f (no ne) =
-          ap (λ (a : Account). a .residual .0) (paid-other s i k ne (root-no-leaf (s .tree) (sound .fits .tree) k f)) ∙ sound .zero k u .leaf f
+          ap (λ (a : Account). a .residual .0) (paid-other s i k ne (root-no-leaf (s .tree) (sound .fits .tree) k f))
+          ∙ sound .zero k u .leaf f
 
   paid-leaves : (k : ℕ) → isLeaf (s .tree) k ≡ true → (k ≡ i → ⊥) → accountOf (paid s i) k ≡ accountOf (s .accounts) k
   paid-leaves k f ne = paid-other s i k ne (root-no-leaf (s .tree) (sound .fits .tree) k f)

@@ -14,9 +14,9 @@ use Rattle.tree.proofs.Classes.{root-no-class}
 use Rattle.tree.proofs.Rules.{parent-lower, parent-below, weight-range}
 use Rattle.tree.specs.Size.{mostSize}
 use Rattle.state.specs.declared.Account.{Account}
-use Rattle.state.specs.Account.{accountOf, heldBy}
+use Rattle.state.specs.Account.{accountOf, fundsOf}
 use Rattle.rules.specs.Active.{weightSum}
-use Rattle.rules.specs.Opening.{Kind, main, surplus, rootQuota, quotaIn, quota, due}
+use Rattle.rules.specs.Opening.{Kind, main, surplus, rootQuota, quotaIn, quota}
 use Rattle.rules.specs.Steps.{CanOpen}
 use Rattle.rules.proofs.Sums.{within-sum, sum-without}
 
@@ -38,8 +38,8 @@ weight-most t i rules u = go (isClass t i) refl
 module _ (kind : Kind) (t : Tree) (active : ℕ) (accounts : List Account) where
   -- what class i has when it works out its quota
   pub hasOf : ℕ → ℕ
-  hasOf zero = heldBy (accountOf accounts 0)
-  hasOf (suc i) = heldBy (accountOf accounts (suc i)) + weightOf t (suc i) * quota kind t active accounts (parentOf t (suc i))
+  hasOf zero = fundsOf (accountOf accounts 0)
+  hasOf (suc i) = fundsOf (accountOf accounts (suc i)) + weightOf t (suc i) * quota kind t active accounts (parentOf t (suc i))
 
   in-root : (n : ℕ) → quotaIn n kind t active accounts 0 ≡ rootQuota kind t active accounts
   unfolding quotaIn
@@ -47,7 +47,8 @@ module _ (kind : Kind) (t : Tree) (active : ℕ) (accounts : List Account) where
   in-root (suc n) = refl
 
   in-suc : (n i : ℕ) → quotaIn (suc n) kind t active accounts (suc i)
-      ≡ (heldBy (accountOf accounts (suc i)) + weightOf t (suc i) * quotaIn n kind t active accounts (parentOf t (suc i))) / weightSum t active (suc i)
+      ≡ (fundsOf (accountOf accounts (suc i)) + weightOf t (suc i) * quotaIn n kind t active accounts
+      (parentOf t (suc i))) / weightSum t active (suc i)
   unfolding quotaIn
   in-suc n i = refl
 
@@ -66,7 +67,7 @@ module _ (kind : Kind) (t : Tree) (active : ℕ) (accounts : List Account) where
       go (suc i) (suc m) a b u ih =
           let low = parent-below t (suc i) rules (omega arith) u in
           in-suc n i
-          ∙ ap (λ (q : ℕ). (heldBy (accountOf accounts (suc i)) + weightOf t (suc i) * q) / weightSum t active (suc i))
+          ∙ ap (λ (q : ℕ). (fundsOf (accountOf accounts (suc i)) + weightOf t (suc i) * q) / weightSum t active (suc i))
           (ih m (parentOf t (suc i)) (omega arith) (omega arith) (omega arith))
           ∙ sym (in-suc m i)
 
@@ -77,16 +78,17 @@ module _ (kind : Kind) (t : Tree) (active : ℕ) (accounts : List Account) where
   -- a quota from the parent's
   pub quota-step : PlanRules t → (i : ℕ) → 1 ≤ i → i < 64
       → quota kind t active accounts i
-      ≡ (heldBy (accountOf accounts i) + weightOf t i * quota kind t active accounts (parentOf t i)) / weightSum t active i
+      ≡ (fundsOf (accountOf accounts i) + weightOf t i * quota kind t active accounts (parentOf t i)) / weightSum t active i
   unfolding quota
   quota-step rules zero l u = absurd (omega arith)
   quota-step rules (suc i) l u =
       let low = parent-below t (suc i) rules l u in
       in-suc 62 i
-      ∙ ap (λ (q : ℕ). (heldBy (accountOf accounts (suc i)) + weightOf t (suc i) * q) / weightSum t active (suc i))
+      ∙ ap (λ (q : ℕ). (fundsOf (accountOf accounts (suc i)) + weightOf t (suc i) * q) / weightSum t active (suc i))
       (in-stable rules 62 63 (parentOf t (suc i)) (omega arith) (omega arith) (omega arith))
 
-  pub has-suc : (i : ℕ) {m : ℕ} → hasOf (suc i) ≤ m → heldBy (accountOf accounts (suc i)) + weightOf t (suc i) * quota kind t active accounts (parentOf t (suc i)) ≤ m
+  pub has-suc : (i : ℕ) {m : ℕ} → hasOf (suc i) ≤ m
+      → fundsOf (accountOf accounts (suc i)) + weightOf t (suc i) * quota kind t active accounts (parentOf t (suc i)) ≤ m
   unfolding hasOf
   has-suc i h = h
 
@@ -95,8 +97,8 @@ module _ (kind : Kind) (t : Tree) (active : ℕ) (accounts : List Account) where
   unfolding hasOf
   hands-within rules zero u = rw quota-root (root kind)
     where
-      root : (k : Kind) → rootQuota k t active accounts * weightSum t active 0 ≤ heldBy (accountOf accounts 0)
-      root main = div-mul-le-self (heldBy (accountOf accounts 0)) (weightSum t active 0)
+      root : (k : Kind) → rootQuota k t active accounts * weightSum t active 0 ≤ fundsOf (accountOf accounts 0)
+      root main = div-mul-le-self (fundsOf (accountOf accounts 0)) (weightSum t active 0)
       root surplus = omega arith
   hands-within rules (suc i) u = rw (quota-step rules (suc i) (omega arith) u) (div-mul-le-self _ (weightSum t active (suc i)))
 
@@ -118,7 +120,7 @@ module _ (kind : Kind) (t : Tree) (active : ℕ) (accounts : List Account) (can 
   pub quota-inactive : (i : ℕ) → 1 ≤ i → i < 64 → has active i ≡ false → quota kind t active accounts i ≡ 0
   quota-inactive i l u off =
       quota-step kind t active accounts (can .rules) i l u
-      ∙ ap (λ (w : ℕ). (heldBy (accountOf accounts i) + weightOf t i * quota kind t active accounts (parentOf t i)) / w)
+      ∙ ap (λ (w : ℕ). (fundsOf (accountOf accounts i) + weightOf t i * quota kind t active accounts (parentOf t i)) / w)
       (sum-without t active i (λ k is e a. not-true-and-false (ap (has active) (sym e) ∙ can .upward k is a) off))
       ∙ div-zero _
 
@@ -137,7 +139,8 @@ module _ (kind : Kind) (t : Tree) (active : ℕ) (accounts : List Account) (can 
       go (suc i) a u on ih = at (isClass t (suc i)) refl
         where
           at : (b : Bool) → isClass t (suc i) ≡ b
-              → heldBy (accountOf accounts (suc i)) + weightOf t (suc i) * quota kind t active accounts (parentOf t (suc i)) ≤ (suc i + 1) * mostSize
+              → fundsOf (accountOf accounts (suc i)) + weightOf t (suc i) * quota kind t active accounts (parentOf t (suc i)) ≤
+              (suc i + 1) * mostSize
           at true is =
               let low = parent-lower t (suc i) (can .rules) is in
               omega (
@@ -155,16 +158,24 @@ module _ (kind : Kind) (t : Tree) (active : ℕ) (accounts : List Account) (can 
   quota-most i u = go i u
     where
       root : (k : Kind) → rootQuota k t active accounts ≤ 64 * mostSize
-      root main = omega (arith, div-le-self (heldBy (accountOf accounts 0)) (weightSum t active 0), can .small 0 (omega arith))
+      root main = omega (arith, div-le-self (fundsOf (accountOf accounts 0)) (weightSum t active 0), can .small 0 (omega arith))
       root surplus = zero-le
 
       other : (i : ℕ) → suc i < 64 → (b : Bool) → has active (suc i) ≡ b → quota kind t active accounts (suc i) ≤ 64 * mostSize
       other i u true on =
           let most = has-bound 63 (suc i) (omega arith) u (λ l. on) in
-          rw (quota-step kind t active accounts (can .rules) (suc i) (omega arith) u) (omega (arith, most-of i most, div-le-self (heldBy (accountOf accounts (suc i)) + weightOf t (suc i) * quota kind t active accounts (parentOf t (suc i))) (weightSum t active (suc i))))
+          rw (quota-step kind t active accounts (can .rules) (suc i) (omega arith) u)
+          (omega (
+            arith,
+            most-of i most,
+            div-le-self
+                (fundsOf (accountOf accounts (suc i)) + weightOf t (suc i) * quota kind t active accounts (parentOf t (suc i)))
+                (weightSum t active (suc i)),
+          ))
         where
           most-of : (i : ℕ) → hasOf kind t active accounts (suc i) ≤ (suc i + 1) * mostSize
-              → heldBy (accountOf accounts (suc i)) + weightOf t (suc i) * quota kind t active accounts (parentOf t (suc i)) ≤ (suc i + 1) * mostSize
+              → fundsOf (accountOf accounts (suc i)) + weightOf t (suc i) * quota kind t active accounts (parentOf t (suc i)) ≤
+              (suc i + 1) * mostSize
           most-of i h = has-suc kind t active accounts i h
       other i u false off = omega (arith, quota-inactive (suc i) (omega arith) u off)
 
@@ -185,5 +196,7 @@ module _ (kind : Kind) (t : Tree) (active : ℕ) (accounts : List Account) (can 
   -- what a class hands down is within what it has
   pub down-within : (i : ℕ) → 1 ≤ i → i < 64
       → weightSum t active i * quota kind t active accounts i
-      ≤ heldBy (accountOf accounts i) + weightOf t i * quota kind t active accounts (parentOf t i)
-  down-within i l u = quota-back _ (weightSum t active i) (weightSum t active i) (quota kind t active accounts i) refl (quota-step kind t active accounts (can .rules) i l u)
+      ≤ fundsOf (accountOf accounts i) + weightOf t i * quota kind t active accounts (parentOf t i)
+  down-within i l u =
+      quota-back _ (weightSum t active i) (weightSum t active i) (quota kind t active accounts i) refl
+      (quota-step kind t active accounts (can .rules) i l u)

@@ -48,9 +48,11 @@ within-sum t active i is a =
     omega (arith, here, sum-part (activeWeight t active (parentOf t i)) (t .count) i (r .0) (r .1))
 
 -- a class without an active child has a sum of 0
-pub sum-without : (t : Tree) (active p : ℕ) → ((i : ℕ) → isClass t i ≡ true → parentOf t i ≡ p → has active i ≡ true → ⊥) → weightSum t active p ≡ 0
+pub sum-without : (t : Tree) (active p : ℕ) → ((i : ℕ) → isClass t i ≡ true → parentOf t i ≡ p → has active i ≡ true → ⊥)
+    → weightSum t active p ≡ 0
 unfolding weightSum activeWeight activeChild isChild
-sum-without t active p none = sum-zero (activeWeight t active p) (t .count) (λ i l u. go i (class-in t i l u) (eqb (parentOf t i) p && has active i) refl)
+sum-without t active p none =
+    sum-zero (activeWeight t active p) (t .count) (λ i l u. go i (class-in t i l u) (eqb (parentOf t i) p && has active i) refl)
   where
     go : (i : ℕ) → isClass t i ≡ true → (b : Bool) → (eqb (parentOf t i) p && has active i) ≡ b → cond b (weightOf t i) 0 ≡ 0
     go i is true e =

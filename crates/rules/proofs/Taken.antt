@@ -89,7 +89,8 @@ module _ (s : State) (rules : PlanRules (s .tree)) where
   -- a leaf is taken in exactly where it holds a packet
   pub taken-leaf : (i : ℕ) → isClass (s .tree) i ≡ true → isLeaf (s .tree) i ≡ true → has (roundActive s) i ≡ leb 1 (length (queueAt s i))
   unfolding Parts
-  taken-leaf i is leaf = taken-at i (class-range (s .tree) i is .1) ∙ go (someBelow (s .tree) (waits s) i) (leb 1 (length (queueAt s i))) refl refl
+  taken-leaf i is leaf =
+      taken-at i (class-range (s .tree) i is .1) ∙ go (someBelow (s .tree) (waits s) i) (leb 1 (length (queueAt s i))) refl refl
     where
       some : Parts (s .tree) rules (waits s) i → leb 1 (length (queueAt s i)) ≡ true
       some (inl h) = waits-some i (h .1)
@@ -101,10 +102,12 @@ module _ (s : State) (rules : PlanRules (s .tree)) where
       go false false e f = refl
 
   -- so a leaf taken in holds one, and a leaf that holds one is taken in
-  pub taken-waits : (i : ℕ) → isClass (s .tree) i ≡ true → isLeaf (s .tree) i ≡ true → has (roundActive s) i ≡ true → 1 ≤ length (queueAt s i)
+  pub taken-waits : (i : ℕ) → isClass (s .tree) i ≡ true → isLeaf (s .tree) i ≡ true → has (roundActive s) i ≡ true
+      → 1 ≤ length (queueAt s i)
   taken-waits i is leaf e = leb-true 1 (length (queueAt s i)) (sym (taken-leaf i is leaf) ∙ e)
 
-  pub waits-taken : (i : ℕ) → isClass (s .tree) i ≡ true → isLeaf (s .tree) i ≡ true → 1 ≤ length (queueAt s i) → has (roundActive s) i ≡ true
+  pub waits-taken : (i : ℕ) → isClass (s .tree) i ≡ true → isLeaf (s .tree) i ≡ true → 1 ≤ length (queueAt s i)
+      → has (roundActive s) i ≡ true
   waits-taken i is leaf h = taken-leaf i is leaf ∙ le-leb 1 (length (queueAt s i)) h
 
   -- the parent of a class taken in is taken in
@@ -137,7 +140,8 @@ module _ (s : State) (rules : PlanRules (s .tree)) where
   taken-by-leaf = child-to-leaf (s .tree) (roundActive s) rules taken-by-child
 
   -- while a packet waits the root is taken in
-  pub taken-root : (i : ℕ) → isClass (s .tree) i ≡ true → isLeaf (s .tree) i ≡ true → 1 ≤ length (queueAt s i) → has (roundActive s) 0 ≡ true
+  pub taken-root : (i : ℕ) → isClass (s .tree) i ≡ true → isLeaf (s .tree) i ≡ true → 1 ≤ length (queueAt s i)
+      → has (roundActive s) 0 ≡ true
   taken-root i is leaf h =
       climb-root (s .tree) (roundActive s) rules taken-up i i (omega arith) (class-range (s .tree) i is .1) (waits-taken i is leaf h)
 
@@ -154,7 +158,8 @@ module _ (s : State) (rules : PlanRules (s .tree)) where
       taken : someWaits s ≡ true → has (roundActive s) 0 ≡ true
       taken e =
           let w = some-which (waits s) (s .tree .count) e in
-          taken-root (w .0) (class-in (s .tree) (w .0) (w .1) (w .2)) (waits-leaf (w .0) (w .3)) (leb-true 1 (length (queueAt s (w .0))) (waits-some (w .0) (w .3)))
+          taken-root (w .0) (class-in (s .tree) (w .0) (w .1) (w .2)) (waits-leaf (w .0) (w .3))
+          (leb-true 1 (length (queueAt s (w .0))) (waits-some (w .0) (w .3)))
 
       go : (a b : Bool) → has (roundActive s) 0 ≡ a → someWaits s ≡ b → a ≡ b
       go true b e f = sym (some e) ∙ f

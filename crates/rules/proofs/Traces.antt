@@ -42,13 +42,15 @@ module _ (l : Link) (shape : Shaped l) (sound : SoundLink l) (waits : someWaits 
   unfolding last
   last-means = meaning-in l (goes .after) (sym (goes .tree)) (sym (goes .size)) (sym (goes .queues))
 
-  trace-is : traceOf (meaning l) ≡ record { turns = goes .more; class = leaf; packet = firstOf (goes .after) leaf; state = sentState (goes .after) leaf }
+  trace-is : traceOf (meaning l)
+      ≡ record { turns = goes .more; class = leaf; packet = firstOf (goes .after) leaf; state = sentState (goes .after) leaf }
   unfolding traceOf leaf
   trace-is = goes .gives 62 []
 
   last-shaped : Shaped last
   unfolding last
-  last-shaped = record { accounts = goes .wide .accounts; start = shape .start; held = shape .held; lengths = shape .lengths; tags = shape .tags }
+  last-shaped =
+      record { accounts = goes .wide .accounts; start = shape .start; held = shape .held; lengths = shape .lengths; tags = shape .tags }
 
   last-next : SendsNext last leaf
   unfolding last leaf

@@ -1,4 +1,4 @@
--- What turning inactive upward leaves (document 01, "Sending", step 2): who is active after it, and whose account is 0. Demand 2.
+-- What turning inactive upward leaves (R140 to R143): who is active after it, and whose account is 0. Demand 2.
 use mathlib.Core.Bool.{Bool, true, false, _&&_}
 use mathlib.Core.Path.{_≡_, refl, sym, ap, subst, _∙_}
 use Prim.Native.Nat.{ℕ, zero, suc, _^_, _≤_, _<_}
@@ -19,7 +19,7 @@ use Rattle.tree.proofs.Classes.{both-true, class-in, class-range}
 use Rattle.tree.proofs.Rules.{parent-lower, parent-no-leaf, few-classes}
 use Rattle.tree.proofs.Sums.{some-found, some-which}
 use Rattle.state.specs.declared.Account.{Account}
-use Rattle.state.specs.Account.{noAccount, accountOf, residualOf, heldBy, returned, received}
+use Rattle.state.specs.Account.{noAccount, accountOf, residualOf, fundsOf, returned, received}
 use Rattle.sound.specs.Below.{Above}
 use Rattle.sound.proofs.Active.{ActiveChild, ByChild, parent-above}
 use Rattle.rules.specs.Sending.{Books}
@@ -32,7 +32,7 @@ pub record BooksRight (t : Tree) (b : Books) : Type 0 where
   pub many : length (b .accounts) ≡ 64
   pub word : b .active < 2 ^ 64
   pub past : (k : ℕ) → t .count < k → has (b .active) k ≡ false
-  pub empty : (k : ℕ) → 1 ≤ k → k < 64 → has (b .active) k ≡ false → heldBy (accountOf (b .accounts) k) ≡ 0
+  pub empty : (k : ℕ) → 1 ≤ k → k < 64 → has (b .active) k ≡ false → fundsOf (accountOf (b .accounts) k) ≡ 0
   pub leaf : (k : ℕ) → k < 64 → isLeaf t k ≡ true → residualOf (b .accounts) k ≡ 0
 
 -- class i is active without an active child; every other class above is active exactly when a child of it is
@@ -91,7 +91,8 @@ no-child : (t : Tree) (active p : ℕ) → someTo (activeChild t active p) (t .c
 unfolding activeChild isChild
 no-child t active p e c =
     let r = class-range t (c .child′) (c .class) in
-    let at : (eqb (parentOf t (c .child′)) p && has active (c .child′)) ≡ true = rw (eq-eqb (parentOf t (c .child′)) p (c .parent), c .is-active) in
+    let at : (eqb (parentOf t (c .child′)) p && has active (c .child′))
+    ≡ true = rw (eq-eqb (parentOf t (c .child′)) p (c .parent), c .is-active) in
     not-true-and-false (some-found (activeChild t active p) (t .count) (c .child′) (r .0) (r .1) at) e
 
 -- a class other than i and its parent keeps its account
@@ -100,15 +101,16 @@ given-other : (t : Tree) (i : ℕ) (b : Books) (k : ℕ) → (k ≡ i → ⊥) �
 unfolding givenUp
 given-other t i b k ne np =
     let rest = set (b .accounts) i (returned (accountOf (b .accounts) i)) in
-    getD-set-other rest (parentOf t i) k (received (accountOf rest (parentOf t i)) (heldBy (accountOf (b .accounts) i))) noAccount np
+    getD-set-other rest (parentOf t i) k (received (accountOf rest (parentOf t i)) (fundsOf (accountOf (b .accounts) i))) noAccount np
     ∙ getD-set-other (b .accounts) i k (returned (accountOf (b .accounts) i)) noAccount ne
 
 -- class i keeps nothing
-given-same : (t : Tree) (i : ℕ) (b : Books) → (i ≡ parentOf t i → ⊥) → i < length (b .accounts) → accountOf (givenUp t i b .accounts) i ≡ noAccount
+given-same : (t : Tree) (i : ℕ) (b : Books) → (i ≡ parentOf t i → ⊥) → i < length (b .accounts)
+    → accountOf (givenUp t i b .accounts) i ≡ noAccount
 unfolding givenUp
 given-same t i b np u =
     let rest = set (b .accounts) i (returned (accountOf (b .accounts) i)) in
-    getD-set-other rest (parentOf t i) i (received (accountOf rest (parentOf t i)) (heldBy (accountOf (b .accounts) i))) noAccount np
+    getD-set-other rest (parentOf t i) i (received (accountOf rest (parentOf t i)) (fundsOf (accountOf (b .accounts) i))) noAccount np
     ∙ getD-set-same (b .accounts) i (returned (accountOf (b .accounts) i)) noAccount u
 
 -- class i gives up
@@ -127,7 +129,8 @@ module _ (t : Tree) (i : ℕ) (b : Books) (rules : PlanRules t) (h : TurningOff 
       (record { child′ = i; class = h .class; parent = refl; is-active = h .on })
 
   -- a class other than its parent keeps its active children, and no class above gains one
-  keeps-child : (k : ℕ) → Above t k → (k ≡ parentOf t i → ⊥) → has (without (b .active) i) k ≡ true → ActiveChild t (without (b .active) i) k
+  keeps-child : (k : ℕ) → Above t k → (k ≡ parentOf t i → ⊥) → has (without (b .active) i) k ≡ true
+      → ActiveChild t (without (b .active) i) k
   keeps-child k ab np a =
       let w = left-in (b .active) i k a in
       let c = h .has-child k ab (w .1) (w .0) in
@@ -158,11 +161,11 @@ module _ (t : Tree) (i : ℕ) (b : Books) (rules : PlanRules t) (h : TurningOff 
       kept = given-same t i b (λ e. omega (arith, lower)) (omega (arith, right .many, ends))
 
       empty : (k : ℕ) → 1 ≤ k → k < 64 → has (without (b .active) i) k ≡ false → Dec (k ≡ i) → Dec (k ≡ parentOf t i)
-          → heldBy (accountOf (givenUp t i b .accounts) k) ≡ 0
-      empty k l u a (yes e) d = ap (λ (j : ℕ). heldBy (accountOf (givenUp t i b .accounts) j)) e ∙ ap heldBy kept
+          → fundsOf (accountOf (givenUp t i b .accounts) k) ≡ 0
+      empty k l u a (yes e) d = ap (λ (j : ℕ). fundsOf (accountOf (givenUp t i b .accounts) j)) e ∙ ap fundsOf kept
       empty k l u a (no ne) (yes e) = absurd (not-true-and-false parent-on (ap (has (without (b .active) i)) (sym e) ∙ a))
       empty k l u a (no ne) (no np) =
-          ap heldBy (given-other t i b k ne np) ∙ right .empty k l u (sym (has-without-other (b .active) i k ne) ∙ a)
+          ap fundsOf (given-other t i b k ne np) ∙ right .empty k l u (sym (has-without-other (b .active) i k ne) ∙ a)
 
       leaf : (k : ℕ) → k < 64 → isLeaf t k ≡ true → Dec (k ≡ i) → Dec (k ≡ parentOf t i) → residualOf (givenUp t i b .accounts) k ≡ 0
       leaf k u f (yes e) d = ap (residualOf (givenUp t i b .accounts)) e ∙ ap (λ (a : Account). a .residual .0) kept
@@ -185,12 +188,14 @@ module _ (t : Tree) (i : ℕ) (b : Books) (rules : PlanRules t) (h : TurningOff 
     accounts = given-leaf;
   }
     where
-      child-of : (k : ℕ) → Above t k → has (without (b .active) i) k ≡ true → Dec (k ≡ parentOf t i) → ActiveChild t (without (b .active) i) k
+      child-of : (k : ℕ) → Above t k → has (without (b .active) i) k ≡ true → Dec (k ≡ parentOf t i)
+          → ActiveChild t (without (b .active) i) k
       child-of k ab a (yes e) = subst (ActiveChild t (without (b .active) i)) (sym e) c
       child-of k ab a (no np) = keeps-child k ab np a
 
   -- the root turns inactive with its last active child
-  root-off : BooksRight t b → (ActiveChild t (givenUp t i b .active) (parentOf t i) → ⊥) → parentOf t i ≡ 0 → TurnedOff t i b (rootOff (givenUp t i b))
+  root-off : BooksRight t b → (ActiveChild t (givenUp t i b .active) (parentOf t i) → ⊥) → parentOf t i ≡ 0
+      → TurnedOff t i b (rootOff (givenUp t i b))
   unfolding givenUp
   root-off right none e = record {
     right =
@@ -214,12 +219,14 @@ module _ (t : Tree) (i : ℕ) (b : Books) (rules : PlanRules t) (h : TurningOff 
     shrinks = λ k a. left-in (b .active) i k (left-in (without (b .active) i) 0 k a .0) .0;
     leaves =
         λ k f ne.
-        has-without-other (without (b .active) i) 0 k (λ z. not-true-and-false f (ap (isLeaf t) (z ∙ sym e) ∙ parent-no-leaf t i rules (h .class)))
+        has-without-other (without (b .active) i) 0 k
+        (λ z. not-true-and-false f (ap (isLeaf t) (z ∙ sym e) ∙ parent-no-leaf t i rules (h .class)))
         ∙ has-without-other (b .active) i k ne;
     accounts = given-leaf;
   }
     where
-      child-of : (k : ℕ) → Above t k → (has (without (b .active) i) k ≡ true) × (k ≡ 0 → ⊥) → ActiveChild t (without (without (b .active) i) 0) k
+      child-of : (k : ℕ) → Above t k → (has (without (b .active) i) k ≡ true) × (k ≡ 0 → ⊥)
+          → ActiveChild t (without (without (b .active) i) 0) k
       child-of k ab w =
           let c = keeps-child k ab (λ z. w .1 (z ∙ e)) (w .0) in
           record {
@@ -227,11 +234,13 @@ module _ (t : Tree) (i : ℕ) (b : Books) (rules : PlanRules t) (h : TurningOff 
             class = c .class;
             parent = c .parent;
             is-active =
-                has-without-other (without (b .active) i) 0 (c .child′) (λ z. omega (arith, class-range t (c .child′) (c .class) .0)) ∙ c .is-active;
+                has-without-other (without (b .active) i) 0 (c .child′) (λ z. omega (arith, class-range t (c .child′) (c .class) .0))
+                ∙ c .is-active;
           }
 
   -- any other parent without an active child is next
-  parent-next : (ActiveChild t (givenUp t i b .active) (parentOf t i) → ⊥) → (parentOf t i ≡ 0 → ⊥) → TurningOff t (parentOf t i) (givenUp t i b)
+  parent-next : (ActiveChild t (givenUp t i b .active) (parentOf t i) → ⊥) → (parentOf t i ≡ 0 → ⊥)
+      → TurningOff t (parentOf t i) (givenUp t i b)
   unfolding givenUp
   parent-next none ne = record {
     class = parent-class t i rules (h .class) ne;
@@ -261,23 +270,28 @@ module _ (t : Tree) (i : ℕ) (b : Books) (rules : PlanRules t) (h : TurningOff 
       off false a = a
 
 -- a class turns inactive, and so does each class above that has no active child left
-pub turns-off : (n : ℕ) (t : Tree) (i : ℕ) (b : Books) → PlanRules t → i ≤ n → BooksRight t b → TurningOff t i b → TurnedOff t i b (turnsOff n t i b)
+pub turns-off : (n : ℕ) (t : Tree) (i : ℕ) (b : Books) → PlanRules t → i ≤ n → BooksRight t b → TurningOff t i b
+    → TurnedOff t i b (turnsOff n t i b)
 turns-off zero t i b rules u right h = absurd (omega (arith, class-range t i (h .class) .0))
 turns-off (suc n) t i b rules u right h =
     go (someTo (activeChild t (givenUp t i b .active) (parentOf t i)) (t .count)) refl (ℕ-discrete (parentOf t i) 0)
-    (λ next. turns-off n t (parentOf t i) (givenUp t i b) rules (omega (arith, parent-lower t i rules (h .class))) (given-right t i b rules h right) next)
+    (λ next. turns-off n t (parentOf t i) (givenUp t i b) rules (omega (arith, parent-lower t i rules (h .class)))
+    (given-right t i b rules h right) next)
   where
     go : (x : Bool) → someTo (activeChild t (givenUp t i b .active) (parentOf t i)) (t .count) ≡ x → Dec (parentOf t i ≡ 0)
-        → (TurningOff t (parentOf t i) (givenUp t i b) → TurnedOff t (parentOf t i) (givenUp t i b) (turnsOff n t (parentOf t i) (givenUp t i b)))
+        → (TurningOff t (parentOf t i) (givenUp t i b)
+        → TurnedOff t (parentOf t i) (givenUp t i b) (turnsOff n t (parentOf t i) (givenUp t i b)))
         → TurnedOff t i b (turnsOff (suc n) t i b)
     go true e d ih = rw (step-stays n t i b e) (stays-off t i b rules h right (found-child t (givenUp t i b .active) (parentOf t i) e))
-    go false e (yes z) ih = rw (step-root n t i b e z) (root-off t i b rules h right (no-child t (givenUp t i b .active) (parentOf t i) e) z)
+    go false e (yes z) ih =
+        rw (step-root n t i b e z) (root-off t i b rules h right (no-child t (givenUp t i b .active) (parentOf t i) e) z)
     go false e (no ne) ih =
         rw (step-up n t i b e ne)
         (then-off t i b rules h _ (ih (parent-next t i b rules h (no-child t (givenUp t i b .active) (parentOf t i) e) ne)))
 
 -- so where an active leaf turns inactive, soundness of the books is kept and no other leaf changes
-pub leaf-off : (t : Tree) (i : ℕ) (b : Books) → PlanRules t → ByChild t (b .active) → BooksRight t b → isClass t i ≡ true → isLeaf t i ≡ true
+pub leaf-off : (t : Tree) (i : ℕ) (b : Books) → PlanRules t → ByChild t (b .active) → BooksRight t b → isClass t i ≡ true
+    → isLeaf t i ≡ true
     → has (b .active) i ≡ true → TurnedOff t i b (turnsOff 63 t i b)
 leaf-off t i b rules by right is leaf on =
     turns-off 63 t i b rules (omega (arith, class-range t i is .1, few-classes t rules)) right (leaf-turning t i b rules by is leaf on)

@@ -1,4 +1,4 @@
--- Step 1 visit by visit, as document 01 tells it, finds the leaf that `nextLeaf` names. Demand 2.
+-- Step 1 visit by visit (R135 to R137) finds the leaf that `nextLeaf` names. Demand 2.
 use mathlib.Core.Bool.{Bool, true, false}
 use mathlib.Core.Path.{_≡_, refl, sym, _∙_}
 use Prim.Native.Nat.{ℕ, zero, suc, _+_, _-_, _≤_, _<_}
@@ -35,7 +35,8 @@ visit n s place = refl
 visits-from : (n : ℕ) (s : State) (place : ℕ) → place ≤ 64 → 64 - place ≤ n → visits n s place ≡ firstFrom (ready s) (64 - place) place
 unfolding visits
 visits-from zero s place h few = sym (first-end (ready s) place (omega arith))
-visits-from (suc n) s place h few = visit n s place ∙ go (ltb i 64) refl (covers s i) refl (λ u. visits-from n s (i + 1) (omega arith) (omega (arith, range .0)))
+visits-from (suc n) s place h few =
+    visit n s place ∙ go (ltb i 64) refl (covers s i) refl (λ u. visits-from n s (i + 1) (omega arith) (omega (arith, range .0)))
   where
     i : ℕ
     i = firstFrom (activeLeaf s) (64 - place) place
@@ -52,8 +53,10 @@ visits-from (suc n) s place h few = visit n s place ∙ go (ltb i 64) refl (cove
     active : i < 64 → activeLeaf s i ≡ true
     active u = first-holds (activeLeaf s) (64 - place) place (omega arith)
 
-    go : (b : Bool) → ltb i 64 ≡ b → (c : Bool) → covers s i ≡ c → (i < 64 → visits n s (i + 1) ≡ firstFrom (ready s) (64 - (i + 1)) (i + 1))
-        → _≡_ {A = ℕ} (elim b [ true ↦ elim c [ true ↦ i | false ↦ visits n s (i + 1) ] | false ↦ 64 ]) (firstFrom (ready s) (64 - place) place)
+    go : (b : Bool) → ltb i 64 ≡ b → (c : Bool) → covers s i ≡ c
+        → (i < 64 → visits n s (i + 1) ≡ firstFrom (ready s) (64 - (i + 1)) (i + 1))
+        → _≡_ {A = ℕ} (elim b [ true ↦ elim c [ true ↦ i | false ↦ visits n s (i + 1) ] | false ↦ 64 ])
+        (firstFrom (ready s) (64 - place) place)
     go false e c f later = sym (passed ∙ first-end (ready s) i (omega (arith, ltb-false i 64 e, range .1)))
     go true e true f later =
         let u = ltb-true i 64 e in

@@ -1,4 +1,5 @@
--- Laws of the classes that a round takes in: a class has a packet at or below it exactly when it waits itself or a child of it has one. Demand 2.
+-- Laws of the classes that a round takes in: a class has a packet at or below it exactly when it waits itself or a child of it has one.
+-- Demand 2.
 use mathlib.Core.Bool.{Bool, true, false, cond, _&&_, _||_, or-true}
 use mathlib.Core.Logic.{_⊎_, inl, inr}
 use mathlib.Core.Path.{_≡_, refl, sym, ap, ap₂, _∙_}
@@ -104,7 +105,8 @@ module _ (t : Tree) (rules : PlanRules t) where
       climb (suc n) j a u h = go (ℕ-discrete j 0) (eqb c j) refl (λ k x y z. climb n k x y z)
         where
           go : Dec (j ≡ 0) → (b : Bool) → eqb c j ≡ b
-              → ((k : ℕ) → k ≤ n → k < 64 → atOrBelow t c k ≡ true → atOrBelow t (parentOf t c) k ≡ true) → atOrBelow t (parentOf t c) j ≡ true
+              → ((k : ℕ) → k ≤ n → k < 64 → atOrBelow t c k ≡ true → atOrBelow t (parentOf t c) k ≡ true)
+              → atOrBelow t (parentOf t c) j ≡ true
           go (yes z) b e ih =
               let f : eqb c 0 ≡ true = sym (below-root t rules c) ∙ (rw z at h) in
               absurd (omega (arith, eqb-true c 0 f, class-range t c is .0))
@@ -112,14 +114,17 @@ module _ (t : Tree) (rules : PlanRules t) where
               let q = eqb-true c j e in
               let low = parent-below t j rules (omega arith) u in
               below-step t rules (parentOf t c) j (omega arith) u
-              ∙ ap (λ (x : Bool). eqb (parentOf t c) j || x) (ap (λ (x : ℕ). atOrBelow t (parentOf t c) (parentOf t x)) (sym q) ∙ below-self t rules (parentOf t c) (rw (← q) at (few low)))
+              ∙ ap (λ (x : Bool). eqb (parentOf t c) j || x)
+              (ap (λ (x : ℕ). atOrBelow t (parentOf t c) (parentOf t x)) (sym q)
+              ∙ below-self t rules (parentOf t c) (rw (← q) at (few low)))
               ∙ or-true (eqb (parentOf t c) j)
             where
               few : parentOf t j < j → parentOf t j < 64
               few l = omega arith
           go (no z) false e ih =
               let low = parent-below t j rules (omega arith) u in
-              let more : atOrBelow t c (parentOf t j) ≡ true = sym (ap (λ (x : Bool). x || atOrBelow t c (parentOf t j)) e) ∙ sym (below-step t rules c j (omega arith) u) ∙ h in
+              let more : atOrBelow t c (parentOf t j) ≡ true = sym (ap (λ (x : Bool). x || atOrBelow t c (parentOf t j)) e)
+              ∙ sym (below-step t rules c j (omega arith) u) ∙ h in
               below-step t rules (parentOf t c) j (omega arith) u
               ∙ ap (λ (x : Bool). eqb (parentOf t c) j || x) (ih (parentOf t j) (omega arith) (omega arith) more)
               ∙ or-true (eqb (parentOf t c) j)
@@ -150,13 +155,16 @@ module _ (t : Tree) (rules : PlanRules t) where
               low = parent-lower t j rules is
 
               more : atOrBelow t i (parentOf t j) ≡ true
-              more = sym (ap (λ (x : Bool). x || atOrBelow t i (parentOf t j)) e) ∙ sym (below-step t rules i j (class-range t j is .0) u) ∙ h
+              more =
+                  sym (ap (λ (x : Bool). x || atOrBelow t i (parentOf t j)) e) ∙ sym (below-step t rules i j (class-range t j is .0) u) ∙ h
 
               up : Dec (parentOf t j ≡ 0) → Found j
               up (yes z) =
                   let r : eqb i 0 ≡ true = sym (below-root t rules i) ∙ (rw z at more) in
                   inr (j, is, z ∙ sym (eqb-true i 0 r), below-self t rules j u)
-              up (no z) = on (ih (parentOf t j) (omega (arith, low)) (class-in t (parentOf t j) (omega arith) (omega (arith, low, class-range t j is .1))) more)
+              up (no z) =
+                  on (ih (parentOf t j) (omega (arith, low))
+                  (class-in t (parentOf t j) (omega arith) (omega (arith, low, class-range t j is .1))) more)
                 where
                   on : Found (parentOf t j) → Found j
                   on (inl q) = inr (j, is, q, below-self t rules j u)
@@ -237,7 +245,15 @@ module _ (t : Tree) (rules : PlanRules t) where
     -- at first no class is settled
     pub marks-none : Marks t w 0 (t .count)
     unfolding Marked
-    marks-none = record { fits = omega arith; at = λ k u. record { sound = λ e. absurd (not-true-and-false e (has-empty k)); complete = λ m. absurd (none k m) } }
+    marks-none =
+        record {
+          fits = omega arith;
+          at = λ k u. record {
+            sound = λ e. absurd (not-true-and-false e (has-empty k));
+            complete = λ m. absurd
+                (none k m);
+          };
+        }
       where
         past : (k : ℕ) → t .count < k → someBelow t w k ≡ true → ⊥
         past k h e = above-last k h (some-parts k e)
@@ -332,7 +348,9 @@ module _ (t : Tree) (rules : PlanRules t) where
     -- when all are settled, the set is the one the rules say
     pub marks-all : (active : ℕ) → Marks t w active 0 → active ≡ upward t w
     unfolding Marked upward
-    marks-all active m = set-ext active (setOf (someBelow t w) (t .count)) (m .fits) (set-fits (someBelow t w) (t .count) (omega (arith, few-classes t rules))) (λ k u. same k u)
+    marks-all active m =
+        set-ext active (setOf (someBelow t w) (t .count)) (m .fits)
+        (set-fits (someBelow t w) (t .count) (omega (arith, few-classes t rules))) (λ k u. same k u)
       where
         below : (k : ℕ) → Marked t w 0 k → someBelow t w k ≡ true
         below k (inl h) = h .1

@@ -4,23 +4,13 @@ use lib.ListN.{length}
 use Rattle.state.specs.declared.Link.{Link}
 use Rattle.state.specs.declared.Packet.{Packet}
 use Rattle.state.specs.Queue.{takenFirst}
-use Rattle.state.specs.State.{State, meaning}
+use Rattle.state.specs.State.{State, meaning, linkInRound}
 use Rattle.rules.specs.Opening.{opened}
 use Rattle.rules.specs.Sending.{sentState, Trace}
 
 -- the link in another state that has the same tree, size and queues
 abbrev pub linkIn : Link → State → Link
-linkIn l s = record {
-  tree = l .tree;
-  size = l .size;
-  active = s .active;
-  place = s .place;
-  accounts = s .accounts;
-  start = l .start;
-  held = l .held;
-  lengths = l .lengths;
-  tags = l .tags;
-}
+linkIn l s = linkInRound l (s .active) (s .place) (s .accounts)
 
 -- the link when a round has opened
 abbrev pub openedLink : Link → Link

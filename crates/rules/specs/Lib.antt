@@ -1,4 +1,4 @@
--- The rules of document 01, "Sending", over what a state means, and what their laws are stated with.
+-- The rules of sending (R119 to R146) over what a state means, and what their laws are stated with.
 pub mod Active
 pub mod Opening
 pub mod Sending

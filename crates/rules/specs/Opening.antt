@@ -1,4 +1,4 @@
--- Opening a round (document 01, "Sending", steps 3 and 4; document 001, equations 4 to 9). Demand 2.
+-- Opening a round (R124 to R134; equations (4) to (9) of the published HLS paper). Demand 2.
 use mathlib.Core.Bool.{Bool, true, false, cond, _&&_}
 use mathlib.Core.List.{List}
 use Prim.Native.Nat.{ℕ, zero, suc, _+_}
@@ -9,12 +9,12 @@ use Rattle.tree.specs.declared.Tree.{Tree}
 use Rattle.tree.specs.Class.{parentOf, weightOf, isLeaf, isInner}
 use Rattle.tree.specs.Sum.{someTo}
 use Rattle.state.specs.declared.Account.{Account}
-use Rattle.state.specs.Account.{accountOf, heldBy, tookQuota, handedDown}
+use Rattle.state.specs.Account.{accountOf, fundsOf, tookQuota, handedDown}
 use Rattle.state.specs.Queue.{table}
-use Rattle.state.specs.State.{State}
+use Rattle.state.specs.State.{State, inRound}
 use Rattle.rules.specs.Active.{roundActive, weightSum}
 
--- the two kinds of rounds
+-- the two kinds of rounds (R125)
 pub data Kind : Type 0 where
   main : Kind
   surplus : Kind
@@ -24,58 +24,60 @@ abbrev pub kindIs : Bool → Kind
 kindIs true = surplus
 kindIs false = main
 
--- class i is inner and active, and has B + R at or above the weight sum of its active children
+-- class i is inner and active, and has B + R at or above the weight sum of its active children (R124)
 unfoldable pub surplusAt : Tree → ℕ → Account → ℕ → Bool
-surplusAt t active account i = isInner t i && has active i && surplusOf (heldBy account) (weightSum t active i)
+surplusAt t active account i = isInner t i && has active i && surplusOf (fundsOf account) (weightSum t active i)
 
 unfoldable pub hasSurplus : Tree → ℕ → List Account → ℕ → Bool
 hasSurplus t active accounts i = surplusAt t active (accountOf accounts i) i
 
--- a surplus round if some active inner class has a surplus; otherwise a main round
+-- a surplus round if some active inner class has a surplus; otherwise a main round (R124, R125)
 unfoldable pub kindOf : Tree → ℕ → List Account → Kind
 kindOf t active accounts = cond (someTo (hasSurplus t active accounts) (t .count)) surplus main
 
--- the root's fair quota: in a main round B + R over its active children's weight sum, rounded down; in a surplus round 0
+-- the root's fair quota: in a main round B + R over its active children's weight sum, rounded down; in a surplus round 0 (R126, R127)
 abbrev pub rootShare : Kind → Tree → ℕ → Account → ℕ
-rootShare main t active root = quotaOf (heldBy root) (weightSum t active 0)
+rootShare main t active root = quotaOf (fundsOf root) (weightSum t active 0)
 rootShare surplus t active root = 0
 
 abbrev pub rootQuota : Kind → Tree → ℕ → List Account → ℕ
 rootQuota kind t active accounts = rootShare kind t active (accountOf accounts 0)
 
--- an inner class works out its own likewise, from R and its due taken into B; n is as many steps up to the root as there can be
+-- an inner class works out its own likewise, from R and its due taken into B; n is as many steps up to the root as there can be (R129)
 unfoldable pub quotaIn : ℕ → Kind → Tree → ℕ → List Account → ℕ → ℕ
 quotaIn zero kind t active accounts i = rootQuota kind t active accounts
 quotaIn (suc n) kind t active accounts zero = rootQuota kind t active accounts
 quotaIn (suc n) kind t active accounts (suc i) =
-    quotaOf (heldBy (accountOf accounts (suc i)) + dueOf (weightOf t (suc i)) (quotaIn n kind t active accounts (parentOf t (suc i)))) (weightSum t active (suc i))
+    quotaOf (fundsOf (accountOf accounts (suc i)) + dueOf (weightOf t (suc i)) (quotaIn n kind t active accounts (parentOf t (suc i))))
+    (weightSum t active (suc i))
 
 unfoldable pub quota : Kind → Tree → ℕ → List Account → ℕ → ℕ
 quota kind t active accounts i = quotaIn 63 kind t active accounts i
 
--- what class i is due: its weight times its parent's quota
+-- what class i is due: its weight times its parent's quota (R128, R130)
 unfoldable pub due : Kind → Tree → ℕ → List Account → ℕ → ℕ
 due kind t active accounts i = dueOf (weightOf t i) (quota kind t active accounts (parentOf t i))
 
--- what class i hands down: its quota for each unit of its active children's weight
+-- what class i hands down: its quota for each unit of its active children's weight (R131)
 unfoldable pub handsDown : Kind → Tree → ℕ → List Account → ℕ → ℕ
 handsDown kind t active accounts i = dueOf (weightSum t active i) (quota kind t active accounts i)
 
 -- the root's account after the opening: in a main round its residual joins its balance, which falls by what it hands down
+-- (R126, R127, R131)
 abbrev pub rootOpened : Kind → Tree → ℕ → Account → Account
 rootOpened main t active root = handedDown (tookQuota root 0) (dueOf (weightSum t active 0) (rootShare main t active root))
 rootOpened surplus t active root = root
 
--- an active leaf's: it gains its due
+-- an active leaf's: it gains its due (R130)
 unfoldable pub openedLeaf : Kind → Tree → ℕ → List Account → ℕ → Account
 openedLeaf kind t active accounts i = tookQuota (accountOf accounts i) (due kind t active accounts i)
 
--- an active inner class's: R and its due join its balance, which falls by what it hands down
+-- an active inner class's: R and its due join its balance, which falls by what it hands down (R128, R131)
 unfoldable pub openedInner : Kind → Tree → ℕ → List Account → ℕ → Account
 openedInner kind t active accounts i =
     handedDown (tookQuota (accountOf accounts i) (due kind t active accounts i)) (handsDown kind t active accounts i)
 
--- every other account stays
+-- every other account stays (R132)
 unfoldable pub openedAccount : Kind → Tree → ℕ → List Account → ℕ → Account
 openedAccount kind t active accounts i =
     cond (eqb i 0) (rootOpened kind t active (accountOf accounts 0))
@@ -83,21 +85,14 @@ openedAccount kind t active accounts i =
     (cond (isLeaf t i) (openedLeaf kind t active accounts i) (openedInner kind t active accounts i))
     (accountOf accounts i))
 
--- all accounts after the opening
+-- all accounts after the opening (R132, R133)
 unfoldable pub openedAccounts : Kind → Tree → ℕ → List Account → List Account
 openedAccounts kind t active accounts = table (openedAccount kind t active accounts) 64
 
--- the kind of the round that opens on a state
+-- the kind of the round that opens on a state (R125)
 unfoldable pub nextKind : State → Kind
 nextKind s = kindOf (s .tree) (roundActive s) (s .accounts)
 
--- the state when the round has opened: the place becomes 1
+-- the state when the round has opened: the place becomes 1 (R133, R134)
 unfoldable pub opened : State → State
-opened s = record {
-  tree = s .tree;
-  size = s .size;
-  active = roundActive s;
-  place = 1;
-  accounts = openedAccounts (nextKind s) (s .tree) (roundActive s) (s .accounts);
-  queues = s .queues;
-}
+opened s = inRound s (roundActive s) 1 (openedAccounts (nextKind s) (s .tree) (roundActive s) (s .accounts))

@@ -1,4 +1,4 @@
--- A send on a sound state (document 01, "Sending", steps 1 and 2, and the whole). Demand 2.
+-- A send on a sound state (R135 to R146). Demand 2.
 use mathlib.Core.Bool.{Bool, true, false, cond, _&&_}
 use mathlib.Core.List.{List, [], _∷_, _++_}
 use Prim.Native.Nat.{ℕ, zero, suc, _+_, _-_}
@@ -11,39 +11,40 @@ use Rattle.tree.specs.Class.{parentOf, isLeaf}
 use Rattle.tree.specs.Sum.{someTo}
 use Rattle.state.specs.declared.Account.{Account}
 use Rattle.state.specs.declared.Packet.{Packet}
-use Rattle.state.specs.Account.{accountOf, balanceOf, heldBy, sentFrom, gained, returned, received}
+use Rattle.state.specs.Account.{accountOf, balanceOf, fundsOf, sentFrom, gained, returned, received}
 use Rattle.state.specs.Queue.{noPacket}
-use Rattle.state.specs.State.{State, queueAt}
+use Rattle.state.specs.State.{State, queueAt, withQueue, inRound}
 use Rattle.rules.specs.Active.{activeChild, roundActive}
 use Rattle.rules.specs.Opening.{Kind, nextKind, quota, opened}
 
--- the first packet of class i
+-- the first packet of class i (R136)
 abbrev pub firstOf : State → ℕ → Packet
 firstOf s i = getD (queueAt s i) 0 noPacket
 
--- class i is an active leaf whose balance covers its first packet
+-- class i is an active leaf whose balance covers its first packet (R16, R136)
 unfoldable pub ready : State → ℕ → Bool
 ready s i = has (s .active) i && isLeaf (s .tree) i && leb (costOf (firstOf s i .length)) (balanceOf (s .accounts) i)
 
--- the first of the n numbers from p on for which f holds, or the number after them
+-- the first of the n numbers from p on for which f holds, or the number after them (R135)
 unfoldable pub firstFrom : (ℕ → Bool) → ℕ → ℕ → ℕ
 firstFrom f zero p = p
 firstFrom f (suc n) p = elim (f p) [ true ↦ p | false ↦ firstFrom f n (suc p) ]
 
--- step 1: the lowest-numbered active leaf not below the place whose balance covers its first packet; 64 where the round has closed
+-- step 1: the lowest-numbered active leaf not below the place whose balance covers its first packet; 64 where the round has closed (R136)
 unfoldable pub nextLeaf : State → ℕ
 nextLeaf s = firstFrom (ready s) (64 - s .place) (s .place)
 
--- class i is an active leaf
+-- class i is an active leaf (R135)
 unfoldable pub activeLeaf : State → ℕ → Bool
 activeLeaf s i = has (s .active) i && isLeaf (s .tree) i
 
--- its balance covers its first packet
+-- its balance covers its first packet (R16, R136)
 unfoldable pub covers : State → ℕ → Bool
 covers s i = leb (costOf (firstOf s i .length)) (balanceOf (s .accounts) i)
 
--- the same step as document 01 tells it, visit by visit from a place on: find the lowest-numbered active leaf not below the place. If its balance covers its
--- first packet, it sends. Otherwise the place becomes the leaf plus 1 and the search goes on. n is as many visits as there can be (`visits-next`).
+-- the same step visit by visit from a place on: find the lowest-numbered active leaf not below the place. If its balance covers its first
+-- packet, it sends. Otherwise the place becomes the leaf plus 1 and the search goes on. n is as many visits as there can be (R135, R137;
+-- `visits-next`).
 unfoldable pub visits : ℕ → State → ℕ → ℕ
 visits zero s place = 64
 visits (suc n) s place =
@@ -55,19 +56,20 @@ pub record Books : Type 0 where
   pub active : ℕ
   pub accounts : List Account
 
--- class i turns inactive and gives what it holds to its parent's residual
+-- class i turns inactive and gives what it holds to its parent's residual (R141, R142)
 unfoldable pub givenUp : Tree → ℕ → Books → Books
 givenUp t i b =
     let p = parentOf t i in
-    let held = heldBy (accountOf (b .accounts) i) in
+    let funds = fundsOf (accountOf (b .accounts) i) in
     let rest = set (b .accounts) i (returned (accountOf (b .accounts) i)) in
-    record { active = without (b .active) i; accounts = set rest p (received (accountOf rest p) held) }
+    record { active = without (b .active) i; accounts = set rest p (received (accountOf rest p) funds) }
 
--- the root turns inactive with its last active child and keeps its account
+-- the root turns inactive with its last active child and keeps its account (R143)
 abbrev pub rootOff : Books → Books
 rootOff b = record { active = without (b .active) 0; accounts = b .accounts }
 
 -- step 2: a class turns inactive, and so does each class above that has no active child left; n is as many steps up as there can be
+-- (R140, R142, R143)
 unfoldable pub turnsOff : ℕ → Tree → ℕ → Books → Books
 turnsOff zero t i b = b
 turnsOff (suc n) t i b =
@@ -78,36 +80,29 @@ turnsOff (suc n) t i b =
       | false ↦ elim (eqb p 0) [ true ↦ rootOff after | false ↦ turnsOff n t p after ]
     ]
 
--- leaf i loses what a packet costs, the root's balance gains it
+-- leaf i loses what a packet costs, the root's balance gains it (R138)
 abbrev pub paidBy : List Account → ℕ → ℕ → List Account
 paidBy accounts i cost =
     let less = set accounts i (sentFrom (accountOf accounts i) cost) in
     set less 0 (gained (accountOf less 0) cost)
 
--- it pays for its first packet
+-- it pays for its first packet (R16, R138)
 unfoldable pub paid : State → ℕ → List Account
 paid s i = paidBy (s .accounts) i (costOf (firstOf s i .length))
 
--- the books when leaf i has sent its first packet: if that was its last, the leaf turns inactive at once
+-- the books when leaf i has sent its first packet: if that was its last, the leaf turns inactive at once (R140)
 unfoldable pub booksAfter : State → ℕ → Books
 booksAfter s i =
     let b : Books = record { active = s .active; accounts = paid s i } in
     cond (leb (length (queueAt s i)) 1) (turnsOff 63 (s .tree) i b) b
 
--- leaf i sends its first packet, and the place becomes that leaf
+-- leaf i sends its first packet, and the place becomes that leaf (R139)
 unfoldable pub sentState : State → ℕ → State
 sentState s i =
     let b = booksAfter s i in
-    record {
-      tree = s .tree;
-      size = s .size;
-      active = b .active;
-      place = i;
-      accounts = b .accounts;
-      queues = set (s .queues) i (drop 1 (queueAt s i));
-    }
+    withQueue (inRound s (b .active) i (b .accounts)) i (drop 1 (queueAt s i))
 
--- a round that closed and the one that opened in its place
+-- a round that closed and the one that opened in its place (R145, R146)
 pub record Turn : Type 0 where
   pub closed : List Account
   pub kind : Kind
@@ -122,14 +117,14 @@ turnOf s = record {
   after = opened s .accounts;
 }
 
--- the trace of a send: the rounds closed and opened in the call, then the packet
+-- the trace of a send: the rounds closed and opened in the call, then the packet (R146)
 pub record Trace : Type 0 where
   pub turns : List Turn
   pub class : ℕ
   pub packet : Packet
   pub state : State
 
--- a leaf sends, or the round has closed and a new one is opened in the same call; n is more openings than there can be
+-- a leaf sends, or the round has closed and a new one is opened in the same call; n is more openings than there can be (R145, R146)
 unfoldable pub sends : ℕ → List Turn → State → Trace
 sends zero turns s = record { turns = turns; class = nextLeaf s; packet = firstOf s (nextLeaf s); state = sentState s (nextLeaf s) }
 sends (suc n) turns s =
@@ -139,6 +134,6 @@ sends (suc n) turns s =
       | false ↦ sends n (turns ++ (turnOf s ∷ [])) (opened s)
     ]
 
--- the trace of a whole send
+-- the trace of a whole send (R146, R199)
 unfoldable pub traceOf : State → Trace
 traceOf s = sends 64 [] s

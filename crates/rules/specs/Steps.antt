@@ -12,7 +12,7 @@ use Rattle.tree.specs.Rules.{PlanRules}
 use Rattle.tree.specs.Size.{mostSize}
 use Rattle.state.specs.declared.Account.{Account}
 use Rattle.state.specs.declared.Link.{Link}
-use Rattle.state.specs.Account.{accountOf, heldBy}
+use Rattle.state.specs.Account.{accountOf, fundsOf}
 use Rattle.state.specs.State.{meaning}
 use Rattle.sound.specs.Sound.{total, SoundLink}
 use Rattle.rules.specs.Sending.{nextLeaf, Turn, sends, traceOf}
@@ -23,7 +23,7 @@ use Rattle.rules.specs.After.{linkIn}
 pub record CanOpen (t : Tree) (active : ℕ) (accounts : List Account) : Type 0 where
   pub rules : PlanRules t
   pub many : length accounts ≡ 64
-  pub small : (i : ℕ) → i < 64 → heldBy (accountOf accounts i) ≤ mostSize
+  pub small : (i : ℕ) → i < 64 → fundsOf (accountOf accounts i) ≤ mostSize
   pub upward : (i : ℕ) → isClass t i ≡ true → has active i ≡ true → has active (parentOf t i) ≡ true
 
 -- class i is a leaf that holds a packet, in the numbers of the record

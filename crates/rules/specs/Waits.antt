@@ -1,4 +1,4 @@
--- A packet waits somewhere: what an opening needs to find someone to share out to (document 01, "Sending"). Demands 2 and 3.
+-- A packet waits somewhere (R119): what an opening needs to find someone to share out to. Demands 2 and 3.
 use mathlib.Core.Bool.{true}
 use mathlib.Core.Path.{_≡_}
 use Prim.Native.Nat.{ℕ, _≤_}

@@ -17,7 +17,8 @@ use Rattle.state.specs.State.{meaning}
 use Rattle.state.proofs.Meaning.{meaning-held}
 use Rattle.tree.proofs.Sums.{sum-same}
 use Rattle.run.specs.declared.Step.{Step}
-use Rattle.run.specs.Event.{waitingIn, Gives, GoesOn}
+use Rattle.link.specs.Run.{waitingIn}
+use Rattle.run.specs.Event.{Gives, GoesOn}
 use Rattle.run.specs.Run.{planGives, beginOf, inputGives, firstOf}
 
 -- the packets still waiting, counted in the record

@@ -1,4 +1,2 @@
 pub mod Events
 pub mod Lines
-pub mod Parts
-pub mod Happenings

@@ -1,6 +1,6 @@
 -- Laws of a run's lines: each step gives the next line, there are steps enough, and two answers are one. Demands 1 and 2.
 use mathlib.Core.Bool.{Bool, true, false, cond}
-use mathlib.Core.List.{List, [], _∷_}
+use mathlib.Core.List.{List, [], _∷_, _++_, map}
 use mathlib.Core.Path.{_≡_, refl, sym, ap, subst, _∙_}
 use Prim.Native.Nat.{ℕ, zero, suc, _+_, _-_, _≤_, _<_}
 use native.Mathlib.Omega.{arith}
@@ -8,7 +8,7 @@ use lib.ListN.{length, drop, length-drop}
 use Rattle.checks.specs.declared.Verdict.{Verdict}
 use Rattle.checks.specs.declared.Verdict.the-variants.{Passed, Refused}
 use Rattle.checks.specs.Check.{firstBroken, inputChecks, Exactly}
-use Rattle.checks.proofs.Laws.{not-true-and-false, exactly-yes, exactly-unique}
+use Rattle.checks.proofs.Laws.{not-true-and-false, exactly-yes}
 use Rattle.plan.specs.declared.EventRead.{EventRead}
 use Rattle.plan.specs.declared.EventRead.the-variants.{NoMore, Arrive, SendNext, Fault}
 use Rattle.plan.specs.Reader.{planOf}
@@ -18,11 +18,14 @@ use Rattle.state.specs.declared.Link.{Link}
 use Rattle.sound.specs.Sound.{SoundLink}
 use Rattle.link.specs.Arrival.{arrivalOf}
 use Rattle.link.specs.Send.{sendOf}
+use Rattle.link.specs.Run.{Call, arrival, send, Made, made, linkLeft, makes, runOf, madeIn, lastLink}
 use Rattle.link.proofs.FreshLinks.{fresh-sound}
+use Rattle.link.proofs.Runs.{meets-by, meets-keeps, made-next}
 use Rattle.lines.specs.declared.Line.{Line}
 use Rattle.run.specs.declared.Step.{Step}
-use Rattle.run.specs.Event.{eventGives, stepOf, Gives, GoesOn}
-use Rattle.run.specs.Run.{planGives, beginOf, eventLines, linesOf, linesAfter, programLines, inputGives, firstOf}
+use Rattle.run.specs.Event.{packetIn, callLine, lastLine, stepBy, eventGives, stepOf, Calls, Gives, GoesOn}
+use Rattle.run.specs.Run.{planGives, beginOf, linesOf, linesAfter, programLines, inputGives, firstOf}
+use Rattle.run.specs.Run.{EventsRead, noCall, callFirst, eventFirst, eventsFrom, eventLines}
 use Rattle.run.proofs.Events.{used-fits}
 
 -- where the run goes on, the place has moved on, and is within the input
@@ -41,32 +44,43 @@ module _ (l : Link) (input : List ℕ) (place : ℕ) where
   step-on sound m = on-by sound (eventAt (drop place input) place) refl m
 
   -- an event gives what the definition says, and on a sound link a sound link
+  calls-as : (sound : Bool) (call : Call) (to : ℕ) (r : Step) → Exactly sound (SoundLink l) → Calls l call to r
+      → r ≡ stepBy (makes sound l call) to
+  calls-as sound call to r x g = g .step ∙ ap (λ (m : Made). stepBy m to) (meets-by l (made call (g .answer) (g .after)) sound x (g .meets))
+
+  calls-keeps : (call : Call) (to : ℕ) (r : Step) → SoundLink l → Calls l call to r → SoundLink (r .link)
+  calls-keeps call to r sound g =
+      subst (λ (s : Step). SoundLink (s .link)) (sym (g .step)) (meets-keeps l (made call (g .answer) (g .after)) sound (g .meets))
+
   gives-as : (sound : Bool) (e : EventRead) (r : Step) → Exactly sound (SoundLink l) → Gives l place e r → r ≡ eventGives sound l place e
   gives-as sound NoMore r x g = g
-  gives-as sound (Arrive a) r x g = g .answer ∙ ap (λ (b : Bool). eventGives b l place (Arrive a)) (exactly-unique (g .exactly) x)
-  gives-as sound SendNext r x g = g .answer ∙ ap (λ (b : Bool). eventGives b l place SendNext) (exactly-unique (g .exactly) x)
+  gives-as sound (Arrive a) r x g = calls-as sound (arrival (a .class) (packetIn a)) (place + 8) r x g
+  gives-as sound SendNext r x g = calls-as sound send (place + 1) r x g
   gives-as sound (Fault n p) r x g = g
 
   gives-keeps : (e : EventRead) (r : Step) → SoundLink l → Gives l place e r → SoundLink (r .link)
   gives-keeps NoMore r sound g = subst (λ (s : Step). SoundLink (s .link)) (sym g) sound
-  gives-keeps (Arrive a) r sound g = g .keeps sound
-  gives-keeps SendNext r sound g = g .keeps sound
+  gives-keeps (Arrive a) r sound g = calls-keeps (arrival (a .class) (packetIn a)) (place + 8) r sound g
+  gives-keeps SendNext r sound g = calls-keeps send (place + 1) r sound g
   gives-keeps (Fault n p) r sound g = subst (λ (s : Step). SoundLink (s .link)) (sym g) sound
 
   gives-on : (e : EventRead) (r : Step) → eventAt (drop place input) place ≡ e → Gives l place e r → r .more ≡ true → (place < r .place) × (r .place ≤ length input)
   gives-on NoMore r same g m = absurd (not-true-and-false m (ap (λ (s : Step). s .more) g))
   gives-on (Arrive a) r same g m =
-      subst (λ (s : Step). (place < s .place) × (s .place ≤ length input)) (sym (g .answer)) (on-by (g .sound) (Arrive a) same refl)
+      subst (λ (s : Step). (place < s .place) × (s .place ≤ length input)) (sym (g .step)) (on-by true (Arrive a) same refl)
   gives-on SendNext r same g m =
-      subst (λ (s : Step). (place < s .place) × (s .place ≤ length input)) (sym (g .answer)) (on-by (g .sound) SendNext same refl)
+      subst (λ (s : Step). (place < s .place) × (s .place ≤ length input)) (sym (g .step)) (on-by true SendNext same refl)
   gives-on (Fault n p) r same g m = absurd (not-true-and-false m (ap (λ (s : Step). s .more) g))
 
+  -- two answers are one: the contract of the call has the flag that decides
   gives-one : (e : EventRead) (r r′ : Step) → Gives l place e r → Gives l place e r′ → r ≡ r′
   gives-one NoMore r r′ x y = x ∙ sym y
   gives-one (Arrive a) r r′ x y =
-      x .answer ∙ ap (λ (b : Bool). eventGives b l place (Arrive a)) (exactly-unique (x .exactly) (y .exactly)) ∙ sym (y .answer)
+      let m = x .meets in
+      gives-as (m .sound) (Arrive a) r (m .exactly) x ∙ sym (gives-as (m .sound) (Arrive a) r′ (m .exactly) y)
   gives-one SendNext r r′ x y =
-      x .answer ∙ ap (λ (b : Bool). eventGives b l place SendNext) (exactly-unique (x .exactly) (y .exactly)) ∙ sym (y .answer)
+      let m = x .meets in
+      gives-as (m .sound) SendNext r (m .exactly) x ∙ sym (gives-as (m .sound) SendNext r′ (m .exactly) y)
   gives-one (Fault n p) r r′ x y = x ∙ sym y
 
   pub next-as : (sound : Bool) (r : Step) → Exactly sound (SoundLink l) → GoesOn l input place r → r ≡ stepOf sound l input place
@@ -114,57 +128,48 @@ begin-sound input m = go (planOf input .verdict) refl m
 
 -- ---- the lines, without a count of steps
 
--- one step more
-lines-suc : (n : ℕ) (l : Link) (input : List ℕ) (place : ℕ) → eventLines (suc n) l input place
-    ≡ stepOf true l input place .line
-    ∷ elim (stepOf true l input place .more) [ true ↦ eventLines n (stepOf true l input place .link) input (stepOf true l input place .place) | false ↦ [] ]
-unfolding eventLines
-lines-suc n l input place = refl
+-- one event more
+events-suc : (n : ℕ) (input : List ℕ) (place : ℕ)
+    → eventsFrom (suc n) input place ≡ eventFirst (eventAt (drop place input) place) (λ used. eventsFrom n input (place + used))
+unfolding eventsFrom
+events-suc n input place = refl
 
--- the lines after a step, as the run goes on or not
-rest-of : Step → List ℕ → ℕ → Bool → List Line
-rest-of s input n true = eventLines n (s .link) input (s .place)
-rest-of s input n false = []
+-- what is read after an event matters only where it is a call, from a place within the input
+first-same : (input : List ℕ) (place : ℕ) (e : EventRead) (x y : ℕ → EventsRead) → eventAt (drop place input) place ≡ e
+    → ((used : ℕ) → 1 ≤ used → place + used ≤ length input → x used ≡ y used) → eventFirst e x ≡ eventFirst e y
+first-same input place NoMore x y same later = refl
+first-same input place (Arrive a) x y same later =
+    ap (callFirst (arrival (a .class) (packetIn a)))
+    (later 8 (omega arith) (omega (arith, used-fits input place (Arrive a) same, length-drop place input)))
+first-same input place SendNext x y same later =
+    ap (callFirst send) (later 1 (omega arith) (omega (arith, used-fits input place SendNext same, length-drop place input)))
+first-same input place (Fault n p) x y same later = refl
 
-lines-one : (n : ℕ) (l : Link) (input : List ℕ) (place : ℕ)
-    → eventLines (suc n) l input place ≡ stepOf true l input place .line ∷ rest-of (stepOf true l input place) input n (stepOf true l input place .more)
-unfolding rest-of
-lines-one n l input place = lines-suc n l input place ∙ ap (λ (rest : List Line). stepOf true l input place .line ∷ rest) (go (stepOf true l input place .more))
-  where
-    go : (b : Bool)
-        → _≡_ {A = List Line} (elim b [ true ↦ eventLines n (stepOf true l input place .link) input (stepOf true l input place .place) | false ↦ [] ]) (rest-of (stepOf true l input place) input n b)
-    go true = refl
-    go false = refl
-
--- enough steps are enough
-lines-enough : (n m : ℕ) (l : Link) (input : List ℕ) (place : ℕ) → length input ≤ place + n → length input ≤ place + m
-    → eventLines (suc n) l input place ≡ eventLines (suc m) l input place
-unfolding rest-of
-lines-enough zero m l input place a b = lines-one zero l input place ∙ ap (λ (rest : List Line). stepOf true l input place .line ∷ rest) (go (stepOf true l input place .more) refl) ∙ sym (lines-one m l input place)
-  where
-    go : (more : Bool) → stepOf true l input place .more ≡ more → rest-of (stepOf true l input place) input zero more ≡ rest-of (stepOf true l input place) input m more
-    go false e = refl
-    go true e = absurd (let w = step-on l input place true e in omega (arith, w .0, w .1))
-lines-enough (suc n) m l input place a b =
-    lines-one (suc n) l input place
-    ∙ ap (λ (rest : List Line). stepOf true l input place .line ∷ rest)
-    (go m b (stepOf true l input place .more) refl (λ k x y. lines-enough n k (stepOf true l input place .link) input (stepOf true l input place .place) x y))
-    ∙ sym (lines-one m l input place)
-  where
-    go : (m : ℕ) → length input ≤ place + m → (more : Bool) → stepOf true l input place .more ≡ more
-        → ((k : ℕ) → length input ≤ stepOf true l input place .place + n → length input ≤ stepOf true l input place .place + k
-        → eventLines (suc n) (stepOf true l input place .link) input (stepOf true l input place .place)
-        ≡ eventLines (suc k) (stepOf true l input place .link) input (stepOf true l input place .place))
-        → rest-of (stepOf true l input place) input (suc n) more ≡ rest-of (stepOf true l input place) input m more
-    go m b false e ih = refl
-    go zero b true e ih = absurd (let w = step-on l input place true e in omega (arith, w .0, w .1))
-    go (suc m) b true e ih =
-        let w = step-on l input place true e in
-        ih m (omega (arith, w .0)) (omega (arith, w .0))
+-- enough events are enough
+events-enough : (n m : ℕ) (input : List ℕ) (place : ℕ) → place ≤ length input → length input < place + n → length input < place + m
+    → eventsFrom n input place ≡ eventsFrom m input place
+events-enough zero m input place on a b = absurd (omega arith)
+events-enough (suc n) zero input place on a b = absurd (omega arith)
+events-enough (suc n) (suc m) input place on a b =
+    events-suc n input place
+    ∙ first-same input place (eventAt (drop place input) place) _ _ refl
+    (λ used some fits. events-enough n m input (place + used) fits (omega arith) (omega arith))
+    ∙ sym (events-suc m input place)
 
 -- the lines of the events from a place on
 pub linesFrom : Link → List ℕ → ℕ → List Line
-linesFrom l input place = eventLines (suc (length input)) l input place
+linesFrom l input place = eventLines l (eventsFrom (suc (length input)) input place)
+
+-- the line of a first call, and those from the link that it left
+lines-call : (l : Link) (call : Call) (rest : EventsRead)
+    → eventLines l (callFirst call rest) ≡ callLine (makes true l call) ∷ eventLines (linkLeft (makes true l call)) rest
+unfolding eventLines lastLink
+lines-call l call rest =
+    ap (λ (run : List Made). map callLine run ++ (lastLine (rest .last) (lastLink l run) ∷ [])) (made-next true l call (rest .calls))
+
+lines-last : (l : Link) (e : EventRead) → eventLines l (noCall e) ≡ lastLine e l ∷ []
+unfolding eventLines runOf madeIn lastLink
+lines-last l e = refl
 
 -- what follows where the run goes on or not
 unfoldable pub following : Link → List ℕ → ℕ → Bool → List Line
@@ -173,25 +178,33 @@ following l input place false = []
 
 pub lines-next : (l : Link) (input : List ℕ) (place : ℕ)
     → linesFrom l input place ≡ stepOf true l input place .line ∷ following (stepOf true l input place .link) input (stepOf true l input place .place) (stepOf true l input place .more)
-unfolding linesFrom following rest-of
+unfolding stepOf linesFrom following
 lines-next l input place =
-    lines-one (length input) l input place
-    ∙ ap (λ (rest : List Line). stepOf true l input place .line ∷ rest) (go (length input) refl (stepOf true l input place .more) refl)
+    ap (eventLines l) (events-suc (length input) input place ∙ first-same input place (eventAt (drop place input) place) _ _ refl left)
+    ∙ go (eventAt (drop place input) place)
   where
-    go : (n : ℕ) → length input ≡ n → (more : Bool) → stepOf true l input place .more ≡ more
-        → rest-of (stepOf true l input place) input n more ≡ following (stepOf true l input place .link) input (stepOf true l input place .place) more
-    go n h false e = refl
-    go zero h true e = absurd (let w = step-on l input place true e in omega (arith, w .0, w .1, h))
-    go (suc n) h true e =
-        let w = step-on l input place true e in
-        lines-enough n (length input) (stepOf true l input place .link) input (stepOf true l input place .place) (omega (arith, w .0, h)) (omega arith)
+    left : (used : ℕ) → 1 ≤ used → place + used ≤ length input
+        → eventsFrom (length input) input (place + used) ≡ eventsFrom (suc (length input)) input (place + used)
+    left used some fits = events-enough (length input) (suc (length input)) input (place + used) fits (omega arith) (omega arith)
+
+    rest-of : Step → List Line
+    rest-of s = following (s .link) input (s .place) (s .more)
+
+    go : (e : EventRead) → eventLines l (eventFirst e (λ used. eventsFrom (suc (length input)) input (place + used)))
+        ≡ eventGives true l place e .line ∷ rest-of (eventGives true l place e)
+    go NoMore = lines-last l NoMore
+    go (Arrive a) = lines-call l (arrival (a .class) (packetIn a)) (eventsFrom (suc (length input)) input (place + 8))
+    go SendNext = lines-call l send (eventsFrom (suc (length input)) input (place + 1))
+    go (Fault n p) = lines-last l (Fault n p)
 
 pub lines-begin : (input : List ℕ) → linesOf input ≡ beginOf input .line ∷ following (beginOf input .link) input (beginOf input .place) (beginOf input .more)
 unfolding linesOf linesFrom following
 lines-begin input = ap (λ (rest : List Line). beginOf input .line ∷ rest) (go (beginOf input .more))
   where
     go : (b : Bool)
-        → _≡_ {A = List Line} (elim b [ true ↦ eventLines (suc (length input)) (beginOf input .link) input (beginOf input .place) | false ↦ [] ]) (following (beginOf input .link) input (beginOf input .place) b)
+        → _≡_ {A = List Line}
+        (elim b [ true ↦ eventLines (beginOf input .link) (eventsFrom (suc (length input)) input (beginOf input .place)) | false ↦ [] ])
+        (following (beginOf input .link) input (beginOf input .place) b)
     go true = refl
     go false = refl
 

@@ -1,38 +1,38 @@
--- What one event of a run gives (document 01, "A whole run"). Demands 1 and 2.
+-- What one event of a run gives (R189 to R195). Demands 1 and 2.
 use mathlib.Core.Bool.{Bool, true, false}
 use mathlib.Core.List.{List}
 use mathlib.Core.Path.{_≡_}
 use Prim.Native.Nat.{ℕ, _+_}
-use lib.ListN.{length, drop}
+use lib.ListN.{drop}
 use Rattle.checks.specs.declared.Verdict.{Verdict}
 use Rattle.checks.specs.declared.Verdict.the-variants.{Passed, Refused}
-use Rattle.checks.specs.Check.{Exactly}
-use Rattle.tree.specs.Sum.{sumTo}
 use Rattle.plan.specs.declared.Arrived.{Arrived}
 use Rattle.plan.specs.declared.EventRead.{EventRead}
 use Rattle.plan.specs.declared.EventRead.the-variants.{NoMore, Arrive, SendNext, Fault}
 use Rattle.plan.specs.Event.{usedOf, eventAt}
 use Rattle.state.specs.declared.Link.{Link}
 use Rattle.state.specs.declared.Packet.{Packet}
-use Rattle.state.specs.State.{State, meaning, queueAt}
-use Rattle.sound.specs.Sound.{SoundLink}
+use Rattle.state.specs.State.{meaning}
 use Rattle.link.specs.declared.Arrival.{Arrival}
 use Rattle.link.specs.declared.Departure.{Departure}
-use Rattle.link.specs.Arrival.{arrivalOf}
-use Rattle.link.specs.Send.{sendOf}
+use Rattle.link.specs.Run.{Call, arrival, send, Answer, Made, made, linkLeft, makes, waitingIn, Meets}
 use Rattle.lines.specs.declared.Line.{Line}
 use Rattle.lines.specs.declared.Line.the-variants.{In, No, Out, Nothing, End, Stop}
 use Rattle.run.specs.declared.Step.{Step}
 
--- `in` class length tag; `no` class length tag number, for a refused arrival
-abbrev pub arrivalSays : Verdict → Arrived → Line
-arrivalSays Passed a = In (a .class) (a .length) (a .tag)
-arrivalSays (Refused n q) a = No (a .class) (a .length) (a .tag) n
+-- `in` class length tag; `no` class length tag number, for a refused arrival (R17, R189, R190)
+abbrev pub arrivalSays : Verdict → ℕ → Packet → Line
+arrivalSays Passed class p = In class (p .length) (p .tag)
+arrivalSays (Refused n q) class p = No class (p .length) (p .tag) n
+
+-- the packet of an arrival (R17, R189, R190)
+abbrev pub packetIn : Arrived → Packet
+packetIn a = record { length = a .length; tag = a .tag }
 
 abbrev pub arrivalLine : Arrival → Arrived → Line
-arrivalLine answer a = arrivalSays (answer .verdict) a
+arrivalLine answer a = arrivalSays (answer .verdict) (a .class) (packetIn a)
 
--- `out` class length tag rounds; `none` for refusal 15, the only one of a send on a run's link
+-- `out` class length tag rounds; `none` for refusal 15, the only one of a send on a run's link (R17, R191, R192)
 abbrev pub sendSays : Verdict → Departure → Line
 sendSays Passed d = Out (d .class) (d .length) (d .tag) (d .rounds)
 sendSays (Refused n q) d = Nothing
@@ -40,41 +40,52 @@ sendSays (Refused n q) d = Nothing
 abbrev pub sendLine : Departure → Line
 sendLine d = sendSays (d .verdict) d
 
--- the packets still waiting
-unfoldable pub waitingIn : State → ℕ
-waitingIn s = sumTo (λ i. length (queueAt s i)) 63
+-- the line of a call that was made
+abbrev pub callLine : Made → Line
+callLine (made (arrival class p) answer after) = arrivalSays (answer .verdict) class p
+callLine (made send answer after) = sendLine answer
 
--- the packet of an arrival
-abbrev pub packetIn : Arrived → Packet
-packetIn a = record { length = a .length; tag = a .tag }
+-- the last line, of an event that is no call: `end` with the packets still waiting where the input ends, `stop` number place for a refused
+-- record (R193, R194)
+abbrev pub lastLine : EventRead → Link → Line
+lastLine NoMore l = End (waitingIn (meaning l))
+lastLine (Arrive a) l = End (waitingIn (meaning l))
+lastLine SendNext l = End (waitingIn (meaning l))
+lastLine (Fault n p) l = Stop n p
 
--- what an event at a place gives: a line, and whether the run goes on, with which link and at which place
+-- ---- one step of the run
+
+-- a call was made, and the run goes on from a place
+abbrev pub stepBy : Made → ℕ → Step
+stepBy m place = record { line = callLine m; more = true; link = linkLeft m; place = place }
+
+-- the run ends with an event that is no call
+abbrev pub lastStep : EventRead → Link → ℕ → Step
+lastStep e l place = record { line = lastLine e l; more = false; link = l; place = place }
+
+-- what an event at a place gives: a line, and whether the run goes on, with which link and at which place (R189 to R195)
 abbrev pub eventGives : Bool → Link → ℕ → EventRead → Step
-eventGives sound l place NoMore = record { line = End (waitingIn (meaning l)); more = false; link = l; place = place }
-eventGives sound l place (Arrive a) =
-    let r = arrivalOf sound l (a .class) (packetIn a) in
-    record { line = arrivalLine (r .answer) a; more = true; link = r .link; place = place + usedOf (Arrive a) }
-eventGives sound l place SendNext =
-    let r = sendOf sound l in
-    record { line = sendLine (r .answer); more = true; link = r .link; place = place + usedOf SendNext }
-eventGives sound l place (Fault n p) = record { line = Stop n p; more = false; link = l; place = place }
+eventGives sound l place NoMore = lastStep NoMore l place
+eventGives sound l place (Arrive a) = stepBy (makes sound l (arrival (a .class) (packetIn a))) (place + usedOf (Arrive a))
+eventGives sound l place SendNext = stepBy (makes sound l send) (place + usedOf SendNext)
+eventGives sound l place (Fault n p) = lastStep (Fault n p) l place
 
 unfoldable pub stepOf : Bool → Link → List ℕ → ℕ → Step
 stepOf sound l input place = eventGives sound l place (eventAt (drop place input) place)
 
--- a call on any record gives what it gives on a sound or on an unsound one; on a sound one it gives a sound one
-pub record Calls (l : Link) (gives : Bool → Step) (r : Step) : Type 0 where
-  pub sound : Bool
-  pub exactly : Exactly sound (SoundLink l)
-  pub answer : r ≡ gives sound
-  pub keeps : SoundLink l → SoundLink (r .link)
+-- a call on any record, answered as its contract says, after which the run goes on from a place
+pub record Calls (l : Link) (call : Call) (place : ℕ) (r : Step) : Type 0 where
+  pub answer : Answer call
+  pub after : Link
+  pub meets : Meets l (made call answer after)
+  pub step : r ≡ stepBy (made call answer after) place
 
 -- what an event at a place gives on any record: only an arrival and a send are calls
 abbrev pub Gives : Link → ℕ → EventRead → Step → Type 0
-Gives l place NoMore r = r ≡ eventGives true l place NoMore
-Gives l place (Arrive a) r = Calls l (λ sound. eventGives sound l place (Arrive a)) r
-Gives l place SendNext r = Calls l (λ sound. eventGives sound l place SendNext) r
-Gives l place (Fault n p) r = r ≡ eventGives true l place (Fault n p)
+Gives l place NoMore r = r ≡ lastStep NoMore l place
+Gives l place (Arrive a) r = Calls l (arrival (a .class) (packetIn a)) (place + usedOf (Arrive a)) r
+Gives l place SendNext r = Calls l send (place + usedOf SendNext) r
+Gives l place (Fault n p) r = r ≡ lastStep (Fault n p) l place
 
 abbrev pub GoesOn : Link → List ℕ → ℕ → Step → Type 0
 GoesOn l input place r = Gives l place (eventAt (drop place input) place) r

@@ -1,5 +1,3 @@
 -- The lines of a whole run.
 pub mod Event
-pub mod Part
 pub mod Run
-pub mod Steps

@@ -1,21 +1,14 @@
-// A whole run, line by line: the plan's line, then each event's; or part by part into a lent buffer. Entries for callers outside: they ask nothing.
-// Serves demands 1 and 2: the lines are document 01's, from the input's bytes.
-mod in_place;
-
+// A whole run, line by line: the plan's line, then each event's. Entries for callers outside: they ask nothing.
+// Serves demands 1 and 2: the lines are those of R185 to R195, from the input's bytes, whatever they are (R196).
 ghost use mathlib.Core.Path.{_≡_};
-ghost use mathlib.Core.Bool.{true, _&&_};
-ghost use Prim.Native.Nat.{_+_, _^_, _≤_, _<_};
-ghost use lib.Dec.{leb};
+ghost use mathlib.Core.Bool.{true};
+ghost use Prim.Native.Nat.{_+_, _^_, _<_};
 ghost use lib.ListN.{getD};
 ghost use Rattle.checks.specs.declared.Verdict.the-variants.{Passed};
 ghost use Rattle.tree.specs.Rules.{PlanRules};
 ghost use Rattle.tree.specs.Sum.{sumTo};
 ghost use Rattle.plan.specs.declared.EventRead.the-variants.{NoMore, Arrive, SendNext, Fault};
-ghost use Rattle.io.specs.Counts.{Counts};
-ghost use Rattle.lines.specs.Line.{lineRoom};
 ghost use Rattle.run.specs.Event.{arrivalLine, sendLine, eventGives, Gives, GoesOn};
-ghost use Rattle.run.specs.Part.{Parts};
-ghost use Rattle.run.specs.Steps.{Taken};
 ghost use Rattle.run.specs.Run.{planGives, beginOf, firstOf};
 use checks::Verdict;
 use lines::Line;
@@ -30,14 +23,6 @@ use state::Packet;
 // What the plan or an event gives: a line, and whether the run goes on, with which link and at which place.
 pub struct Step {
     pub line: Line,
-    pub more: bool,
-    pub link: Link,
-    pub place: usize,
-}
-
-// What a part of a run gives: how many bytes it laid, and whether the run goes on, with which link and at which place.
-pub struct PartRun {
-    pub laid: usize,
     pub more: bool,
     pub link: Link,
     pub place: usize,
@@ -209,48 +194,4 @@ pub fn next(link: Link, input: &[u8], place: usize) -> Step
         EventRead::SendNext => send(link, place),
         EventRead::Fault(n, p) => stop(link, place, n, p),
     }
-}
-
-// Whether a part takes one event more: the run goes on, and the buffer has room for one more line.
-fn takes_one(more: bool, laid: usize, room: usize) -> bool
-    requires { ⌜ laid ≤ room ⌝ }
-    ensures { λ r. ⌜ r ≡ (more && leb (laid + lineRoom) room) ⌝ }
-{
-    more && lines::ROOM <= room - laid
-}
-
-// A part by the calls that check, each event's line after the one before: for a record that is not sound.
-fn by_calls(link: Link, input: &[u8], place: usize, out: &mut [u8]) -> PartRun
-    ensures { λ r. ⌜ Taken link (now (input .entry)) place (now (out .entry)) r (now (out .exit)) ⌝ }
-{
-    let mut part = PartRun {
-        laid: 0,
-        more: true,
-        link,
-        place,
-    };
-    while takes_one(part.more, part.laid, out.len()) {
-        let step = next(part.link, input, part.place);
-        let line = step.line;
-        let laid = lines::lay_at(line, part.laid, out);
-        let after = step.link;
-        part = PartRun {
-            laid,
-            more: step.more,
-            link: after,
-            place: step.place,
-        };
-    }
-    part
-}
-
-// A part of a run: events from a place on, laid into a lent buffer as long as the run goes on and there is room for one more line.
-pub fn part(link: Link, input: &[u8], place: usize, out: &mut [u8]) -> PartRun
-    ensures { λ r. ⌜ Parts link (now (input .entry)) place (now (out .entry)) r (now (out .exit)) ⌝ }
-    ensures { λ r. ⌜ Counts (r .laid) (now (out .exit)) ⌝ }
-{
-    if !sound::is_sound(link) {
-        return by_calls(link, input, place, out);
-    }
-    in_place::sound_part(link, input, place, out)
 }

@@ -1,6 +1,6 @@
 -- The laws of sets of classes, which other crates cite and never the digits: what is in a set, that it fits 64 bits, and that it is the only one.
 use mathlib.Core.Path.{_≡_, refl, sym, ap, _∙_}
-use mathlib.Core.Bool.{Bool, true, false, cond, _&&_, true≢false}
+use mathlib.Core.Bool.{Bool, true, false, cond, not, _&&_, true≢false}
 use Prim.Native.Nat.{ℕ, zero, suc, _+_, _-_, _*_, _/_, _%_, _^_, _≤_, _<_, min}
 use native.Mathlib.Decide.{ℕ-discrete, decLe, decLt}
 use native.Mathlib.Omega.{arith}
@@ -10,7 +10,7 @@ use lib.Count.{trailingZeros, trailing-le}
 use lib.Dec.{eqb}
 use lib.Pow.{pow-pos, pow-lt}
 use Rattle.sets.specs.Set.{has, with, without, Both, Next}
-use Rattle.sets.proofs.Bits.{bit, bit-small, bit-past, bit-of-zero, bit-ext, bit-and, bit-shl-below, or-one-there, or-one-lacks, bit-or-one-same, bit-or-one-other, sub-one-same, sub-one-other, bit-and-not-same, bit-and-not-other, mask-fits, bit-mask, trailing-below, trailing-there}
+use Rattle.sets.proofs.Bits.{bit, bit-small, bit-past, bit-of-zero, bit-ext, bit-and, bit-shl-below, or-one-there, or-one-lacks, bit-or-one-same, bit-or-one-other, sub-one-same, sub-one-other, bit-and-not-same, bit-and-not-other, bit-not, mask-fits, bit-mask, trailing-below, trailing-there}
 
 -- class k is in a set where digit k is 1, and only there
 there : (s k : ℕ) → bit s k ≡ 1 → has s k ≡ true
@@ -112,6 +112,16 @@ and-without s i hs hi =
     go : (k : ℕ) → k < 64 → Dec (k ≡ i) → bit m k ≡ bit (without s i) k
     go k l (yes e) = rw e (bit-and-not-same s i hi ∙ sym (bit-without-same s i))
     go k l (no ne) = bit-and-not-other s i k hi l ne ∙ sym (bit-without-other s i k ne)
+
+-- `!s` is the set of the classes that are not in s
+pub has-not : (s k : ℕ) → s < 2 ^ 64 → k < 64 → has (2 ^ 64 - 1 - s) k ≡ not (has s k)
+unfolding has bit
+has-not s k h l = ap (λ (x : ℕ). eqb x 1) (bit-not 64 s k h l) ∙ go (bit s k) (bit-small s k)
+  where
+    go : (x : ℕ) → x < 2 → eqb (1 - x) 1 ≡ not (eqb x 1)
+    go zero m = refl
+    go (suc zero) m = refl
+    go (suc (suc x)) m = absurd (omega arith)
 
 -- `a & b` is the set of the classes of both
 pub and-both : (a b : ℕ) → a < 2 ^ 64 → Both a b (bitAnd a b)

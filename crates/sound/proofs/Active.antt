@@ -14,7 +14,7 @@ use Rattle.tree.specs.Rules.{PlanRules}
 use Rattle.tree.proofs.Classes.{class-range}
 use Rattle.tree.proofs.Rules.{parent-lower, parent-no-leaf}
 use Rattle.sound.specs.Below.{Below, child, under, Above, ActiveLeafBelow}
-use Rattle.sound.specs.Steps.{parentsTo}
+use Rattle.sound.specs.Steps.{parentsDown}
 
 -- a child of class i is active
 pub record ActiveChild (t : Tree) (active i : ℕ) : Type 0 where
@@ -125,62 +125,66 @@ module _ (t : Tree) (active : ℕ) (rules : PlanRules t) where
             below = below-trans t i (c .child′) (child (c .child′) (c .class) (c .parent)) (r .leaf) (r .below);
           }
 
--- the set of the active classes' parents
-pub parents-none : (t : Tree) (active : ℕ) → parentsTo t active 0 ≡ 0
-unfolding parentsTo
+-- the set of the active classes' parents, from the highest class down
+pub parents-none : (t : Tree) (active : ℕ) → parentsDown t active 0 ≡ 0
+unfolding parentsDown
 parents-none t active = refl
 
-pub parents-step : (t : Tree) (active i : ℕ) → 1 ≤ i → parentsTo t active (i + 1 - 1) ≡ cond (has active i) (with (parentsTo t active (i - 1)) (parentOf t i)) (parentsTo t active (i - 1))
-unfolding parentsTo
-parents-step t active zero h = absurd (omega arith)
-parents-step t active (suc i) h =
-    let e : suc i + 1 - 1 ≡ suc i = omega arith in
-    let e′ : suc i - 1 ≡ i = omega arith in
-    rw (e, e′)
+pub parents-step : (t : Tree) (active n : ℕ) → 1 ≤ n → n ≤ 64
+    → cond (has active (n - 1)) (with (parentsDown t active (64 - n)) (parentOf t (n - 1))) (parentsDown t active (64 - n))
+    ≡ parentsDown t active (64 - (n - 1))
+unfolding parentsDown
+parents-step t active n l u =
+    let e : 64 - (n - 1) ≡ suc (64 - n) = omega arith in
+    let e′ : 63 - (64 - n) ≡ n - 1 = omega arith in
+    rw (e, e′) refl
 
 -- it has the parent of each active class, and no other
-pub parents-in : (t : Tree) (active n k : ℕ) → 1 ≤ k → k ≤ n → has active k ≡ true → has (parentsTo t active n) (parentOf t k) ≡ true
-unfolding parentsTo
+pub parents-in : (t : Tree) (active n k : ℕ) → 64 ≤ k + n → k < 64 → has active k ≡ true
+    → has (parentsDown t active n) (parentOf t k) ≡ true
+unfolding parentsDown
 parents-in t active zero k l u a = absurd (omega arith)
-parents-in t active (suc n) k l u a = go (decLe k n) (λ m. parents-in t active n k l m a)
+parents-in t active (suc n) k l u a = go (decLe 64 (k + n)) (λ m. parents-in t active n k m u a)
   where
     set : ℕ
-    set = parentsTo t active n
+    set = parentsDown t active n
 
-    stays : (b : Bool) → has set (parentOf t k) ≡ true → has (cond b (with set (parentOf t (suc n))) set) (parentOf t k) ≡ true
+    stays : (b : Bool) → has set (parentOf t k) ≡ true → has (cond b (with set (parentOf t (63 - n))) set) (parentOf t k) ≡ true
     stays false e = e
-    stays true e = at (ℕ-discrete (parentOf t k) (parentOf t (suc n)))
+    stays true e = at (ℕ-discrete (parentOf t k) (parentOf t (63 - n)))
       where
-        at : Dec (parentOf t k ≡ parentOf t (suc n)) → has (with set (parentOf t (suc n))) (parentOf t k) ≡ true
-        at (yes p) = rw p (has-with-same set (parentOf t (suc n)))
-        at (no p) = has-with-other set (parentOf t (suc n)) (parentOf t k) p ∙ e
+        at : Dec (parentOf t k ≡ parentOf t (63 - n)) → has (with set (parentOf t (63 - n))) (parentOf t k) ≡ true
+        at (yes p) = rw p (has-with-same set (parentOf t (63 - n)))
+        at (no p) = has-with-other set (parentOf t (63 - n)) (parentOf t k) p ∙ e
 
-    go : Dec (k ≤ n) → (k ≤ n → has set (parentOf t k) ≡ true) → has (cond (has active (suc n)) (with set (parentOf t (suc n))) set) (parentOf t k) ≡ true
-    go (yes m) ih = stays (has active (suc n)) (ih m)
+    go : Dec (64 ≤ k + n) → (64 ≤ k + n → has set (parentOf t k) ≡ true)
+        → has (cond (has active (63 - n)) (with set (parentOf t (63 - n))) set) (parentOf t k) ≡ true
+    go (yes m) ih = stays (has active (63 - n)) (ih m)
     go (no m) ih =
-        let e : k ≡ suc n = omega arith in
-        let a′ : has active (suc n) ≡ true = rw e at a in
-        rw (a′, e) (has-with-same set (parentOf t (suc n)))
+        let e : k ≡ 63 - n = omega arith in
+        let a′ : has active (63 - n) ≡ true = rw e at a in
+        rw (a′, e) (has-with-same set (parentOf t (63 - n)))
 
-pub parents-only : (t : Tree) (active n i : ℕ) → has (parentsTo t active n) i ≡ true
-    → (k : ℕ) × (1 ≤ k) × (k ≤ n) × (has active k ≡ true) × (parentOf t k ≡ i)
-unfolding parentsTo
+pub parents-only : (t : Tree) (active n i : ℕ) → has (parentsDown t active n) i ≡ true
+    → (k : ℕ) × (64 ≤ k + n) × (k < 64) × (has active k ≡ true) × (parentOf t k ≡ i)
+unfolding parentsDown
 parents-only t active zero i h = absurd (not-true-and-false h (has-empty i))
-parents-only t active (suc n) i h = go (has active (suc n)) refl h (λ g. parents-only t active n i g)
+parents-only t active (suc n) i h = go (has active (63 - n)) refl h (λ g. parents-only t active n i g)
   where
     set : ℕ
-    set = parentsTo t active n
+    set = parentsDown t active n
 
     Found : ℕ → Type 0
-    Found m = (k : ℕ) × (1 ≤ k) × (k ≤ m) × (has active k ≡ true) × (parentOf t k ≡ i)
+    Found m = (k : ℕ) × (64 ≤ k + m) × (k < 64) × (has active k ≡ true) × (parentOf t k ≡ i)
 
     more : Found n → Found (suc n)
-    more w = (w .0, w .1, omega arith, w .3, w .4)
+    more w = (w .0, omega (arith, w .1), w .2, w .3, w .4)
 
-    go : (b : Bool) → has active (suc n) ≡ b → has (cond b (with set (parentOf t (suc n))) set) i ≡ true → (has set i ≡ true → Found n) → Found (suc n)
+    go : (b : Bool) → has active (63 - n) ≡ b → has (cond b (with set (parentOf t (63 - n))) set) i ≡ true → (has set i ≡ true → Found n)
+        → Found (suc n)
     go false e g ih = more (ih g)
-    go true e g ih = at (ℕ-discrete i (parentOf t (suc n)))
+    go true e g ih = at (ℕ-discrete i (parentOf t (63 - n)))
       where
-        at : Dec (i ≡ parentOf t (suc n)) → Found (suc n)
-        at (yes p) = (suc n, omega arith, omega arith, e, sym p)
-        at (no p) = more (ih (sym (has-with-other set (parentOf t (suc n)) i p) ∙ g))
+        at : Dec (i ≡ parentOf t (63 - n)) → Found (suc n)
+        at (yes p) = (63 - n, omega arith, omega arith, e, sym p)
+        at (no p) = more (ih (sym (has-with-other set (parentOf t (63 - n)) i p) ∙ g))

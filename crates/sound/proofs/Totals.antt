@@ -1,49 +1,38 @@
--- All B and R together: a total is at least each of its parts, and a total that is capped tells whether it is the size. Demand 2.
+-- All B and R together: a total is at least each of its parts, and it is they added one by one. Demand 2.
 use mathlib.Core.List.{List}
-use mathlib.Core.Path.{_≡_, sym, _∙_}
-use Prim.Native.Nat.{ℕ, zero, suc, _+_, _*_, _≤_, _<_}
+use mathlib.Core.Path.{_≡_, refl}
+use Prim.Native.Nat.{ℕ, zero, suc, _+_, _-_, _≤_, _<_}
 use native.Mathlib.Omega.{arith}
 use Rattle.tree.specs.Sum.{sumTo}
-use Rattle.tree.specs.Size.{mostSize}
-use Rattle.tree.proofs.Sums.{sum-part, sum-same}
+use Rattle.tree.proofs.Sums.{sum-part}
 use Rattle.state.specs.declared.Account.{Account}
-use Rattle.state.specs.Account.{accountOf, heldBy}
+use Rattle.state.specs.Account.{accountOf, fundsOf}
 use Rattle.sound.specs.Sound.{total}
-use Rattle.sound.specs.Steps.{cappedHeld}
 
-pub total-part : (xs : List Account) (i : ℕ) → i < 64 → heldBy (accountOf xs i) ≤ total xs
+pub total-part : (xs : List Account) (i : ℕ) → i < 64 → fundsOf (accountOf xs i) ≤ total xs
 unfolding total
 total-part xs zero u = omega arith
-total-part xs (suc i) u = omega (arith, sum-part (λ k. heldBy (accountOf xs k)) 63 (suc i) (omega arith) (omega arith))
+total-part xs (suc i) u = omega (arith, sum-part (λ k. fundsOf (accountOf xs k)) 63 (suc i) (omega arith) (omega arith))
 
--- what account i counts for
-abbrev pub cappedAt : ℕ → List Account → ℕ → ℕ
-cappedAt size xs i = cappedHeld size (accountOf xs i)
+-- the funds of the accounts 0 to n - 1: all of them are the total
+unfoldable pub fundsBelow : List Account → ℕ → ℕ
+fundsBelow xs zero = 0
+fundsBelow xs (suc n) = fundsBelow xs n + fundsOf (accountOf xs n)
 
-pub capped-bound : (size : ℕ) (a : Account) → size ≤ mostSize → cappedHeld size a ≤ 2 * (mostSize + 1)
-unfolding cappedHeld
-capped-bound size a h = omega arith
+pub below-none : (xs : List Account) → fundsBelow xs 0 ≡ 0
+unfolding fundsBelow
+below-none xs = refl
 
--- an account that holds no more than the size counts for what it holds, and so does one that counts for no more
-held-same : (size : ℕ) (a : Account) → heldBy a ≤ size → heldBy a ≡ cappedHeld size a
-unfolding cappedHeld
-held-same size a h = omega arith
+pub below-step : (xs : List Account) (n : ℕ) → 1 ≤ n → fundsBelow xs n ≡ fundsBelow xs (n - 1) + fundsOf (accountOf xs (n - 1))
+unfolding fundsBelow
+below-step xs zero l = absurd (omega arith)
+below-step xs (suc n) l = let e : suc n - 1 ≡ n = omega arith in rw e refl
 
-capped-same : (size : ℕ) (a : Account) → cappedHeld size a ≤ size → heldBy a ≡ cappedHeld size a
-unfolding cappedHeld
-capped-same size a h = omega arith
+below-sum : (xs : List Account) (n : ℕ) → fundsBelow xs (suc n) ≡ fundsOf (accountOf xs 0) + sumTo (λ i. fundsOf (accountOf xs i)) n
+unfolding fundsBelow sumTo
+below-sum xs zero = omega arith
+below-sum xs (suc n) = omega (arith, below-sum xs n)
 
-module _ (xs : List Account) (size : ℕ) where
-  totals : ((i : ℕ) → i < 64 → heldBy (accountOf xs i) ≡ cappedAt size xs i) → total xs ≡ cappedAt size xs 0 + sumTo (cappedAt size xs) 63
-  unfolding total
-  totals h = omega (arith, h 0 (omega arith), sum-same (λ k. heldBy (accountOf xs k)) (cappedAt size xs) 63 (λ k l u. h k (omega arith)))
-
-  pub capped-adds : cappedAt size xs 0 + sumTo (cappedAt size xs) 63 ≡ size → total xs ≡ size
-  capped-adds e = totals (λ i u. capped-same size (accountOf xs i) (part i u)) ∙ e
-    where
-      part : (i : ℕ) → i < 64 → cappedAt size xs i ≤ size
-      part zero u = omega arith
-      part (suc i) u = omega (arith, sum-part (cappedAt size xs) 63 (suc i) (omega arith) (omega arith))
-
-  pub adds-capped : total xs ≡ size → cappedAt size xs 0 + sumTo (cappedAt size xs) 63 ≡ size
-  adds-capped e = sym (totals (λ i u. held-same size (accountOf xs i) (omega (arith, total-part xs i u)))) ∙ e
+pub total-below : (xs : List Account) → fundsBelow xs 64 ≡ total xs
+unfolding total
+total-below xs = below-sum xs 63

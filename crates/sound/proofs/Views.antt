@@ -2,7 +2,7 @@
 use mathlib.Core.Bool.{Bool, true, false}
 use mathlib.Core.List.{List}
 use mathlib.Core.Path.{_≡_, refl, sym, ap, _∙_}
-use Prim.Native.Nat.{ℕ, zero, suc, _+_, _*_, _%_, _^_, _≤_, _<_}
+use Prim.Native.Nat.{ℕ, zero, suc, _-_, _%_, _^_, _≤_, _<_}
 use native.Mathlib.Nat.{add-zero}
 use native.Mathlib.Decide.{decLt, decLe}
 use native.Mathlib.Omega.{arith}
@@ -10,7 +10,7 @@ use lib.ListN.{length, getD}
 use Rattle.checks.proofs.Laws.{not-true-and-false}
 use Rattle.sets.specs.Set.{has}
 use Rattle.sets.proofs.Laws.{has-past}
-use Rattle.tree.specs.Class.{isLeaf}
+use Rattle.tree.specs.Class.{parentOf, longestOf, isLeaf}
 use Rattle.tree.specs.Rules.{PlanRules}
 use Rattle.tree.specs.Size.{roundSize}
 use Rattle.tree.proofs.Classes.{class-in, class-range, class-past, root-no-class}
@@ -20,81 +20,87 @@ use Rattle.state.proofs.Meaning.{meaning-queue, meaning-held, meaning-first}
 use Rattle.state.specs.declared.Link.{Link}
 use Rattle.state.specs.declared.Packet.{Packet}
 use Rattle.state.specs.Account.{balanceOf, residualOf}
-use Rattle.state.specs.Queue.{noPacket, startOf, heldOf, packetAt}
+use Rattle.state.specs.Queue.{noPacket, startOf, heldOf, slot, packetAt}
 use Rattle.state.specs.State.{meaning, queueAt}
 use Rattle.sound.specs.Below.{Above}
-use Rattle.sound.specs.Sound.{InRange, AddsUp, PlaceRight, Sound, SoundLink}
-use Rattle.sound.specs.Steps.{parentsTo, viewOf, ViewRight, ClassRight, ClassesRight}
-use Rattle.sound.proofs.Active.{ByChild, child-to-leaf, leaf-to-child, parents-in, parents-only}
-
--- a class that is right has a start of at most 31 and at most 32 packets
-pub view-held : (l : Link) (parents i : ℕ) → ViewRight (viewOf l parents i) → i < 64 → (i < 64) × (startOf l i ≤ 31) × (heldOf l i ≤ 32)
-unfolding viewOf
-view-held l parents i v u = (u, v .start, go (isLeaf (l .tree) i) refl)
-  where
-    go : (b : Bool) → isLeaf (l .tree) i ≡ b → heldOf l i ≤ 32
-    go true e = v .leaf e .few
-    go false e = omega (arith, v .other e .none)
+use Rattle.sound.specs.Sound.{InRange, PlaceRight, Sound, SoundLink}
+use Rattle.sound.specs.Steps.{parentsAfter, viewOf, ViewRight, ClassRight, ClassesRight}
+use Rattle.sound.proofs.Active.{ActiveChild, ByChild, child-to-leaf, leaf-to-child, parents-in, parents-only}
+use Rattle.sound.proofs.Totals.{total-part}
 
 -- ---- from the numbers to soundness
 
 module _ (l : Link) (rules : PlanRules (l .tree)) where
-  parents : ℕ
-  parents = parentsTo (l .tree) (l .active) (l .tree .count)
+  -- the parents of the active classes after class i
+  after : ℕ → ℕ
+  after i = parentsAfter (l .tree) (l .active) i
+
+  -- no number past the last class is active
+  NoneActive : Type 0
+  NoneActive = (i : ℕ) → l .tree .count < i → has (l .active) i ≡ false
+
+  -- class i is among them exactly when a child of it is active
+  after-child : NoneActive → (i : ℕ) → i < 64 → has (after i) i ≡ true → ActiveChild (l .tree) (l .active) i
+  unfolding after NoneActive
+  after-child none i u h =
+      let w = parents-only (l .tree) (l .active) (63 - i) i h in
+      go (w .0) (omega (arith, w .1)) (w .3) (w .4) (decLe (w .0) (l .tree .count))
+    where
+      go : (k : ℕ) → 1 ≤ k → has (l .active) k ≡ true → parentOf (l .tree) k ≡ i → Dec (k ≤ l .tree .count)
+          → ActiveChild (l .tree) (l .active) i
+      go k low a p (yes m) = record { child′ = k; class = class-in (l .tree) k low m; parent = p; is-active = a }
+      go k low a p (no m) = absurd (not-true-and-false a (none k (omega arith)))
+
+  child-after : (i : ℕ) → ActiveChild (l .tree) (l .active) i → has (after i) i ≡ true
+  unfolding after
+  child-after i c =
+      let k = c .child′ in
+      let range = class-range (l .tree) k (c .class) in
+      let low : i < k = omega (arith, parent-lower (l .tree) k rules (c .class), c .parent) in
+      let few : k < 64 = omega (arith, range .1, few-classes (l .tree) rules) in
+      ap (has (after i)) (sym (c .parent)) ∙ parents-in (l .tree) (l .active) (63 - i) k (omega (arith, low, few)) few (c .is-active)
 
   -- by the numbers, a class above is active exactly when a child of it is
-  by-child : ((i : ℕ) → i < 64 → i ≤ l .tree .count → isLeaf (l .tree) i ≡ false → has (l .active) i ≡ has parents i)
-      → l .tree .count ≤ 63 → ByChild (l .tree) (l .active)
-  unfolding parents
-  by-child same few = record {
-    has-child = λ i ab a.
-        let w = parents-only (l .tree) (l .active) (l .tree .count) i (sym (same i (omega (arith, ab .class)) (ab .class) (ab .inner)) ∙ a) in
-        record { child′ = w .0; class = class-in (l .tree) (w .0) (w .1) (w .2); parent = w .4; is-active = w .3 };
-    from-child = λ i ab c.
-        same i (omega (arith, ab .class)) (ab .class) (ab .inner)
-        ∙ ap (has (parentsTo (l .tree) (l .active) (l .tree .count))) (sym (c .parent))
-        ∙ parents-in (l .tree) (l .active) (l .tree .count) (c .child′) (class-range (l .tree) (c .child′) (c .class) .0)
-        (class-range (l .tree) (c .child′) (c .class) .1) (c .is-active);
+  by-child : NoneActive → ((i : ℕ) → i < 64 → isLeaf (l .tree) i ≡ false → has (l .active) i ≡ has (after i) i)
+      → ByChild (l .tree) (l .active)
+  by-child none same = record {
+    has-child = λ i ab a. let u = number i ab in after-child none i u (sym (same i u (ab .inner)) ∙ a);
+    from-child = λ i ab c. same i (number i ab) (ab .inner) ∙ child-after i c;
   }
+    where
+      number : (i : ℕ) → Above (l .tree) i → i < 64
+      number i ab = omega (arith, ab .class, few-classes (l .tree) rules)
 
   -- and the other way
-  by-numbers : ByChild (l .tree) (l .active) → (i : ℕ) → i ≤ l .tree .count → isLeaf (l .tree) i ≡ false → has (l .active) i ≡ has parents i
-  unfolding parents
-  by-numbers by i u f = go (has (l .active) i) (has (parentsTo (l .tree) (l .active) (l .tree .count)) i) refl refl
+  by-numbers : NoneActive → ByChild (l .tree) (l .active) → (i : ℕ) → i ≤ l .tree .count → isLeaf (l .tree) i ≡ false
+      → has (l .active) i ≡ has (after i) i
+  by-numbers none by i u f = go (has (l .active) i) (has (after i) i) refl refl
     where
       ab : Above (l .tree) i
       ab = record { class = u; inner = f }
 
-      go : (x y : Bool) → has (l .active) i ≡ x → has (parentsTo (l .tree) (l .active) (l .tree .count)) i ≡ y → x ≡ y
+      go : (x y : Bool) → has (l .active) i ≡ x → has (after i) i ≡ y → x ≡ y
       go true true a p = refl
       go false false a p = refl
-      go true false a p =
-          let c = by .has-child i ab a in
-          absurd
-          (not-true-and-false
-          (ap (has (parentsTo (l .tree) (l .active) (l .tree .count))) (sym (c .parent))
-          ∙ parents-in (l .tree) (l .active) (l .tree .count) (c .child′) (class-range (l .tree) (c .child′) (c .class) .0)
-          (class-range (l .tree) (c .child′) (c .class) .1) (c .is-active))
-          p)
+      go true false a p = absurd (not-true-and-false (child-after i (by .has-child i ab a)) p)
       go false true a p =
-          let w = parents-only (l .tree) (l .active) (l .tree .count) i p in
-          absurd
-          (not-true-and-false
-          (by .from-child i ab
-          (record { child′ = w .0; class = class-in (l .tree) (w .0) (w .1) (w .2); parent = w .4; is-active = w .3 }))
-          a)
+          let few : i < 64 = omega (arith, few-classes (l .tree) rules) in
+          absurd (not-true-and-false (by .from-child i ab (after-child none i few p)) a)
 
   -- a number past the last class is no parent and no leaf, nor is the root a leaf
-  past-parent : (i : ℕ) → l .tree .count < i → has parents i ≡ false
-  unfolding parents
-  past-parent i h = go (has (parentsTo (l .tree) (l .active) (l .tree .count)) i) refl
+  past-parent : (i : ℕ) → i < 64 → l .tree .count < i → has (after i) i ≡ false
+  unfolding after
+  past-parent i u h = go (has (after i) i) refl
     where
-      go : (b : Bool) → has (parentsTo (l .tree) (l .active) (l .tree .count)) i ≡ b → has (parentsTo (l .tree) (l .active)
-          (l .tree .count)) i ≡ false
+      go : (b : Bool) → has (after i) i ≡ b → has (after i) i ≡ false
       go false p = p
       go true p =
-          let w = parents-only (l .tree) (l .active) (l .tree .count) i p in
-          absurd (omega (arith, parent-lower (l .tree) (w .0) rules (class-in (l .tree) (w .0) (w .1) (w .2)), w .2, w .4))
+          let w = parents-only (l .tree) (l .active) (63 - i) i p in
+          absurd (omega (
+            arith,
+            rules .unset .at (w .0) (w .2) .past (class-past (l .tree) (w .0) (omega (arith, w .1))) .parent,
+            w .4,
+          ))
 
   past-leaf : (i : ℕ) → i < 64 → l .tree .count < i → isLeaf (l .tree) i ≡ false
   past-leaf i u h = rules .unset .at i u .past (class-past (l .tree) i h) .leaf
@@ -104,20 +110,20 @@ module _ (l : Link) (rules : PlanRules (l .tree)) where
   leaf-low (suc i) f = omega arith
 
   -- the first packet of a class, as the numbers have it
-  first-is : (i : ℕ) → i < 64 → 1 ≤ heldOf l i → getD (queueAt (meaning l) i) 0 noPacket .length ≡ getD (l .lengths) (i * 32 + startOf l i % 32) 0
+  first-is : (i : ℕ) → i < 64 → 1 ≤ heldOf l i
+      → getD (queueAt (meaning l) i) 0 noPacket .length ≡ getD (l .lengths) (slot i (startOf l i % 32)) 0
   first-is i u h =
       ap (λ (p : Packet). p .length) (meaning-first l i u h)
-      ∙ ap (λ (n : ℕ). getD (l .lengths) (i * 32 + n % 32) 0) (add-zero (startOf l i))
+      ∙ ap (λ (n : ℕ). getD (l .lengths) (slot i (n % 32)) 0) (add-zero (startOf l i))
 
   packet-is : (i j : ℕ) → i < 64 → j < heldOf l i → getD (queueAt (meaning l) i) j noPacket ≡ packetAt l i j
   packet-is i j u h = ap (λ (q : List Packet). getD q j noPacket) (meaning-queue l i u) ∙ queue-at l i j h
 
-  pub right-to-sound : l .size .0 ≡ roundSize (l .tree) → PlaceRight (meaning l) → AddsUp (meaning l) → l .active < 2 ^ 64
-      → ClassesRight l (parentsTo (l .tree) (l .active) (l .tree .count)) → SoundLink l
-  unfolding viewOf parents
-  right-to-sound size place adds word right =
-      let view : (i : ℕ) → i < 64 → ViewRight (viewOf l (parentsTo (l .tree) (l .active) (l .tree .count)) i) = λ i u. right .at i u .view in
-      let by = child-to-leaf (l .tree) (l .active) rules (by-child (λ i u w f. view i u .other f .above) (few-classes (l .tree) rules)) in
+  pub right-to-sound : l .size .0 ≡ roundSize (l .tree) → PlaceRight (meaning l) → l .active < 2 ^ 64 → ClassesRight l → SoundLink l
+  unfolding viewOf after NoneActive
+  right-to-sound size place word right =
+      let view : (i : ℕ) → i < 64 → ViewRight (viewOf l i) = λ i u. right .at i u .view in
+      let by = child-to-leaf (l .tree) (l .active) rules (by-child (λ i h. none i h (decLt i 64)) (λ i u f. view i u .other f .above)) in
       record {
         state =
             record {
@@ -128,7 +134,7 @@ module _ (l : Link) (rules : PlanRules (l .tree)) where
                     range =
                         λ f j h.
                         let h′ : j < heldOf l i = rw (meaning-held l i u) at h in
-                        rw (packet-is i j u h′) (record { low = right .at i u .lengths .low j h′; high = right .at i u .lengths .high j h′ });
+                        rw (packet-is i j u h′) (record { low = right .at i u .packets .low j h′; high = right .at i u .packets .high j h′ });
                     other = λ f. rw (meaning-held l i u) (view i u .other f .none);
                   };
               waiting = λ i u. record { waits = λ f a. omega (arith, meaning-held l i u, view i u .leaf f .waits a) };
@@ -139,7 +145,7 @@ module _ (l : Link) (rules : PlanRules (l .tree)) where
                 residual = λ p a. residual i u p a (isLeaf (l .tree) i) refl;
                 leaf = λ f. view i u .leaf f .residual;
               };
-              adds = adds;
+              adds = record { adds = right .adds };
               place = place;
               behind =
                   λ i u. record {
@@ -150,7 +156,7 @@ module _ (l : Link) (rules : PlanRules (l .tree)) where
       }
     where
       none : (i : ℕ) → l .tree .count < i → Dec (i < 64) → has (l .active) i ≡ false
-      none i h (yes u) = right .at i u .view .other (past-leaf i u h) .above ∙ past-parent i h
+      none i h (yes u) = right .at i u .view .other (past-leaf i u h) .above ∙ past-parent i u h
       none i h (no u) = has-past (l .active) i word (omega arith)
 
       balance : (i : ℕ) (u : i < 64) → 1 ≤ i → has (l .active) i ≡ false → (b : Bool) → isLeaf (l .tree) i ≡ b → balanceOf
@@ -165,9 +171,9 @@ module _ (l : Link) (rules : PlanRules (l .tree)) where
 
   -- ---- from soundness to the numbers
 
-  pub sound-to-right : SoundLink l → ClassesRight l (parentsTo (l .tree) (l .active) (l .tree .count))
-  unfolding viewOf parents
-  sound-to-right s = record { at = λ i u. at i u }
+  pub sound-to-right : SoundLink l → ClassesRight l
+  unfolding viewOf after NoneActive
+  sound-to-right s = record { at = λ i u. at i u; adds = s .state .adds .adds }
     where
       st : Sound (meaning l)
       st = s .state
@@ -187,16 +193,17 @@ module _ (l : Link) (rules : PlanRules (l .tree)) where
           go true f = rw (packet-is i j u h) at (st .holds i u .range f j (rw (meaning-held l i u) h))
           go false f = absurd (omega (arith, st .holds i u .other f, meaning-held l i u))
 
-      same : (i : ℕ) → isLeaf (l .tree) i ≡ false → Dec (i ≤ l .tree .count) → has (l .active) i ≡ has (parentsTo (l .tree) (l .active)
-          (l .tree .count)) i
-      same i f (yes u) = by-numbers by i u f
-      same i f (no u) = st .past .past i (omega arith) ∙ sym (past-parent i (omega arith))
+      same : (i : ℕ) → i < 64 → isLeaf (l .tree) i ≡ false → Dec (i ≤ l .tree .count) → has (l .active) i ≡ has (after i) i
+      same i u f (yes m) = by-numbers (st .past .past) by i m f
+      same i u f (no m) = st .past .past i (omega arith) ∙ sym (past-parent i u (omega arith))
 
-      at : (i : ℕ) → i < 64 → ClassRight l (parentsTo (l .tree) (l .active) (l .tree .count)) i
+      at : (i : ℕ) → i < 64 → ClassRight (viewOf l i) (l .lengths) (longestOf (l .tree) i)
       at i u = record {
         view =
             record {
               start = s .starts i u .start;
+              balance = omega (arith, total-part (l .accounts) i u, st .adds .adds);
+              residual = omega (arith, total-part (l .accounts) i u, st .adds .adds);
               leaf = λ f. record {
                 few = rw (meaning-held l i u) at (st .holds i u .few f);
                 waits = λ a. rw (meaning-held l i u) at (st .waiting i u .waits f a);
@@ -209,10 +216,10 @@ module _ (l : Link) (rules : PlanRules (l .tree)) where
               };
               other = λ f. record {
                 none = rw (meaning-held l i u) at (st .holds i u .other f);
-                above = same i f (decLe i (l .tree .count));
+                above = same i u f (decLe i (l .tree .count));
                 balance = st .zero i u .balance;
                 residual = st .zero i u .residual;
               };
             };
-        lengths = record { low = λ j h. range i u j h .low; high = λ j h. range i u j h .high };
+        packets = record { low = λ j h. range i u j h .low; high = λ j h. range i u j h .high };
       }

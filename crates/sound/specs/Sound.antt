@@ -1,4 +1,4 @@
--- When a state is sound: the list of document 01, "The link's state", one definition for each clause, in its order. Demands 1 to 3.
+-- When a state is sound (R101 to R115): one definition for each clause, in the order of the rules. Demands 1 to 3.
 use mathlib.Core.Bool.{true, false}
 use mathlib.Core.List.{List}
 use mathlib.Core.Path.{_≡_}
@@ -14,70 +14,71 @@ use Rattle.tree.specs.Sum.{sumTo}
 use Rattle.state.specs.declared.Account.{Account}
 use Rattle.state.specs.declared.Link.{Link}
 use Rattle.state.specs.declared.Packet.{Packet}
-use Rattle.state.specs.Account.{accountOf, balanceOf, residualOf, heldBy}
+use Rattle.state.specs.Account.{accountOf, balanceOf, residualOf, fundsOf}
 use Rattle.state.specs.Queue.{noPacket, startOf}
 use Rattle.state.specs.State.{State, meaning, queueAt}
 use Rattle.sound.specs.Below.{Above, ActiveLeafBelow}
 
--- its tree obeys the plan rules and Q fits it
+-- its tree obeys the plan rules and Q fits it (R101, R102)
 pub record TreeFits (s : State) : Type 0 where
   pub tree : PlanRules (s .tree)
   pub size : s .size ≡ roundSize (s .tree)
 
--- a packet is within the range of class i
+-- a packet is within the range of class i (R17, R104)
 pub record InRange (t : Tree) (i : ℕ) (p : Packet) : Type 0 where
   pub low : 1 ≤ p .length
   pub high : p .length ≤ longestOf t i
 
--- each leaf holds 0 to 32 packets, each within its range, and no other class holds any
+-- each leaf holds 0 to 32 packets, each within its range, and no other class holds any (R103 to R105)
 pub record HoldsRight (s : State) (i : ℕ) : Type 0 where
   pub few : isLeaf (s .tree) i ≡ true → length (queueAt s i) ≤ 32
   pub range : isLeaf (s .tree) i ≡ true → (j : ℕ) → j < length (queueAt s i) → InRange (s .tree) i (getD (queueAt s i) j noPacket)
   pub other : isLeaf (s .tree) i ≡ false → length (queueAt s i) ≡ 0
 
--- active leaves hold a packet
+-- active leaves hold a packet (R106)
 pub record ActiveHolds (s : State) (i : ℕ) : Type 0 where
   pub waits : isLeaf (s .tree) i ≡ true → has (s .active) i ≡ true → 1 ≤ length (queueAt s i)
 
--- any start kept for a queue is 0 to 31
+-- any start kept for a queue is 0 to 31 (R107)
 pub record StartRight (l : Link) (i : ℕ) : Type 0 where
   pub start : startOf l i ≤ 31
 
--- no number past the last class is active, nor any that has no place in a 64-bit number
+-- no number past the last class is active, nor any that has no place in a 64-bit number (R108)
 pub record NonePast (s : State) : Type 0 where
   pub word : s .active < 2 ^ 64
   pub past : (i : ℕ) → s .tree .count < i → has (s .active) i ≡ false
 
--- a class above is active exactly when an active leaf is below it
+-- a class above is active exactly when an active leaf is below it (R109)
 pub record AboveActive (s : State) (i : ℕ) : Type 0 where
   pub leaf-below : Above (s .tree) i → has (s .active) i ≡ true → ActiveLeafBelow (s .tree) (s .active) i
   pub active : Above (s .tree) i → ActiveLeafBelow (s .tree) (s .active) i → has (s .active) i ≡ true
 
 -- every inactive class except the root has B = R = 0, and leaves have R = 0; so have numbers past the last class, which are never active
+-- (R35, R110, R111)
 pub record ZeroWhere (s : State) (i : ℕ) : Type 0 where
   pub balance : 1 ≤ i → has (s .active) i ≡ false → balanceOf (s .accounts) i ≡ 0
   pub residual : 1 ≤ i → has (s .active) i ≡ false → residualOf (s .accounts) i ≡ 0
   pub leaf : isLeaf (s .tree) i ≡ true → residualOf (s .accounts) i ≡ 0
 
--- all B and R, of the root and of the classes 1 to 63
+-- all B and R, of the root and of the classes 1 to 63 (R112)
 unfoldable pub total : List Account → ℕ
-total xs = heldBy (accountOf xs 0) + sumTo (λ i. heldBy (accountOf xs i)) 63
+total xs = fundsOf (accountOf xs 0) + sumTo (λ i. fundsOf (accountOf xs i)) 63
 
--- all B and R add to Q
+-- all B and R add to Q (R112)
 pub record AddsUp (s : State) : Type 0 where
   pub adds : total (s .accounts) ≡ s .size
 
--- the place is 1 to 64
+-- the place is 1 to 64 (R113)
 pub record PlaceRight (s : State) : Type 0 where
   pub low : 1 ≤ s .place
   pub high : s .place ≤ 64
 
--- every active leaf numbered below the place has a balance smaller than its first packet
+-- every active leaf numbered below the place has a balance smaller than its first packet (R16, R114)
 pub record BehindPlace (s : State) (i : ℕ) : Type 0 where
   pub lacks : isLeaf (s .tree) i ≡ true → has (s .active) i ≡ true → i < s .place
       → balanceOf (s .accounts) i < costOf (getD (queueAt s i) 0 noPacket .length)
 
--- a state is sound when all of this holds
+-- a state is sound when all of this holds (R115)
 pub record Sound (s : State) : Type 0 where
   pub fits : TreeFits s
   pub holds : (i : ℕ) → i < 64 → HoldsRight s i
@@ -89,7 +90,7 @@ pub record Sound (s : State) : Type 0 where
   pub place : PlaceRight s
   pub behind : (i : ℕ) → i < 64 → BehindPlace s i
 
--- and of a link, that any start kept for a queue is 0 to 31
+-- and of a link, that any start kept for a queue is 0 to 31 (R115)
 pub record SoundLink (l : Link) : Type 0 where
   pub state : Sound (meaning l)
   pub starts : (i : ℕ) → i < 64 → StartRight l i

@@ -2,34 +2,39 @@
 use mathlib.Core.Bool.{true, false, cond}
 use mathlib.Core.List.{List}
 use mathlib.Core.Path.{_≡_}
-use Prim.Native.Nat.{ℕ, zero, suc, _+_, _*_, _%_, _≤_, _<_, min}
+use Prim.Native.Nat.{ℕ, zero, suc, _+_, _-_, _%_, _≤_, _<_}
 use lib.ListN.{getD}
 use Rattle.sets.specs.Set.{has, with}
 use Rattle.units.specs.Cost.{costOf}
 use Rattle.tree.specs.declared.Tree.{Tree}
 use Rattle.tree.specs.Class.{parentOf, longestOf, isLeaf}
-use Rattle.state.specs.declared.Account.{Account}
 use Rattle.state.specs.declared.Link.{Link}
 use Rattle.state.specs.Account.{accountOf}
-use Rattle.state.specs.Queue.{startOf, heldOf}
+use Rattle.state.specs.Queue.{startOf, heldOf, slot}
 use Rattle.sound.specs.declared.View.{View}
+use Rattle.sound.specs.Sound.{total}
 
--- the parents of the active classes from 1 to n, as a set
-unfoldable pub parentsTo : Tree → ℕ → ℕ → ℕ
-parentsTo t active zero = 0
-parentsTo t active (suc n) = cond (has active (suc n)) (with (parentsTo t active n) (parentOf t (suc n))) (parentsTo t active n)
+-- the parents of the active ones among the n highest class numbers, as a set
+unfoldable pub parentsDown : Tree → ℕ → ℕ → ℕ
+parentsDown t active zero = 0
+parentsDown t active (suc n) = cond (has active (63 - n)) (with (parentsDown t active n) (parentOf t (63 - n))) (parentsDown t active n)
 
--- the numbers of class i that its clauses speak of; parents is the set of the active classes' parents
-unfoldable pub viewOf : Link → ℕ → ℕ → View
-viewOf l parents i = record {
+-- the parents of the active ones after class i: a class's children all come after it
+abbrev pub parentsAfter : Tree → ℕ → ℕ → ℕ
+parentsAfter t active i = parentsDown t active (63 - i)
+
+-- the numbers of class i that its clauses speak of
+unfoldable pub viewOf : Link → ℕ → View
+viewOf l i = record {
   class = i;
   place = l .place;
+  size = l .size;
   leaf = isLeaf (l .tree) i;
   active = has (l .active) i;
-  parent = has parents i;
+  child = has (parentsAfter (l .tree) (l .active) i) i;
   start = startOf l i;
   held = heldOf l i;
-  first = getD (l .lengths) (i * 32 + startOf l i % 32) 0;
+  first = getD (l .lengths) (slot i (startOf l i % 32)) 0;
   account = accountOf (l .accounts) i;
 }
 
@@ -41,15 +46,18 @@ pub record LeafRight (v : View) : Type 0 where
   pub residual : v .account .residual .0 ≡ 0
   pub lacks : v .active ≡ true → v .class < v .place → v .account .balance .0 < costOf (v .first)
 
--- and at any other number
+-- at any other number
 pub record OtherRight (v : View) : Type 0 where
   pub none : v .held ≡ 0
-  pub above : v .active ≡ v .parent
+  pub above : v .active ≡ v .child
   pub balance : 1 ≤ v .class → v .active ≡ false → v .account .balance .0 ≡ 0
   pub residual : 1 ≤ v .class → v .active ≡ false → v .account .residual .0 ≡ 0
 
+-- and at any number: neither B nor R is more than all of them together
 pub record ViewRight (v : View) : Type 0 where
   pub start : v .start ≤ 31
+  pub balance : v .account .balance .0 ≤ v .size .0
+  pub residual : v .account .residual .0 ≤ v .size .0
   pub leaf : v .leaf ≡ true → LeafRight v
   pub other : v .leaf ≡ false → OtherRight v
 
@@ -60,17 +68,15 @@ pub record PlaceInRange (length turn held longest : ℕ) : Type 0 where
 
 -- the waiting packets of a class are within its range
 pub record LengthsRight (lengths : List ℕ) (class start held longest : ℕ) : Type 0 where
-  pub low : (j : ℕ) → j < held → 1 ≤ getD lengths (class * 32 + (start + j) % 32) 0
-  pub high : (j : ℕ) → j < held → getD lengths (class * 32 + (start + j) % 32) 0 ≤ longest
+  pub low : (j : ℕ) → j < held → 1 ≤ getD lengths (slot class ((start + j) % 32)) 0
+  pub high : (j : ℕ) → j < held → getD lengths (slot class ((start + j) % 32)) 0 ≤ longest
 
--- class i of a link is right in its numbers and its packets
-pub record ClassRight (l : Link) (parents i : ℕ) : Type 0 where
-  pub view : ViewRight (viewOf l parents i)
-  pub lengths : LengthsRight (l .lengths) i (startOf l i) (heldOf l i) (longestOf (l .tree) i)
+-- a class is right in its numbers and its packets
+pub record ClassRight (v : View) (lengths : List ℕ) (longest : ℕ) : Type 0 where
+  pub view : ViewRight v
+  pub packets : LengthsRight lengths (v .class) (v .start) (v .held) longest
 
-pub record ClassesRight (l : Link) (parents : ℕ) : Type 0 where
-  pub at : (i : ℕ) → i < 64 → ClassRight l parents i
-
--- what an account holds, where neither its balance nor its residual counts for more than one above the size
-unfoldable pub cappedHeld : ℕ → Account → ℕ
-cappedHeld size a = min (a .balance .0) (size + 1) + min (a .residual .0) (size + 1)
+-- every class of a link is, and all B and R add to the size
+pub record ClassesRight (l : Link) : Type 0 where
+  pub at : (i : ℕ) → i < 64 → ClassRight (viewOf l i) (l .lengths) (longestOf (l .tree) i)
+  pub adds : total (l .accounts) ≡ l .size .0

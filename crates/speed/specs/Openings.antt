@@ -1,4 +1,4 @@
--- What the timed loop of openings does: a packet offered to every class of a link, then a round opened so many times over. Request E3.
+-- What the timed loop of openings does: a packet offered to every class of a link, then a round opened so many times over.
 use Prim.Native.Nat.{ℕ, zero, suc}
 use mathlib.Core.Bool.{true}
 use mathlib.Core.List.{List}

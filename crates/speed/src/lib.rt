@@ -2,7 +2,6 @@
 // ask nothing. They are no part of the product, and say only that they are safe and end: what they answer is compared with the plain
 // scheduler's sends, one by one.
 pub mod opening;
-pub mod parts;
 
 ghost use mathlib.Core.Path.{_≡_};
 ghost use Prim.Native.Nat.{suc, _<_};

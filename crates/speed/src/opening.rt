@@ -1,5 +1,5 @@
 // The loop of openings that bin/speed times: rounds opened on a plan's link, one over the other. No part of the product.
-// Serves request E3: what an opening costs.
+// It shows what an opening costs (docs/speed.md).
 ghost use mathlib.Core.Path.{_≡_};
 ghost use Rattle.sound.specs.Sound.{SoundLink};
 ghost use Rattle.rules.specs.After.{openedLink};

@@ -1,4 +1,4 @@
--- What a link record means, what the steps on a queue do to that, and that the meaning leaves out no more than document 01 says. Demand 2.
+-- What a link record means, what the steps on a queue do to that, and that the meaning leaves out no more than R97 says. Demand 2.
 use mathlib.Core.List.{List, [], _∷_, _++_}
 use mathlib.Core.Path.{_≡_, sym, ap, _∙_}
 use Prim.Native.Nat.{ℕ, _+_, _-_, _/_, _%_, _≤_, _<_}
@@ -13,8 +13,9 @@ use Rattle.state.specs.declared.Packet.{Packet}
 use Rattle.state.specs.Account.{account, noAccount}
 use Rattle.state.specs.Queue.{noPacket, startOf, heldOf, slotOf, packetAt, queueOf, putLast, takenFirst, Shaped}
 use Rattle.state.specs.State.{State, meaning, queueAt, withQueues, withQueue, freshLink, noLink}
-use Rattle.state.proofs.Tables.{table-at, table-past, table-same, table-set}
-use Rattle.state.proofs.Queues.{queue-length, queue-at, queue-none, queue-put-same, queue-put-other, queue-take-same, queue-take-other}
+use Rattle.state.proofs.Tables.{table-at, table-same, table-set}
+use Rattle.state.proofs.Queues.{queue-length, queue-at, queue-none, queue-put-same, queue-put-other, queue-take-same}
+use Rattle.state.proofs.Queues.{queue-take-other}
 
 -- the queues of a meaning are the link's, and past the last class number there is none
 pub meaning-queue : (l : Link) (i : ℕ) → i < 64 → queueAt (meaning l) i ≡ queueOf l i
@@ -23,9 +24,6 @@ meaning-queue l i h = table-at (queueOf l) [] 64 i h
 -- how many packets wait in class i
 pub meaning-held : (l : Link) (i : ℕ) → i < 64 → length (queueAt (meaning l) i) ≡ heldOf l i
 meaning-held l i h = ap length (meaning-queue l i h) ∙ queue-length l i
-
-pub meaning-past : (l : Link) (i : ℕ) → 64 ≤ i → queueAt (meaning l) i ≡ []
-meaning-past l i h = table-past (queueOf l) [] 64 i h
 
 -- a packet put last changes the meaning of its class's queue alone
 pub meaning-put : (l : Link) (i : ℕ) (p : Packet) → Shaped l → i < 64 → heldOf l i < 32
@@ -60,21 +58,9 @@ none-held i = go (decLt i 64)
 pub fresh-queues : (t : Tree) (i : ℕ) → queueOf (freshLink t) i ≡ []
 fresh-queues t i = queue-none (freshLink t) i (none-held i)
 
-pub none-queues : (i : ℕ) → queueOf noLink i ≡ []
-none-queues i = queue-none noLink i (none-held i)
-
 pub shaped-fresh : (t : Tree) → Shaped (freshLink t)
 shaped-fresh t = record {
   accounts = length-set (replicate 64 noAccount) 0 (account (roundSize t) 0) ∙ length-replicate 64 noAccount;
-  start = length-replicate {A = ℕ} 64 0;
-  held = length-replicate {A = ℕ} 64 0;
-  lengths = length-replicate {A = ℕ} 2_048 0;
-  tags = length-replicate {A = ℕ} 2_048 0;
-}
-
-pub shaped-none : Shaped noLink
-shaped-none = record {
-  accounts = length-replicate 64 noAccount;
   start = length-replicate {A = ℕ} 64 0;
   held = length-replicate {A = ℕ} 64 0;
   lengths = length-replicate {A = ℕ} 2_048 0;
@@ -115,7 +101,8 @@ module _ (l l′ : Link) (same : meaning l ≡ meaning l′) where
         let here : slotOf l i j ≡ p = omega arith in
         let here′ : slotOf l′ i j ≡ p = omega (arith, starts i (omega arith)) in
         let e : packetAt l i j ≡ packetAt l′ i j = same-packets i j (omega arith) (omega arith) in (
-          ap (λ (k : ℕ). getD (l .lengths) k 0) (sym here) ∙ ap (λ (x : Packet). x .length) e ∙ ap (λ (k : ℕ). getD (l′ .lengths) k 0) here′,
+          ap (λ (k : ℕ). getD (l .lengths) k 0) (sym here) ∙ ap (λ (x : Packet). x .length) e
+              ∙ ap (λ (k : ℕ). getD (l′ .lengths) k 0) here′,
           ap (λ (k : ℕ). getD (l .tags) k 0) (sym here) ∙ ap (λ (x : Packet). x .tag) e ∙ ap (λ (k : ℕ). getD (l′ .tags) k 0) here′,
         )
 
@@ -153,7 +140,7 @@ pub nothing-forgotten : (l l′ : Link) → Shaped l → Shaped l′ → meaning
     → l ≡ l′
 nothing-forgotten l l′ s s′ same starts free = same-link l l′ same s s′ starts free
 
--- two states are equal when all else agrees and each class's packets agree in order
+-- two states are equal when all else agrees and each class's packets agree in order (R98)
 pub same-meaning : (l l′ : Link) → l .tree ≡ l′ .tree → l .size ≡ l′ .size → l .active ≡ l′ .active → l .place ≡ l′ .place
     → l .accounts ≡ l′ .accounts → ((i : ℕ) → i < 64 → queueOf l i ≡ queueOf l′ i) → meaning l ≡ meaning l′
 same-meaning l l′ tree size active place accounts queues = λ i. record {

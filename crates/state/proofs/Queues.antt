@@ -1,14 +1,14 @@
 -- What a packet put last, or the first one taken, does to each class's queue. Demand 2.
 use mathlib.Core.List.{List, [], _∷_, _++_}
 use mathlib.Core.Path.{_≡_, sym, ap, ap₂, _∙_}
-use Prim.Native.Nat.{ℕ, suc, _+_, _-_, _*_, _%_, _≤_, _<_}
+use Prim.Native.Nat.{ℕ, suc, _+_, _-_, _%_, _≤_, _<_}
 use native.Mathlib.Numerals.{add-one}
 use native.Mathlib.Omega.{arith}
 use lib.ListN.{getD, length, length-set}
 use lib.Seq.{getD-set-same, getD-set-other}
 use Rattle.state.specs.declared.Link.{Link}
 use Rattle.state.specs.declared.Packet.{Packet}
-use Rattle.state.specs.Queue.{table, noPacket, startOf, heldOf, slotOf, packetAt, queueOf, putLast, takenFirst, Shaped}
+use Rattle.state.specs.Queue.{table, noPacket, startOf, heldOf, slot, slotOf, packetAt, queueOf, putLast, takenFirst, Shaped}
 use Rattle.state.proofs.Tables.{table-none, table-last, table-length, table-at, table-same, table-first}
 
 -- what two waiting places hold is the same where their lengths and their tags are
@@ -30,9 +30,9 @@ queue-none l i e = rw e (table-none (packetAt l i))
 
 -- the first packet lies at the queue's start
 pub packet-first : (l : Link) (i : ℕ) → startOf l i < 32
-    → packetAt l i 0 ≡ record { length = getD (l .lengths) (i * 32 + startOf l i) 0; tag = getD (l .tags) (i * 32 + startOf l i) 0 }
+    → packetAt l i 0 ≡ record { length = getD (l .lengths) (slot i (startOf l i)) 0; tag = getD (l .tags) (slot i (startOf l i)) 0 }
 packet-first l i h =
-    let e : slotOf l i 0 ≡ i * 32 + startOf l i = omega arith in
+    let e : slotOf l i 0 ≡ slot i (startOf l i) = omega arith in
     rw e
 
 -- a packet put last in class i's queue

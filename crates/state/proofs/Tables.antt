@@ -1,11 +1,11 @@
 -- Laws of a table, the values of a function at 0, 1, .. n - 1. Demand 2.
 use mathlib.Core.List.{List, [], _∷_, _++_}
 use mathlib.Core.Path.{_≡_, refl, sym, ap, ap₂, _∙_}
-use Prim.Native.Nat.{ℕ, zero, suc, _+_, _-_, _≤_, _<_}
+use Prim.Native.Nat.{ℕ, zero, suc, _+_, _-_, _<_}
 use native.Mathlib.Decide.{decLt, ℕ-discrete}
 use native.Mathlib.Numerals.{add-one}
 use native.Mathlib.Omega.{arith}
-use lib.ListN.{length, getD, set, drop, replicate, length-append, length-set, List·getD-append, List·getD-eq-default}
+use lib.ListN.{length, getD, set, drop, replicate, length-append, length-set, List·getD-append}
 use lib.Seq.{getD-at, set-at, append-snoc, drop-cons, getD-set-same, getD-set-other, ext-getD}
 use Rattle.state.specs.Queue.{table}
 
@@ -33,9 +33,6 @@ module _ {A : Type 0} where
       go (no m) ih =
           let e : i ≡ n = omega arith in
           rw e (getD-at (table f n) (f n) [] d n (table-length f n))
-
-  pub table-past : (f : ℕ → A) (d : A) (n i : ℕ) → n ≤ i → getD (table f n) i d ≡ d
-  table-past f d n i h = List·getD-eq-default (table f n) d (rw table-length h)
 
   -- the same values give the same table
   pub table-same : (f g : ℕ → A) (n : ℕ) → ((i : ℕ) → i < n → f i ≡ g i) → table f n ≡ table g n
@@ -66,7 +63,8 @@ module _ {A : Type 0} where
           table-at g x n k m ∙ other k ne ∙ sym (getD-set-other (table f n) i k x x ne ∙ table-at f x n k m)
 
   -- a table filled in place, one entry a turn, over what the places held before
-  pub table-fill : (f : ℕ → A) (d : A) (m n : ℕ) → n < m → set (table f n ++ replicate (m - n) d) n (f n) ≡ table f (n + 1) ++ replicate (m - (n + 1)) d
+  pub table-fill : (f : ℕ → A) (d : A) (m n : ℕ) → n < m
+      → set (table f n ++ replicate (m - n) d) n (f n) ≡ table f (n + 1) ++ replicate (m - (n + 1)) d
   unfolding table
   table-fill f d m n h =
       let e : m - n ≡ suc (m - (n + 1)) = omega arith in
@@ -78,7 +76,8 @@ module _ {A : Type 0} where
       List·getD-append (table f n) (replicate (m - n) d) d i (rw (table-length f n) h) ∙ table-at f d n i h
 
   -- the same over the rest of a list
-  pub table-over : (f : ℕ → A) (d : A) (xs : List A) (n : ℕ) → n < length xs → set (table f n ++ drop n xs) n (f n) ≡ table f (n + 1) ++ drop (n + 1) xs
+  pub table-over : (f : ℕ → A) (d : A) (xs : List A) (n : ℕ) → n < length xs
+      → set (table f n ++ drop n xs) n (f n) ≡ table f (n + 1) ++ drop (n + 1) xs
   unfolding table
   table-over f d xs n h =
       rw (drop-cons xs n d h, set-at (table f n) (getD xs n d) (drop (suc n) xs) (f n) n (table-length f n), add-one n)

@@ -1,4 +1,4 @@
--- The link's state of document 01: accounts, queues, what a state means.
+-- The link's state (R86 to R100): accounts, queues, what a state means.
 pub mod Account
 pub mod Queue
 pub mod State

@@ -1,8 +1,9 @@
--- Each class's queue, first in first out, in its 32 of the 2,048 waiting places (document 01, "The link's state"). Demand 2.
+-- Each class's queue, first in first out, in its 32 of the 2,048 waiting places (R93 to R95). Demands 2 and 3.
 use mathlib.Core.List.{List, [], _∷_, _++_}
 use mathlib.Core.Path.{_≡_}
 use Prim.Native.Nat.{ℕ, zero, suc, _+_, _-_, _*_, _%_}
 use lib.ListN.{getD, set, length}
+use Rattle.units.specs.Cost.{costOf}
 use Rattle.state.specs.declared.Link.{Link}
 use Rattle.state.specs.declared.Packet.{Packet}
 
@@ -22,47 +23,52 @@ startOf l i = getD (l .start) i 0
 abbrev pub heldOf : Link → ℕ → ℕ
 heldOf l i = getD (l .held) i 0
 
--- the waiting place of the packet with j packets before it: class times 32 plus position
-abbrev pub slotOf : Link → ℕ → ℕ → ℕ
-slotOf l i j = i * 32 + (startOf l i + j) % 32
+-- the waiting place at a position of class i: class times 32 plus position (R94)
+abbrev pub slot : ℕ → ℕ → ℕ
+slot i position = i * 32 + position
 
--- what that place holds
+-- the waiting place of the packet with j packets before it: positions go round the 32 (R94, R95)
+abbrev pub slotOf : Link → ℕ → ℕ → ℕ
+slotOf l i j = slot i ((startOf l i + j) % 32)
+
+-- what that place holds (R94)
 abbrev pub packetAt : Link → ℕ → ℕ → Packet
 packetAt l i j = record { length = getD (l .lengths) (slotOf l i j) 0; tag = getD (l .tags) (slotOf l i j) 0 }
 
--- the packets of class i in order
+-- the packets of class i in order (R93, R97)
 unfoldable pub queueOf : Link → ℕ → List Packet
 queueOf l i = table (packetAt l i) (heldOf l i)
 
--- a packet waits last in class i's queue
+-- the bytes of the packets of a queue, in charges (R16, R201)
+unfoldable pub bytesIn : List Packet → ℕ
+bytesIn [] = 0
+bytesIn (p ∷ ps) = costOf (p .length) + bytesIn ps
+
+-- the link with these queues
+abbrev pub queued : Link → List ℕ → List ℕ → List ℕ → List ℕ → Link
+queued l start held lengths tags = record {
+  tree = l .tree;
+  size = l .size;
+  active = l .active;
+  place = l .place;
+  accounts = l .accounts;
+  start = start;
+  held = held;
+  lengths = lengths;
+  tags = tags;
+}
+
+-- a packet waits last in class i's queue (R93)
 abbrev pub putLast : Link → ℕ → Packet → Link
-putLast l i p = record {
-  tree = l .tree;
-  size = l .size;
-  active = l .active;
-  place = l .place;
-  accounts = l .accounts;
-  start = l .start;
-  held = set (l .held) i (heldOf l i + 1);
-  lengths = set (l .lengths) (slotOf l i (heldOf l i)) (p .length);
-  tags = set (l .tags) (slotOf l i (heldOf l i)) (p .tag);
-}
+putLast l i p =
+    queued l (l .start) (set (l .held) i (heldOf l i + 1))
+    (set (l .lengths) (slotOf l i (heldOf l i)) (p .length)) (set (l .tags) (slotOf l i (heldOf l i)) (p .tag))
 
--- the first packet leaves class i's queue
+-- the first packet leaves class i's queue (R93, R95)
 abbrev pub takenFirst : Link → ℕ → Link
-takenFirst l i = record {
-  tree = l .tree;
-  size = l .size;
-  active = l .active;
-  place = l .place;
-  accounts = l .accounts;
-  start = set (l .start) i ((startOf l i + 1) % 32);
-  held = set (l .held) i (heldOf l i - 1);
-  lengths = l .lengths;
-  tags = l .tags;
-}
+takenFirst l i = queued l (set (l .start) i ((startOf l i + 1) % 32)) (set (l .held) i (heldOf l i - 1)) (l .lengths) (l .tags)
 
--- the lists of a link have the lengths of its arrays
+-- the lists of a link have the lengths of its arrays (R94)
 pub record Shaped (l : Link) : Type 0 where
   pub accounts : length (l .accounts) ≡ 64
   pub start : length (l .start) ≡ 64

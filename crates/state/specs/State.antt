@@ -1,4 +1,4 @@
--- What a link record means, and the links that are made from nothing (document 01, "The link's state"). Demand 2.
+-- What a link record means, and the links that are made from nothing (R96 to R100). Demand 2.
 use mathlib.Core.List.{List, []}
 use Prim.Native.Nat.{ℕ}
 use lib.ListN.{getD, set, replicate}
@@ -12,7 +12,7 @@ use Rattle.state.specs.declared.Packet.{Packet}
 use Rattle.state.specs.Account.{account, noAccount}
 use Rattle.state.specs.Queue.{table, queueOf}
 
--- the tree, Q, the set of active classes, the place in the round, each class's account and each class's queue
+-- the tree, Q, the set of active classes, the place in the round, each class's account and each class's queue (R96)
 pub record State : Type 0 where
   pub tree : Tree
   pub size : ℕ
@@ -21,7 +21,7 @@ pub record State : Type 0 where
   pub accounts : List Account
   pub queues : List (List Packet)
 
--- What a place without a packet holds, and where in its 32 places a queue starts, are no part of a state's meaning.
+-- What a place without a packet holds, and where in its 32 places a queue starts, are no part of a state's meaning (R97, R98).
 abbrev pub meaning : Link → State
 meaning l = record {
   tree = l .tree;
@@ -50,6 +50,17 @@ withQueues s queues = record {
 abbrev pub withQueue : State → ℕ → List Packet → State
 withQueue s i q = withQueues s (set (s .queues) i q)
 
+-- the state in a round: with these active classes, this place and these accounts
+abbrev pub inRound : State → ℕ → ℕ → List Account → State
+inRound s active place accounts = record {
+  tree = s .tree;
+  size = s .size;
+  active = active;
+  place = place;
+  accounts = accounts;
+  queues = s .queues;
+}
+
 -- the link that its parts make up
 abbrev pub linkOf : Tree → Bytes → ℕ → ℕ → List Account → List ℕ → List ℕ → List ℕ → List ℕ → Link
 linkOf tree size active place accounts start held lengths tags = record {
@@ -64,7 +75,11 @@ linkOf tree size active place accounts start held lengths tags = record {
   tags = tags;
 }
 
--- a fresh link: root balance Q, every other B and R zero, queues empty, nothing active, place 64
+-- the link in a round, as a state is
+abbrev pub linkInRound : Link → ℕ → ℕ → List Account → Link
+linkInRound l active place accounts = linkOf (l .tree) (l .size) active place accounts (l .start) (l .held) (l .lengths) (l .tags)
+
+-- a fresh link: root balance Q, every other B and R zero, queues empty, nothing active, place 64 (R99)
 abbrev pub freshLink : Tree → Link
 freshLink t = record {
   tree = t;
@@ -78,7 +93,7 @@ freshLink t = record {
   tags = replicate 2_048 0;
 }
 
--- the link without classes, all its numbers 0
+-- the link without classes, all its numbers 0 (R100)
 abbrev pub noLink : Link
 noLink = record {
   tree = noTree;

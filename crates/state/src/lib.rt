@@ -1,10 +1,10 @@
-// The link's state (document 01): accounts, waiting places and the record that holds them, and the steps on each.
+// The link's state (R86 to R100): accounts, waiting places and the record that holds them; the steps on each stand in the modules.
 // Serves demand 2: each step is one equation, and what a state means is its packets in order, not where they lie.
+mod accounts;
+pub mod queue;
+
 ghost use mathlib.Core.Path.{_≡_};
-ghost use Prim.Native.Nat.{_+_, _^_, _<_, _≤_};
 ghost use Rattle.tree.specs.Rules.{PlanRules};
-ghost use Rattle.state.specs.Account.{noAccount, tookQuota, handedDown, sentFrom, gained, returned, received, heldBy};
-ghost use Rattle.state.specs.Queue.{startOf, heldOf, packetAt, takenFirst};
 ghost use Rattle.state.specs.State.{freshLink, noLink};
 use tree::Tree;
 use units::Bytes;
@@ -32,100 +32,6 @@ pub struct Link {
     pub held: [u8; Link::CLASSES],
     pub lengths: [u16; 2048],
     pub tags: [u32; 2048],
-}
-
-impl Account {
-    // The account with nothing in it.
-    pub fn none() -> Account
-        ensures { λ r. ⌜ r ≡ noAccount ⌝ }
-    {
-        Account {
-            balance: Bytes(0),
-            residual: Bytes(0),
-        }
-    }
-
-    // A class takes its residual and its due into its balance.
-    pub fn take_quota(self, due: Bytes) -> Account
-        requires { ⌜ self .balance .0 + self .residual .0 + due .0 < 2 ^ 64 ⌝ }
-        ensures { λ r. ⌜ r ≡ tookQuota self (due .0) ⌝ }
-    {
-        let balance = self.balance;
-        let residual = self.residual;
-        Account {
-            balance: balance.plus(residual).plus(due),
-            residual: Bytes(0),
-        }
-    }
-
-    // A parent's balance falls by what it hands down.
-    pub fn hand_down(self, due: Bytes) -> Account
-        requires { ⌜ due .0 ≤ self .balance .0 ⌝ }
-        ensures { λ r. ⌜ r ≡ handedDown self (due .0) ⌝ }
-    {
-        let balance = self.balance;
-        let residual = self.residual;
-        Account {
-            balance: balance.less(due),
-            residual,
-        }
-    }
-
-    // A leaf loses what its packet costs.
-    pub fn send(self, cost: Bytes) -> Account
-        requires { ⌜ cost .0 ≤ self .balance .0 ⌝ }
-        ensures { λ r. ⌜ r ≡ sentFrom self (cost .0) ⌝ }
-    {
-        let balance = self.balance;
-        let residual = self.residual;
-        Account {
-            balance: balance.less(cost),
-            residual,
-        }
-    }
-
-    // The root's balance gains what a packet cost.
-    pub fn gain(self, cost: Bytes) -> Account
-        requires { ⌜ self .balance .0 + cost .0 < 2 ^ 64 ⌝ }
-        ensures { λ r. ⌜ r ≡ gained self (cost .0) ⌝ }
-    {
-        let balance = self.balance;
-        let residual = self.residual;
-        Account {
-            balance: balance.plus(cost),
-            residual,
-        }
-    }
-
-    // A class that turns inactive keeps nothing.
-    pub fn return_balance(self) -> Account
-        ensures { λ r. ⌜ r ≡ returned self ⌝ }
-    {
-        Account::none()
-    }
-
-    // A parent's residual gains what such a class held.
-    pub fn receive(self, given: Bytes) -> Account
-        requires { ⌜ self .residual .0 + given .0 < 2 ^ 64 ⌝ }
-        ensures { λ r. ⌜ r ≡ received self (given .0) ⌝ }
-    {
-        let balance = self.balance;
-        let residual = self.residual;
-        Account {
-            balance,
-            residual: residual.plus(given),
-        }
-    }
-
-    // B + R: what the surplus test reads, and what a class that turns inactive gives to its parent.
-    pub fn held(self) -> Bytes
-        requires { ⌜ self .balance .0 + self .residual .0 < 2 ^ 64 ⌝ }
-        ensures { λ r. ⌜ r .0 ≡ heldBy self ⌝ }
-    {
-        let balance = self.balance;
-        let residual = self.residual;
-        balance.plus(residual)
-    }
 }
 
 impl Link {
@@ -185,28 +91,5 @@ impl Link {
             lengths,
             tags,
         }
-    }
-
-    // The first packet of a class's queue.
-    pub fn first(self, class: usize) -> Packet
-        requires { ⌜ (class < 64) × (startOf self class < 32) ⌝ }
-        ensures { λ r. ⌜ r ≡ packetAt self class 0 ⌝ }
-    {
-        let s = self.start[class] as usize;
-        let at = class * Link::PLACES + s;
-        let length = self.lengths[at];
-        let tag = self.tags[at];
-        Packet { length, tag }
-    }
-
-    // The first packet leaves its class's queue, and its place is free.
-    pub fn take(mut self, class: usize) -> Link
-        requires { ⌜ (class < 64) × (startOf self class < 32) × (1 ≤ heldOf self class) ⌝ }
-        ensures { λ r. ⌜ r ≡ takenFirst self class ⌝ }
-    {
-        let s = self.start[class] as usize;
-        self.start[class] = ((s + 1) % Link::PLACES) as u8;
-        self.held[class] -= 1;
-        self
     }
 }

@@ -13,7 +13,7 @@ use Rattle.tree.specs.Sum.{someTo}
 use Rattle.tree.proofs.Classes.{class-range}
 use Rattle.tree.proofs.Rules.{parent-lower, few-classes}
 use Rattle.state.specs.declared.Account.{Account}
-use Rattle.state.specs.Account.{accountOf, heldBy, returned, received}
+use Rattle.state.specs.Account.{accountOf, fundsOf, returned, received}
 use Rattle.rules.specs.Sending.{Books}
 use Rattle.rules.specs.Active.{activeChild}
 use Rattle.rules.specs.Sending.{givenUp, rootOff, turnsOff}
@@ -21,13 +21,13 @@ use Rattle.rules.proofs.GivenUp.{parent-class, turns-stays, turns-root, turns-u
 use Rattle.steps.specs.Parts.{Grown}
 
 -- the books after a class has given up, from what the steps gave
-pub given-by : (t : Tree) (i p : ℕ) (b : Books) (active held : ℕ) (own none mine next : Account) (mid last : List Account)
+pub given-by : (t : Tree) (i p : ℕ) (b : Books) (active funds : ℕ) (own none mine next : Account) (mid last : List Account)
     → parentOf t i ≡ p → active ≡ without (b .active) i
     → own ≡ accountOf (b .accounts) i → none ≡ returned own → mid ≡ set (b .accounts) i none
-    → mine ≡ accountOf mid p → held ≡ heldBy own → next ≡ received mine held → last ≡ set mid p next
+    → mine ≡ accountOf mid p → funds ≡ fundsOf own → next ≡ received mine funds → last ≡ set mid p next
     → record { active = active; accounts = last } ≡ givenUp t i b
 unfolding givenUp
-given-by t i p b active held own none mine next mid last e a o n m y h x l = rw (a, l, x, y, h, m, n, o, e) refl
+given-by t i p b active funds own none mine next mid last e a o n m y h x l = rw (a, l, x, y, h, m, n, o, e) refl
 
 -- a class of a lent tree is below 64, and its parent below it
 module _ (t : Tree) (count : ℕ) (parent : List ℕ) (i : ℕ) (g : Grown t count parent) where
@@ -42,7 +42,8 @@ module _ (t : Tree) (count : ℕ) (parent : List ℕ) (i : ℕ) (g : Grown t cou
 
 -- class i has given up, and its parent is p: the three ways on
 module _ (t : Tree) (i p : ℕ) (b b′ : Books) (e : parentOf t i ≡ p) (same : b′ ≡ givenUp t i b) where
-  left : (x : Bool) → x ≡ someTo (activeChild t (b′ .active) p) (t .count) → someTo (activeChild t (givenUp t i b .active) (parentOf t i)) (t .count) ≡ x
+  left : (x : Bool) → x ≡ someTo (activeChild t (b′ .active) p) (t .count)
+      → someTo (activeChild t (givenUp t i b .active) (parentOf t i)) (t .count) ≡ x
   left x h = rw (e, ← same) (sym h)
 
   pub climb-stays : true ≡ someTo (activeChild t (b′ .active) p) (t .count) → b′ ≡ turnsOff 63 t i b

@@ -1,11 +1,11 @@
 -- A whole send over the parts of a link: a leaf is found at once, no packet waits, or rounds are opened. Demand 2.
 use mathlib.Core.Bool.{true, false}
 use mathlib.Core.List.{List}
-use mathlib.Core.Path.{_≡_, refl, sym, ap, _∙_}
+use mathlib.Core.Path.{_≡_, refl, sym, ap, subst, _∙_}
 use Prim.Native.Nat.{ℕ, _≤_, _<_}
 use native.Mathlib.Omega.{arith}
 use lib.ListN.{length}
-use borrow.Author.Tests.{le-leb}
+use borrow.Author.Tests.{le-leb, lt-ltb, le-ltb}
 use Rattle.sets.specs.Set.{has}
 use Rattle.units.specs.declared.Bytes.{Bytes}
 use Rattle.tree.specs.declared.Tree.{Tree}
@@ -26,9 +26,10 @@ use Rattle.rules.specs.After.{sentLink}
 use Rattle.rules.specs.Steps.{SendsNext, OnTheWay}
 use Rattle.rules.proofs.Meanings.{waits-leaf}
 use Rattle.rules.proofs.OnTheWay.{way-starts, way-found, way-ends}
-use Rattle.steps.specs.declared.Gone.{Gone}
+use Rattle.steps.specs.declared.leaf.Gone.{Gone}
 use Rattle.steps.specs.Parts.{lentLink, GoesNext}
-use Rattle.steps.specs.Rounds.{InParts, Unseen, Opens, openLink, Departs, wentBy, nothingGoes}
+use Rattle.steps.specs.declared.reopening.Found.{Found}
+use Rattle.steps.specs.Rounds.{InParts, Unseen, Closed, Opens, Finds, closedLink, openLink, sentWhere, Departs, wentBy, nothingGoes}
 
 -- where a leaf can send a packet waits
 found-waits : (s : State) → Sound s → nextLeaf s < 64 → someWaits s ≡ true
@@ -38,68 +39,100 @@ found-waits s sound here =
     let r = class-range (s .tree) (nextLeaf s) (k .class) in
     some-found (waits s) (s .tree .count) (nextLeaf s) (r .0) (r .1) (rw (k .leaf, le-leb 1 (length (queueAt s (nextLeaf s))) (k .holds)))
 
+-- a leaf is found at once, on a link in parts
 module _
-    {t : Tree} {size : Bytes} {before from : ℕ} {parent : List ℕ} (balance residual : List ℕ) {start held lengths tags : List ℕ}
-    (p : t .parent ≡ parent) (s : InParts t size before from balance residual start held lengths tags) where
+    {t : Tree} {size : Bytes} {before from : ℕ} (balance residual : List ℕ) {start held lengths tags : List ℕ}
+    (s : InParts t size before from balance residual start held lengths tags) where
   abbrev whole : Link
   whole = lentLink t size before from balance residual start held lengths tags
 
-  -- a leaf is found at once, and its packet goes
-  module _ (at : ℕ) (next : at ≡ nextLeaf (meaning whole)) (here : at < 64) where
-    now-next : SendsNext whole at
-    now-next = record { sound = s .sound; next = next; found = here }
-
-    pub now-goes : GoesNext t size from at before (t .count) parent balance residual start held lengths tags
-    now-goes = record { many = refl; parents = p; wide = s .wide; next = now-next }
-
-    some : someWaits (meaning whole) ≡ true
-    some = found-waits (meaning whole) (s .sound .state) (omega (arith, next, here))
-
-    pub now-departs : (gone : Gone) (after : Link) → gone .packet ≡ packetAt whole at 0 → after ≡ sentLink whole at → Departs whole (wentBy at 0 gone) after
-    now-departs gone after packet link = record {
-      some = sym some;
-      sent = way-ends whole at whole 0 (gone .packet) after (way-starts whole at (s .wide) (s .sound) (waits-leaf (meaning whole) some) next) now-next packet link;
-    }
-
-  -- the round has closed
-  module _ (at : ℕ) (next : at ≡ nextLeaf (meaning whole)) (none : 64 ≤ at) (active : ℕ) (is : active ≡ upward t (holdsSome t held)) where
-    taken : active ≡ roundActive (meaning whole)
-    taken = is ∙ active-meaning whole (s .sound .state .fits .tree)
-
-    root : has active 0 ≡ someWaits (meaning whole)
-    root = ap (λ (a : ℕ). has a 0) taken ∙ root-waits (meaning whole) (s .sound .state .fits .tree)
-
-    -- no packet waits
-    pub nothing-departs : has active 0 ≡ false → Departs whole (nothingGoes before from) whole
-    nothing-departs off = record { some = sym off ∙ root; sent = refl }
-
-    -- one does
-    module _ (on : has active 0 ≡ true) where
-      abbrev unseen : Unseen
-      unseen = record { size = size; active = before; place = from; held = held; tags = tags }
-
-      waiting : someWaits (meaning whole) ≡ true
-      waiting = sym root ∙ on
-
-      pub round-opens : Opens t unseen active balance residual start lengths
-      round-opens = record {
-        parts = s;
-        closed = omega (arith, none, next, leaf-most (meaning whole) (s .sound .state));
-        waits = waits-leaf (meaning whole) waiting;
-        taken = taken;
+  pub now-finds : (at : ℕ) → at ≡ nextLeaf (meaning whole) → at < 64
+      → Finds whole (record { class = at; rounds = 0; active = before })
+      (λ active place. lentLink t size active place balance residual start held lengths tags)
+  now-finds at next here =
+      let some : someWaits (meaning whole) ≡ true = found-waits (meaning whole) (s .sound .state) (omega (arith, next, here)) in
+      record {
+        some = lt-ltb at 64 here ∙ sym some;
+        place = from;
+        way = λ h. way-starts whole at (s .wide) (s .sound) (waits-leaf (meaning whole) some) next;
+        none = λ h. absurd (omega (arith, here, h));
       }
 
-      -- and the leaf that is found sends
-      module _ (b r : List ℕ) (class rounds : ℕ) (w : OnTheWay whole class (openLink t unseen active b r start lengths) rounds) (here : class < 64) where
-        then-next : SendsNext (openLink t unseen active b r start lengths) class
-        then-next = way-found whole class (openLink t unseen active b r start lengths) rounds w (λ z. omega arith)
+  -- or its round has closed
+  abbrev unseen : Unseen
+  unseen = record { size = size; active = before; place = from; held = held; tags = tags }
 
-        pub then-goes : GoesNext t size 1 class active (t .count) parent b r start held lengths tags
-        then-goes = record { many = refl; parents = p; wide = w .many; next = then-next }
+  pub is-closed : (at : ℕ) → at ≡ nextLeaf (meaning whole) → 64 ≤ at → Closed t unseen balance residual start lengths
+  is-closed at next none = record { parts = s; closed = omega (arith, none, next, leaf-most (meaning whole) (s .sound .state)) }
 
-        pub then-departs : (gone : Gone) (after : Link) → gone .packet ≡ packetAt (openLink t unseen active b r start lengths) class 0
-            → after ≡ sentLink (openLink t unseen active b r start lengths) class → Departs whole (wentBy class rounds gone) after
-        then-departs gone after packet link = record {
-          some = sym waiting;
-          sent = way-ends whole class (openLink t unseen active b r start lengths) rounds (gone .packet) after w then-next packet link;
-        }
+-- the round has closed
+module _
+    {t : Tree} {k : Unseen} (balance residual : List ℕ) {start lengths : List ℕ} (c : Closed t k balance residual start lengths)
+    (active : ℕ) (is : active ≡ upward t (holdsSome t (k .held))) where
+  abbrev shut : Link
+  shut = closedLink t k balance residual start lengths
+
+  taken : active ≡ roundActive (meaning shut)
+  taken = is ∙ active-meaning shut (c .parts .sound .state .fits .tree)
+
+  root : has active 0 ≡ someWaits (meaning shut)
+  root = ap (λ (a : ℕ). has a 0) taken ∙ root-waits (meaning shut) (c .parts .sound .state .fits .tree)
+
+  -- no packet waits
+  pub nothing-finds : has active 0 ≡ false
+      → Finds shut (record { class = 64; rounds = 0; active = active })
+      (λ on place. lentLink t (k .size) on place balance residual start (k .held) lengths (k .tags))
+  nothing-finds off = record { some = sym off ∙ root; place = 0; way = λ h. absurd (omega (arith, h)); none = λ h. refl }
+
+  -- one does
+  module _ (on : has active 0 ≡ true) where
+    waiting : someWaits (meaning shut) ≡ true
+    waiting = sym root ∙ on
+
+    pub round-opens : Opens t k active balance residual start lengths
+    round-opens = record { shut = c; waits = waits-leaf (meaning shut) waiting; taken = taken }
+
+    pub then-finds : (b r : List ℕ) (f : Found) → f .class < 64 → f .active ≡ active
+        → OnTheWay shut (f .class) (openLink t k active b r start lengths) (f .rounds)
+        → Finds shut f (λ x place. lentLink t (k .size) x place b r start (k .held) lengths (k .tags))
+    then-finds b r f here same way = record {
+      some = lt-ltb (f .class) 64 here ∙ sym waiting;
+      place = 1;
+      way = λ h. subst (λ (x : ℕ). OnTheWay shut (f .class) (openLink t k x b r start lengths) (f .rounds)) (sym same) way;
+      none = λ h. absurd (omega (arith, here, h));
+    }
+
+-- a leaf is found on a link in parts, or none
+module _
+    {t : Tree} {size : Bytes} {before from : ℕ} (balance residual : List ℕ) {start held lengths tags : List ℕ} (f : Found)
+    (b r : List ℕ)
+    (q : Finds (lentLink t size before from balance residual start held lengths tags) f
+    (λ active place. lentLink t size active place b r start held lengths tags)) where
+  abbrev found-in : Link
+  found-in = lentLink t size before from balance residual start held lengths tags
+
+  -- its packet goes
+  module _ {parent : List ℕ} (p : t .parent ≡ parent) (here : f .class < 64) where
+    abbrev at-turn : Link
+    at-turn = lentLink t size (f .active) (q .place) b r start held lengths tags
+
+    its-turn : SendsNext at-turn (f .class)
+    its-turn = way-found found-in (f .class) at-turn (f .rounds) (q .way here) (λ z. omega (arith, here, z))
+
+    pub then-goes : GoesNext t size (q .place) (f .class) (f .active) (t .count) parent b r start held lengths tags
+    then-goes = record { many = refl; parents = p; wide = q .way here .many; next = its-turn }
+
+    pub then-departs : (gone : Gone) (after : Link) → gone .packet ≡ packetAt at-turn (f .class) 0 → after ≡ sentLink at-turn (f .class)
+        → Departs found-in (wentBy (f .class) (f .rounds) gone) after
+    then-departs gone after packet link = record {
+      some = sym (lt-ltb (f .class) 64 here) ∙ q .some;
+      sent = way-ends found-in (f .class) at-turn (f .rounds) (gone .packet) after (q .way here) its-turn packet link;
+    }
+
+  -- nothing changes
+  pub nothing-departs : 64 ≤ f .class
+      → Departs found-in (nothingGoes before from) (lentLink t size before from b r start held lengths tags)
+  nothing-departs none = record {
+    some = sym (le-ltb (f .class) 64 none) ∙ q .some;
+    sent = ap (λ (l : Link). sentWhere false l) (q .none none);
+  }

@@ -13,24 +13,22 @@ use Rattle.state.specs.declared.Account.{Account}
 use Rattle.state.specs.declared.Link.{Link}
 use Rattle.state.specs.declared.Packet.{Packet}
 use Rattle.state.specs.Account.{balanceOf}
-use Rattle.state.specs.Queue.{packetAt, takenFirst}
-use Rattle.state.specs.State.{meaning}
-use Rattle.rules.specs.Sending.{Books}
-use Rattle.rules.specs.Sending.{firstOf, paidBy, booksAfter, sentState, turnsOff}
+use Rattle.state.specs.Queue.{packetAt, queued, takenFirst}
+use Rattle.state.specs.State.{meaning, linkInRound}
+use Rattle.rules.specs.Sending.{Books, firstOf, paidBy, booksAfter, sentState, turnsOff}
 use Rattle.rules.specs.Steps.{Fit}
 use Rattle.rules.specs.After.{sentLink}
 use Rattle.rules.proofs.Fitting.{fit-paid}
 use Rattle.rules.proofs.Meanings.{start-low, sound-fit, link-sender, sender-holds, first-cost, paid-means, books-more, books-last}
-use Rattle.steps.specs.Parts.{zipAccounts, lentLink, queued, booksOf, Grown, GoesNext}
+use Rattle.opening.specs.Parts.{zipAccounts}
+use Rattle.steps.specs.Parts.{lentLink, booksOf, Grown, GoesNext}
 
 -- the link after, from the books and the queues after
 sent-by : (l : Link) (i : ℕ) (b : Books) (start held : List ℕ) → b ≡ booksAfter (meaning l) i
     → ((k : Link) → queued k start held (l .lengths) (l .tags) ≡ takenFirst (queued k (l .start) (l .held) (l .lengths) (l .tags)) i)
-    → record { tree = l .tree; size = l .size; active = b .active; place = i; accounts = b .accounts; start = start; held = held; lengths = l .lengths; tags = l .tags } ≡ sentLink l i
+    → queued (linkInRound l (b .active) i (b .accounts)) start held (l .lengths) (l .tags) ≡ sentLink l i
 unfolding sentState
-sent-by l i b start held e q =
-    q (record { tree = l .tree; size = l .size; active = b .active; place = i; accounts = b .accounts; start = start; held = held; lengths = l .lengths; tags = l .tags })
-    ∙ rw e refl
+sent-by l i b start held e q = q (linkInRound l (b .active) i (b .accounts)) ∙ rw e refl
 
 module _
     {t : Tree} {size : Bytes} {place i active count : ℕ} {parent balance residual start held lengths tags : List ℕ}
@@ -52,7 +50,8 @@ module _
   class = link-sender whole i (s .next) .class
 
   -- p is its first packet, by what the step that reads it ensures
-  module _ {p : Packet} {cost : ℕ} (e : (l : Link) (h : List ℕ) → p ≡ packetAt (queued l start h lengths tags) i 0) (k : cost ≡ costOf (p .length)) where
+  module _ {p : Packet} {cost : ℕ} (e : (l : Link) (h : List ℕ) → p ≡ packetAt (queued l start h lengths tags) i 0)
+      (k : cost ≡ costOf (p .length)) where
     costs : cost ≡ costOf (firstOf (meaning whole) i .length)
     costs = first-cost whole i p cost (s .next) (e whole held) k
 
@@ -67,7 +66,8 @@ module _
         subst Fit (sym y) (fit-paid (zipAccounts balance residual) i cost (goes-pays .0) (goes-pays .1) (goes-pays .2)),
       )
 
-      module _ {start′ held′ : List ℕ} (q : (l : Link) → queued l start′ held′ lengths tags ≡ takenFirst (queued l start held lengths tags) i) where
+      module _ {start′ held′ : List ℕ}
+          (q : (l : Link) → queued l start′ held′ lengths tags ≡ takenFirst (queued l start held lengths tags) i) where
         -- the link after a packet that was not the last, and after one that was
         pub goes-more : 1 < getD held i 0 → lentLink t size active i b r start′ held′ lengths tags ≡ sentLink whole i
         goes-more m =

@@ -26,7 +26,8 @@ module _ (sound : Bool) (l : Link) (class : ℕ) (p : Packet) where
   pub judged-no-leaf : (leaf : Bool) (v : Verdict) → leaf ≡ isLeaf (l .tree) class → leaf ≡ false
       → v ≡ firstBroken (judgeChecks sound leaf class (p .length) 0 0) → Judged sound l class p v l
   judged-no-leaf leaf v is off e = record {
-    verdict = says ∙ sym (not-leaf sound (isLeaf (l .tree) class) class (p .length) (longestOf (l .tree) class) (heldOf l class) (sym is ∙ off));
+    verdict =
+        says ∙ sym (not-leaf sound (isLeaf (l .tree) class) class (p .length) (longestOf (l .tree) class) (heldOf l class) (sym is ∙ off));
     link = go sound ∙ ap (λ (w : Verdict). putWhere w l class p) (sym says);
   }
     where
@@ -38,7 +39,8 @@ module _ (sound : Bool) (l : Link) (class : ℕ) (p : Packet) where
       go false = refl
 
   -- a leaf's arrival, taken or refused
-  module _ (v : Verdict) (e : v ≡ firstBroken (judgeChecks sound (isLeaf (l .tree) class) class (p .length) (longestOf (l .tree) class) (heldOf l class))) where
+  module _ (v : Verdict) (e : v
+      ≡ firstBroken (judgeChecks sound (isLeaf (l .tree) class) class (p .length) (longestOf (l .tree) class) (heldOf l class))) where
     pub judged-passed : v ≡ Passed → (after : Link) → after ≡ putLast l class p → Judged sound l class p v after
     judged-passed passed after put = record { verdict = e; link = put ∙ ap (λ (w : Verdict). putWhere w l class p) (sym passed) }
 
@@ -46,7 +48,8 @@ module _ (sound : Bool) (l : Link) (class : ℕ) (p : Packet) where
     judged-refused refused = record { verdict = e; link = ap (λ (w : Verdict). putWhere w l class p) (sym refused) }
 
 -- one that is taken finds room
-pub judged-room : (sound leaf : Bool) (class n longest held : ℕ) → firstBroken (judgeChecks sound leaf class n longest held) ≡ Passed → held < 32
+pub judged-room : (sound leaf : Bool) (class n longest held : ℕ) → firstBroken (judgeChecks sound leaf class n longest held) ≡ Passed
+    → held < 32
 judged-room sound leaf class n longest held e =
     let a = passed-parts (check 11 (not sound) 0) _ e in
     let b = passed-parts (check 12 (not leaf) class) _ (a .1) in

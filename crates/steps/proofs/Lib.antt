@@ -1,9 +1,7 @@
-pub mod Zips
 pub mod Climbs
 pub mod Seeks
 pub mod Goings
 pub mod Wholes
-pub mod Openings
 pub mod Rounding
 pub mod Departures
 pub mod Judging

@@ -22,8 +22,9 @@ use Rattle.rules.specs.After.{openedLink}
 use Rattle.rules.specs.Steps.{OnTheWay}
 use Rattle.rules.proofs.OnTheWay.{way-starts, way-on}
 use Rattle.rules.proofs.Meanings.{meaning-wide, opened-means, opened-link-sound}
-use Rattle.steps.specs.Parts.{zipAccounts, lentLink, Searched}
-use Rattle.steps.proofs.Zips.{zip-at}
+use Rattle.opening.specs.Parts.{zipAccounts}
+use Rattle.steps.specs.Parts.{lentLink, Searched}
+use Rattle.opening.proofs.Zips.{zip-at}
 use Rattle.steps.specs.Rounds.{InParts, Unseen, Opens, closedLink, openLink}
 
 -- what the search and the sender ask of parts
@@ -33,7 +34,8 @@ module _
   pub parts-low : (i : ℕ) → i < 64 → getD start i 0 < 32
   parts-low i u = omega (arith, s .sound .starts i u .start)
 
-  pub parts-searched : (leaves : ℕ) → Both active (t .leaves) leaves → Searched (lentLink t size active place balance residual start held lengths tags) leaves place balance start lengths
+  pub parts-searched : (leaves : ℕ) → Both active (t .leaves) leaves
+      → Searched (lentLink t size active place balance residual start held lengths tags) leaves place balance start lengths
   parts-searched leaves b = record {
     sound = s .sound;
     both = b;
@@ -44,20 +46,26 @@ module _
   }
 
   -- an opening can be worked out
-  pub parts-can : (on : ℕ) → on ≡ roundActive (meaning (lentLink t size active place balance residual start held lengths tags)) → CanOpen t on (zipAccounts balance residual)
+  pub parts-can : (on : ℕ) → on ≡ roundActive (meaning (lentLink t size active place balance residual start held lengths tags))
+      → CanOpen t on (zipAccounts balance residual)
   parts-can on is =
       let l = lentLink t size active place balance residual start held lengths tags in
-      subst (λ (a : ℕ). CanOpen t a (zipAccounts balance residual)) (sym is) (can-open (meaning l) (s .sound .state) (meaning-wide l (s .wide)))
+      subst (λ (a : ℕ). CanOpen t a (zipAccounts balance residual)) (sym is)
+      (can-open (meaning l) (s .sound .state) (meaning-wide l (s .wide)))
 
   -- the accounts of an opening make up the link when it has opened
-  pub parts-opened : (on : ℕ) (b r : List ℕ) → on ≡ roundActive (meaning (lentLink t size active place balance residual start held lengths tags))
+  pub parts-opened : (on : ℕ) (b r : List ℕ)
+      → on ≡ roundActive (meaning (lentLink t size active place balance residual start held lengths tags))
       → zipAccounts b r ≡ openedAccounts (kindOf t on (zipAccounts balance residual)) t on (zipAccounts balance residual)
-      → lentLink t size on 1 b r start held lengths tags ≡ openedLink (lentLink t size active place balance residual start held lengths tags)
+      → lentLink t size on 1 b r start held lengths tags
+      ≡ openedLink (lentLink t size active place balance residual start held lengths tags)
   unfolding opened nextKind
   parts-opened on b r is y = rw (y, is) refl
 
   -- which is a sound link in parts
-  pub parts-sound : (on : ℕ) (b r : List ℕ) → lentLink t size on 1 b r start held lengths tags ≡ openedLink (lentLink t size active place balance residual start held lengths tags)
+  pub parts-sound : (on : ℕ) (b r : List ℕ)
+      → lentLink t size on 1 b r start held lengths tags
+      ≡ openedLink (lentLink t size active place balance residual start held lengths tags)
       → InParts t size on 1 b r start held lengths tags
   parts-sound on b r e =
       let l = lentLink t size active place balance residual start held lengths tags in
@@ -76,12 +84,13 @@ pub record UnderWay (l₀ : Link) (t : Tree) (k : Unseen) (active : ℕ) (balanc
   pub way : OnTheWay l₀ 64 (lentLink t (k .size) on place balance residual start (k .held) lengths (k .tags)) rounds
   pub taken : active ≡ roundActive (meaning (lentLink t (k .size) on place balance residual start (k .held) lengths (k .tags)))
 
-pub under-starts : (t : Tree) (k : Unseen) (active : ℕ) (balance residual start lengths : List ℕ) → Opens t k active balance residual start lengths
+pub under-starts : (t : Tree) (k : Unseen) (active : ℕ) (balance residual start lengths : List ℕ)
+    → Opens t k active balance residual start lengths
     → UnderWay (closedLink t k balance residual start lengths) t k active balance residual start lengths 0
 under-starts t k active balance residual start lengths o = record {
   on = k .active;
   place = k .place;
-  way = way-starts (closedLink t k balance residual start lengths) 64 (o .parts .wide) (o .parts .sound) (o .waits) (sym (o .closed));
+  way = way-starts (closedLink t k balance residual start lengths) 64 (o .shut .parts .wide) (o .shut .parts .sound) (o .waits) (sym (o .shut .closed));
   taken = o .taken;
 }
 
@@ -119,6 +128,14 @@ module _
         place = 1;
         way =
             subst (λ (i : ℕ). OnTheWay l₀ i (openLink t k active b r start lengths) (rounds + 1))
-            (omega (arith, none, next, leaf-most (meaning (openLink t k active b r start lengths)) (under-parts .sound .state))) under-finds;
-        taken = w .taken ∙ sym (taken-same (meaning here)) ∙ ap roundActive (sym (opened-means here)) ∙ ap (λ (l : Link). roundActive (meaning l)) (sym is-opened);
+            (omega (
+              arith,
+              none,
+              next,
+              leaf-most (meaning (openLink t k active b r start lengths))
+                  (under-parts .sound .state),
+            )) under-finds;
+        taken =
+            w .taken ∙ sym (taken-same (meaning here)) ∙ ap roundActive (sym (opened-means here))
+            ∙ ap (λ (l : Link). roundActive (meaning l)) (sym is-opened);
       }

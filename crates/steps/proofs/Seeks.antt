@@ -1,12 +1,13 @@
 -- The search for the next leaf, over what is lent of a link.
 use mathlib.Core.List.{List}
 use mathlib.Core.Path.{_≡_, ap, _∙_}
-use Prim.Native.Nat.{ℕ, _+_, _-_, _*_, _<_}
+use Prim.Native.Nat.{ℕ, _-_, _<_}
 use lib.Dec.{leb}
 use lib.ListN.{getD}
 use Rattle.sets.specs.Set.{Next}
 use Rattle.units.specs.Cost.{costOf}
 use Rattle.state.specs.declared.Link.{Link}
+use Rattle.state.specs.Queue.{slot}
 use Rattle.state.specs.State.{meaning}
 use Rattle.rules.specs.Sending.{ready, firstFrom, nextLeaf}
 use Rattle.rules.proofs.Searching.{leaf-skip, leaf-ready}
@@ -23,6 +24,6 @@ module _ (l : Link) (leaves place : ℕ) (balance start lengths : List ℕ) (s :
   seek-skips at i n = leaf-skip l leaves at i (s .both) n
 
   -- which sends where its balance covers the packet at its start
-  pub seek-ready : (at i cost : ℕ) → Next leaves at i → i < 64 → cost ≡ costOf (getD lengths (i * 32 + getD start i 0) 0)
+  pub seek-ready : (at i cost : ℕ) → Next leaves at i → i < 64 → cost ≡ costOf (getD lengths (slot i (getD start i 0)) 0)
       → ready (meaning l) i ≡ leb cost (getD balance i 0)
   seek-ready at i cost n u e = leaf-ready l leaves at i (s .both) n (s .sound) u ∙ rw (s .balances i u, s .lying, s .starts, e)

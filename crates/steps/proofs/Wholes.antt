@@ -21,9 +21,10 @@ use Rattle.rules.proofs.Sent.{sent-wide}
 use Rattle.rules.specs.After.{Sent}
 use Rattle.rules.proofs.Meanings.{meaning-wide, waits-leaf}
 use Rattle.steps.specs.declared.Went.{Went}
-use Rattle.steps.specs.Parts.{zipAccounts, lentLink}
+use Rattle.opening.specs.Parts.{zipAccounts}
+use Rattle.steps.specs.Parts.{lentLink}
 use Rattle.steps.specs.Rounds.{InParts, sentWhere, Departs, Moves}
-use Rattle.steps.proofs.Zips.{zip-parts}
+use Rattle.opening.proofs.Zips.{zip-parts}
 
 -- every class number keeps an account through a whole send
 trace-wide : (s : State) → Sound s → Wide s → Waits s → length (traceOf s .state .accounts) ≡ 64
@@ -32,15 +33,19 @@ trace-wide s sound wide waits =
     let g = two-rounds s sound wide waits in
     ap (λ (x : Trace). length (x .state .accounts)) (g .gives 62 []) ∙ sent-wide (g .after) (g .sound) (g .wide) (g .leaf) .accounts
 
-sent-many : (l : Link) (some : Bool) → length (l .accounts) ≡ 64 → SoundLink l → some ≡ someWaits (meaning l) → length (sentWhere some l .link .accounts) ≡ 64
+sent-many : (l : Link) (some : Bool) → length (l .accounts) ≡ 64 → SoundLink l → some ≡ someWaits (meaning l)
+    → length (sentWhere some l .link .accounts) ≡ 64
 sent-many l false many sound e = many
 sent-many l true many sound e = trace-wide (meaning l) (sound .state) (meaning-wide l many) (waits-leaf (meaning l) (sym e))
 
-pub departs-wide : {l : Link} {w : Went} (after : Link) → length (l .accounts) ≡ 64 → SoundLink l → Departs l w after → length (after .accounts) ≡ 64
-departs-wide {l} {w} after many sound d = ap (λ (s : Sent). length (s .link .accounts)) (d .sent) ∙ sent-many l (w .some) many sound (d .some)
+pub departs-wide : {l : Link} {w : Went} (after : Link) → length (l .accounts) ≡ 64 → SoundLink l → Departs l w after
+    → length (after .accounts) ≡ 64
+departs-wide {l} {w} after many sound d =
+    ap (λ (s : Sent). length (s .link .accounts)) (d .sent) ∙ sent-many l (w .some) many sound (d .some)
 
 -- the accounts of a link are those of its balances and residuals
-pub in-lists : (accounts : List Account) → length accounts ≡ 64 → (b r : List ℕ) → b ≡ table (balanceOf accounts) 64 → r ≡ table (residualOf accounts) 64
+pub in-lists : (accounts : List Account) → length accounts ≡ 64 → (b r : List ℕ) → b ≡ table (balanceOf accounts) 64
+    → r ≡ table (residualOf accounts) 64
     → zipAccounts b r ≡ accounts
 in-lists accounts many b r x y = ap₂ zipAccounts x y ∙ zip-parts accounts many
 
@@ -64,7 +69,17 @@ module _
 
     pub values-moves : {xs : List Account} {s h : List ℕ} → after ≡ linkOf t size (w .active) (w .place) xs s h lengths tags
         → Moves (linkOf t size active place accounts start held lengths tags)
-        (record { some = w .some; class = w .class; packet = w .packet; rounds = w .rounds; active = w .active; place = w .place; accounts = xs; start = s; held = h })
+        (record {
+          some = w .some;
+          class = w .class;
+          packet = w .packet;
+          rounds = w .rounds;
+          active = w .active;
+          place = w .place;
+          accounts = xs;
+          start = s;
+          held = h;
+        })
     values-moves e = record {
       some = d .some ∙ ap (λ (l : Link). someWaits (meaning l)) whole-is;
       sent =

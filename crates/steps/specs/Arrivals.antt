@@ -15,7 +15,8 @@ use Rattle.state.specs.Queue.{heldOf, putLast}
 -- the checks of an arrival, in the numbers of its class
 abbrev pub judgeChecks : Bool → Bool → ℕ → ℕ → ℕ → ℕ → List Check
 judgeChecks sound leaf class length longest held =
-    check 11 (not sound) 0 ∷ check 12 (not leaf) class ∷ check 13 (ltb length 1 || ltb longest length) class ∷ check 14 (leb 32 held) class ∷ []
+    check 11 (not sound) 0 ∷ check 12 (not leaf) class ∷ check 13 (ltb length 1 || ltb longest length) class ∷ check 14
+    (leb 32 held) class ∷ []
 
 -- the link after: an accepted packet waits last, a refused one changes nothing
 abbrev pub putWhere : Verdict → Link → ℕ → Packet → Link

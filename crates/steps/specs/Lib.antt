@@ -1,5 +1,4 @@
 -- A link taken apart into numbers and number arrays.
 pub mod Parts
-pub mod Opens
 pub mod Rounds
 pub mod Arrivals

@@ -1,43 +1,25 @@
 -- The parts of a link that are lent: number arrays, accounts as two of them.
-use mathlib.Core.List.{List, [], _∷_}
+use mathlib.Core.List.{List}
 use mathlib.Core.Path.{_≡_}
 use Prim.Native.Nat.{ℕ, _<_}
 use lib.ListN.{length, getD}
 use Rattle.sets.specs.Set.{Both}
 use Rattle.units.specs.declared.Bytes.{Bytes}
 use Rattle.tree.specs.declared.Tree.{Tree}
-use Rattle.state.specs.declared.Account.{Account}
 use Rattle.state.specs.declared.Link.{Link}
 use Rattle.tree.specs.Rules.{PlanRules}
-use Rattle.state.specs.Account.{account, balanceOf}
+use Rattle.state.specs.Account.{balanceOf}
 use Rattle.state.specs.State.{linkOf}
+pub use Rattle.state.specs.Queue.{queued}
 use Rattle.sound.specs.Sound.{SoundLink}
 use Rattle.rules.specs.Sending.{Books}
 use Rattle.rules.specs.Steps.{SendsNext}
-
--- the accounts with these balances and these residuals
-unfoldable pub zipAccounts : List ℕ → List ℕ → List Account
-zipAccounts [] rs = []
-zipAccounts (b ∷ bs) [] = []
-zipAccounts (b ∷ bs) (r ∷ rs) = account b r ∷ zipAccounts bs rs
+use Rattle.opening.specs.Parts.{zipAccounts}
 
 -- the link with these parts
 abbrev pub lentLink : Tree → Bytes → ℕ → ℕ → List ℕ → List ℕ → List ℕ → List ℕ → List ℕ → List ℕ → Link
-lentLink tree size active place balance residual start held lengths tags = linkOf tree size active place (zipAccounts balance residual) start held lengths tags
-
--- a link with these queues
-abbrev pub queued : Link → List ℕ → List ℕ → List ℕ → List ℕ → Link
-queued l start held lengths tags = record {
-  tree = l .tree;
-  size = l .size;
-  active = l .active;
-  place = l .place;
-  accounts = l .accounts;
-  start = start;
-  held = held;
-  lengths = lengths;
-  tags = tags;
-}
+lentLink tree size active place balance residual start held lengths tags =
+    linkOf tree size active place (zipAccounts balance residual) start held lengths tags
 
 -- the books with these parts
 abbrev pub booksOf : ℕ → List ℕ → List ℕ → Books
@@ -59,7 +41,8 @@ pub record Searched (l : Link) (leaves place : ℕ) (balance start lengths : Lis
   pub lying : l .lengths ≡ lengths
 
 -- leaf i sends next on the link with these parts, whose tree has so many classes and these parents
-pub record GoesNext (t : Tree) (size : Bytes) (place i active count : ℕ) (parent balance residual start held lengths tags : List ℕ) : Type 0 where
+pub record GoesNext (t : Tree) (size : Bytes) (place i active count : ℕ)
+    (parent balance residual start held lengths tags : List ℕ) : Type 0 where
   pub many : t .count ≡ count
   pub parents : t .parent ≡ parent
   pub wide : length (zipAccounts balance residual) ≡ 64

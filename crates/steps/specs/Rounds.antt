@@ -2,23 +2,27 @@
 use mathlib.Core.Bool.{Bool, true, false}
 use mathlib.Core.List.{List}
 use mathlib.Core.Path.{_≡_}
-use Prim.Native.Nat.{ℕ}
+use Prim.Native.Nat.{ℕ, _≤_, _<_}
+use lib.Dec.{ltb}
 use lib.ListN.{length}
 use Rattle.units.specs.declared.Bytes.{Bytes}
 use Rattle.tree.specs.declared.Tree.{Tree}
 use Rattle.state.specs.declared.Link.{Link}
-use Rattle.state.specs.Queue.{noPacket}
-use Rattle.state.specs.State.{meaning, linkOf}
+use Rattle.state.specs.Queue.{noPacket, queued}
+use Rattle.state.specs.State.{meaning, linkInRound}
 use Rattle.sound.specs.Sound.{SoundLink}
 use Rattle.rules.specs.Active.{someWaits, roundActive}
 use Rattle.rules.specs.Sending.{nextLeaf, traceOf}
+use Rattle.rules.specs.Steps.{OnTheWay}
 use Rattle.rules.specs.Waits.{Waits}
-use Rattle.rules.specs.After.{Sent}
-use Rattle.rules.specs.After.{sentBy}
-use Rattle.steps.specs.declared.Gone.{Gone}
+use Rattle.rules.specs.After.{Sent, sentBy}
+use Rattle.opening.specs.Parts.{zipAccounts}
+pub use Rattle.opening.specs.Parts.{Kept}
+use Rattle.steps.specs.declared.leaf.Gone.{Gone}
+use Rattle.steps.specs.declared.reopening.Found.{Found}
 use Rattle.steps.specs.declared.Went.{Went}
 use Rattle.steps.specs.declared.Moved.{Moved}
-use Rattle.steps.specs.Parts.{zipAccounts, lentLink}
+use Rattle.steps.specs.Parts.{lentLink}
 
 -- a sound link in parts
 pub record InParts (t : Tree) (size : Bytes) (active place : ℕ) (balance residual start held lengths tags : List ℕ) : Type 0 where
@@ -35,21 +39,35 @@ pub record Unseen : Type 0 where
 
 -- the link whose round has closed, and the one in which a round has opened
 abbrev pub closedLink : Tree → Unseen → List ℕ → List ℕ → List ℕ → List ℕ → Link
-closedLink t k balance residual start lengths = lentLink t (k .size) (k .active) (k .place) balance residual start (k .held) lengths (k .tags)
+closedLink t k balance residual start lengths =
+    lentLink t (k .size) (k .active) (k .place) balance residual start (k .held) lengths (k .tags)
 
 abbrev pub openLink : Tree → Unseen → ℕ → List ℕ → List ℕ → List ℕ → List ℕ → Link
 openLink t k active balance residual start lengths = lentLink t (k .size) active 1 balance residual start (k .held) lengths (k .tags)
 
--- its round has closed, a packet waits, and these are active in the next
-pub record Opens (t : Tree) (k : Unseen) (active : ℕ) (balance residual start lengths : List ℕ) : Type 0 where
+-- its round has closed
+pub record Closed (t : Tree) (k : Unseen) (balance residual start lengths : List ℕ) : Type 0 where
   pub parts : InParts t (k .size) (k .active) (k .place) balance residual start (k .held) lengths (k .tags)
   pub closed : nextLeaf (meaning (closedLink t k balance residual start lengths)) ≡ 64
+
+-- and a packet waits, and these are active in the next
+pub record Opens (t : Tree) (k : Unseen) (active : ℕ) (balance residual start lengths : List ℕ) : Type 0 where
+  pub shut : Closed t k balance residual start lengths
   pub waits : Waits (meaning (closedLink t k balance residual start lengths))
   pub taken : active ≡ roundActive (meaning (closedLink t k balance residual start lengths))
 
+-- what is found on a link: where a packet waits the leaf that sends, on the way to its turn, and where none does 64 and the link as it was;
+-- `turn` is the link after the rounds opened, with any active set and any place
+pub record Finds (l : Link) (r : Found) (turn : ℕ → ℕ → Link) : Type 0 where
+  pub some : ltb (r .class) 64 ≡ someWaits (meaning l)
+  pub place : ℕ
+  pub way : r .class < 64 → OnTheWay l (r .class) (turn (r .active) place) (r .rounds)
+  pub none : 64 ≤ r .class → turn (l .active) (l .place) ≡ l
+
 -- a packet has gone, or none waits
 abbrev pub wentBy : ℕ → ℕ → Gone → Went
-wentBy class rounds gone = record { some = true; class = class; packet = gone .packet; rounds = rounds; active = gone .active; place = class }
+wentBy class rounds gone =
+    record { some = true; class = class; packet = gone .packet; rounds = rounds; active = gone .active; place = class }
 
 abbrev pub nothingGoes : ℕ → ℕ → Went
 nothingGoes active place = record { some = false; class = 0; packet = noPacket; rounds = 0; active = active; place = place }
@@ -65,7 +83,7 @@ pub record Departs (l : Link) (r : Went) (after : Link) : Type 0 where
 
 -- and by value
 abbrev pub movedLink : Link → Moved → Link
-movedLink l r = linkOf (l .tree) (l .size) (r .active) (r .place) (r .accounts) (r .start) (r .held) (l .lengths) (l .tags)
+movedLink l r = queued (linkInRound l (r .active) (r .place) (r .accounts)) (r .start) (r .held) (l .lengths) (l .tags)
 
 pub record Moves (l : Link) (r : Moved) : Type 0 where
   pub some : r .some ≡ someWaits (meaning l)

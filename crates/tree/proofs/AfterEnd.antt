@@ -1,4 +1,4 @@
--- Where the checks after the end record pass, rows 9, 8 and 7 are broken nowhere. Demand 1.
+-- Where the checks after the end record pass, numbers 9, 8 and 7 are broken nowhere. Demand 1.
 use mathlib.Core.Path.{_≡_}
 use Prim.Native.Nat.{ℕ, _≤_}
 use Rattle.checks.specs.Check.{firstBroken}

@@ -84,7 +84,7 @@ module _ (t : Tree) (rest : RestUnset t) (right : ClassesRight t) where
   all-after : (i : ℕ) → isClass t i ≡ true → childrenWeight t i ≡ childrenAfter t i
   all-after i is = after-all t i (λ k l u. right .at k (class-in t k l (omega (arith, class-range t i is .1))) .parent)
 
-  -- classes that are right break no row
+  -- classes that are right break no number
   classes-pass : ClassesPass t
   classes-pass = record {
     parents = λ i is. right .at i is .parent;

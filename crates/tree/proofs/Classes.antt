@@ -61,12 +61,9 @@ pub child-other : (t : Tree) (i p : ℕ) → (parentOf t i ≡ p → ⊥) → ch
 unfolding childWeight isChild
 child-other t i p ne = rw (ne-eqb (parentOf t i) p ne)
 
--- the checks of a class pass exactly where none of its rows is broken
-pub class-passes : (t : Tree) (i p : ℕ) → badParent t i ≡ false → badWeight t i ≡ false → badLongest t i ≡ false → firstBroken (classChecks t i p) ≡ Passed
-unfolding firstBroken
-class-passes t i p a b d = rw (a, b, d)
-
-pub class-passed : (t : Tree) (i p : ℕ) → firstBroken (classChecks t i p) ≡ Passed → (badParent t i ≡ false) × (badWeight t i ≡ false) × (badLongest t i ≡ false)
+-- where the checks of a class pass none of its numbers is broken
+pub class-passed : (t : Tree) (i p : ℕ) → firstBroken (classChecks t i p) ≡ Passed → (badParent t i ≡ false) × (badWeight t i ≡ false)
+    × (badLongest t i ≡ false)
 class-passed t i p e =
     let a = passed-parts _ _ e in
     let b = passed-parts _ _ (a .1) in

@@ -127,7 +127,7 @@ added-grown t c g room proper = record {
       longest = λ l. longest-stays t c i n ∙ g .unset .at i u .longest (sym (leaf-stays t c i n) ∙ l);
     }
 
--- a class that breaks no row breaks none in the grown tree
+-- a class that breaks no number breaks none in the grown tree
 module _ (t : Tree) (c : Class) (i : ℕ) (old : i ≤ t .count) where
   pub parent-kept : badParent t i ≡ false → badParent (added t c) i ≡ false
   unfolding badParent
@@ -144,14 +144,16 @@ module _ (t : Tree) (c : Class) (i : ℕ) (old : i ≤ t .count) where
   unfolding badLongest
   longest-kept e = rw (leaf-stays t c i (λ z. omega arith), longest-stays t c i (λ z. omega arith)) e
 
--- so, with a new class that breaks none, no class breaks rows 4, 5 and 6
+-- so, with a new class that breaks none, no class breaks numbers 4, 5 and 6
 pub classes-kept : (t : Tree) (c : Class) → ClassesPass t
-    → badParent (added t c) (t .count + 1) ≡ false → badWeight (added t c) (t .count + 1) ≡ false → badLongest (added t c) (t .count + 1) ≡ false
+    → badParent (added t c) (t .count + 1) ≡ false → badWeight (added t c) (t .count + 1) ≡ false
+    → badLongest (added t c) (t .count + 1) ≡ false
     → ClassesPass (added t c)
 classes-kept t c p a b d = record {
   parents = λ i is. each (λ (k : ℕ). badParent (added t c) k ≡ false) i is (λ l u. parent-kept t c i u (p .parents i (class-in t i l u))) a;
   weights = λ i is. each (λ (k : ℕ). badWeight (added t c) k ≡ false) i is (λ l u. weight-kept t c i u (p .weights i (class-in t i l u))) b;
-  longests = λ i is. each (λ (k : ℕ). badLongest (added t c) k ≡ false) i is (λ l u. longest-kept t c i u (p .longests i (class-in t i l u))) d;
+  longests = λ i is. each (λ (k : ℕ). badLongest (added t c) k ≡ false) i is
+      (λ l u. longest-kept t c i u (p .longests i (class-in t i l u))) d;
 }
   where
     each : (P : ℕ → Type 0) (i : ℕ) → isClass (added t c) i ≡ true → (1 ≤ i → i ≤ t .count → P i) → P (t .count + 1) → P i

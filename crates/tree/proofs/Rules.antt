@@ -5,26 +5,22 @@ use Prim.Native.Nat.{ℕ, _*_, _≤_, _<_, zero-le}
 use native.Mathlib.Decide.{decLt}
 use native.Mathlib.Omega.{arith}
 use lib.Dec.{leb, ltb}
-use borrow.Author.Tests.{ltb-false, leb-false, eqb-false}
+use borrow.Author.Tests.{ltb-false, leb-false}
 use Rattle.checks.proofs.Laws.{not-true-and-false}
 use Rattle.sets.proofs.Laws.{has-past}
 use Rattle.units.specs.Cost.{costOf, mostCost}
 use Rattle.units.proofs.Laws.{cost-ceiling}
 use Rattle.tree.specs.declared.Tree.{Tree}
 use Rattle.tree.specs.Class.{parentOf, weightOf, longestOf, isClass, isLeaf}
-use Rattle.tree.specs.Rules.{tooMany, badParent, badWeight, badLongest, noClass, Light, PlanRules}
+use Rattle.tree.specs.Rules.{tooMany, badParent, badWeight, badLongest, Light, PlanRules}
 use Rattle.tree.specs.Size.{allWeights, allLongest, longestCost, roundSize, mostSize}
 use Rattle.tree.proofs.Sums.{sum-bound}
 use Rattle.tree.proofs.Classes.{neither-true, class-in}
 
--- 3 and 9: from 1 to 63 classes
+-- 3: at most 63 classes
 pub few-classes : (t : Tree) → PlanRules t → t .count ≤ 63
 unfolding tooMany
 few-classes t r = ltb-false 63 (t .count) (r .few)
-
-pub some-class : (t : Tree) → PlanRules t → 1 ≤ t .count
-unfolding noClass
-some-class t r = let ne = eqb-false (t .count) 0 (r .closing .classes) in omega (arith, ne)
 
 -- a leaf is one of the 64 class numbers
 pub leaf-number : (t : Tree) (i : ℕ) → PlanRules t → isLeaf t i ≡ true → i < 64
@@ -84,7 +80,7 @@ longest-cost-bound t i r = go (isLeaf t i) refl
     go true e = cost-ceiling (longestOf t i) (longest-range t i r e .1)
     go false e = zero-le
 
--- the ceiling of document 01
+-- the ceiling of Q (R39)
 pub weights-ceiling : (t : Tree) → PlanRules t → allWeights t ≤ 63_000_000
 unfolding allWeights
 weights-ceiling t r =

@@ -1,10 +1,11 @@
 -- Laws of sums and searches over the classes 1 to n.
 use mathlib.Core.Bool.{Bool, true, false, _||_, or-true}
-use mathlib.Core.Path.{_≡_, refl, sym, ap₂}
+use mathlib.Core.Path.{_≡_, refl, sym, ap, ap₂, _∙_}
 use Prim.Native.Nat.{ℕ, zero, suc, _+_, _-_, _*_, _≤_, _<_, zero-le}
 use native.Mathlib.Nat.{suc-mul, zero-mul, add-mul}
 use native.Mathlib.Decide.{decLe, ℕ-discrete}
 use native.Mathlib.Omega.{arith}
+use Rattle.checks.proofs.Laws.{not-true-and-false}
 use Rattle.tree.specs.Sum.{sumTo, someTo}
 
 pub sum-none : (f : ℕ → ℕ) → sumTo f 0 ≡ 0
@@ -184,8 +185,27 @@ unfolding someTo
 some-which f zero e = absurd (let z : _≡_ {A = ℕ} 0 1 = cc in omega arith)
 some-which f (suc n) e = go (someTo f n) refl (λ h. some-which f n h)
   where
-    go : (b : Bool) → someTo f n ≡ b → (someTo f n ≡ true → (i : ℕ) × (1 ≤ i) × (i ≤ n) × (f i ≡ true)) → (i : ℕ) × (1 ≤ i) × (i ≤ suc n) × (f i ≡ true)
+    go : (b : Bool) → someTo f n ≡ b → (someTo f n ≡ true → (i : ℕ) × (1 ≤ i) × (i ≤ n) × (f i ≡ true)) → (i : ℕ) × (1 ≤ i) × (i ≤ suc n)
+        × (f i ≡ true)
     go true h ih =
         let w = ih h in
         (w .0, w .1, omega arith, w .3)
     go false h ih = (suc n, omega arith, omega arith, rw h at e)
+
+-- no class has it, none of one more, and then none of all
+pub none-more : (f : ℕ → Bool) (i : ℕ) → ((k : ℕ) → 1 ≤ k → k < i → f k ≡ false) → f i ≡ false
+    → (k : ℕ) → 1 ≤ k → k < i + 1 → f k ≡ false
+none-more f i before e k l h = go (ℕ-discrete k i)
+  where
+    go : Dec (k ≡ i) → f k ≡ false
+    go (yes same) = ap f same ∙ e
+    go (no ne) = before k l (omega (arith, h, ne))
+
+pub some-never : (f : ℕ → Bool) (n : ℕ) → ((k : ℕ) → 1 ≤ k → k ≤ n → f k ≡ false) → someTo f n ≡ false
+some-never f n none = go (someTo f n) refl
+  where
+    go : (b : Bool) → someTo f n ≡ b → someTo f n ≡ false
+    go false e = e
+    go true e =
+        let w = some-which f n e in
+        absurd (not-true-and-false (w .3) (none (w .0) (w .1) (w .2)))

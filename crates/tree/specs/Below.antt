@@ -1,11 +1,11 @@
--- Which classes are at or below a class (document 01, "The class tree"). Demand 2.
+-- Which classes are at or below a class (R24). Demand 2.
 use mathlib.Core.Bool.{Bool, _||_}
 use Prim.Native.Nat.{ℕ, zero, suc}
 use lib.Dec.{eqb}
 use Rattle.tree.specs.declared.Tree.{Tree}
 use Rattle.tree.specs.Class.{parentOf}
 
--- class j is class i, or below it; n is as many steps up as there can be
+-- class j is class i, or below it; n is as many steps up as there can be (R24)
 unfoldable pub climbs : ℕ → Tree → ℕ → ℕ → Bool
 climbs zero t i j = eqb i j
 climbs (suc n) t i zero = eqb i 0

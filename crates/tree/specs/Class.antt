@@ -1,4 +1,4 @@
--- The classes of a tree (document 01, "The class tree"): class 0 is the root, the others are numbered 1, 2, .. in plan order. Demands 1 to 3.
+-- The classes of a tree (R21 to R24): class 0 is the root, the others are numbered 1, 2, .. in plan order. Demands 1 to 3.
 use mathlib.Core.Bool.{Bool, cond, _&&_, not}
 use Prim.Native.Nat.{ℕ, _+_}
 use lib.Dec.{eqb, leb}
@@ -23,34 +23,34 @@ weightOf t i = getD (t .weight) i noWeight .0
 abbrev pub longestOf : Tree → ℕ → ℕ
 longestOf t i = getD (t .longest) i 0
 
--- i is the number of a class that a plan record gave
+-- i is the number of a class that a plan record gave (R21)
 unfoldable pub isClass : Tree → ℕ → Bool
 isClass t i = leb 1 i && leb i (t .count)
 
--- class i is a leaf; any other class, but the root, is inner
+-- class i is a leaf; any other class, but the root, is inner (R23, R34)
 unfoldable pub isLeaf : Tree → ℕ → Bool
 isLeaf t i = has (t .leaves) i
 
 unfoldable pub isInner : Tree → ℕ → Bool
 isInner t i = isClass t i && not (isLeaf t i)
 
--- class i is a child of class p
+-- class i is a child of class p (R24)
 unfoldable pub isChild : Tree → ℕ → ℕ → Bool
 isChild t p i = eqb (parentOf t i) p
 
--- what class i adds to the weight of class p's children
+-- what class i adds to the weight of class p's children (R29)
 unfoldable pub childWeight : Tree → ℕ → ℕ → ℕ
 childWeight t p i = cond (isChild t p i) (weightOf t i) 0
 
--- what the children of class p weigh together
+-- what the children of class p weigh together (R29)
 unfoldable pub childrenWeight : Tree → ℕ → ℕ
 childrenWeight t p = sumTo (childWeight t p) (t .count)
 
--- class p has a child
+-- class p has a child (R30)
 unfoldable pub hasChild : Tree → ℕ → Bool
 hasChild t p = someTo (isChild t p) (t .count)
 
--- the tree without classes: all its numbers are 0
+-- the tree without classes: all its numbers are 0 (R35, R62)
 abbrev pub noTree : Tree
 noTree = record {
   count = 0;
@@ -60,7 +60,7 @@ noTree = record {
   longest = replicate 64 0;
 }
 
--- the tree with one class more, whose number follows the last
+-- the tree with one class more, whose number follows the last (R22, R35)
 abbrev pub added : Tree → Class → Tree
 added t c = record {
   count = t .count + 1;

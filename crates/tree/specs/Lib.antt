@@ -1,4 +1,4 @@
--- The class tree of document 01: what a class is, sums over classes, the plan rules, the round size.
+-- The class tree (R21 to R39): what a class is, sums over classes, the plan rules, the round size.
 pub mod Class
 pub mod Sum
 pub mod Below

@@ -1,4 +1,4 @@
--- The round size Q (document 01, "The class tree"). Demands 2 and 3.
+-- The round size Q (R38, R39). Demands 2 and 3.
 use mathlib.Core.Bool.{cond}
 use Prim.Native.Nat.{ℕ, _+_, _*_}
 use Rattle.units.specs.Unit.{sizeOf}
@@ -7,22 +7,22 @@ use Rattle.tree.specs.declared.Tree.{Tree}
 use Rattle.tree.specs.Class.{weightOf, longestOf, isLeaf}
 use Rattle.tree.specs.Sum.{sumTo}
 
--- the sum of all weights
+-- the sum of all weights (R38)
 unfoldable pub allWeights : Tree → ℕ
 allWeights t = sumTo (weightOf t) (t .count)
 
--- what the longest packet of class i costs, where it is a leaf
+-- what the longest packet of class i costs, where it is a leaf (R16, R38)
 unfoldable pub longestCost : Tree → ℕ → ℕ
 longestCost t i = cond (isLeaf t i) (costOf (longestOf t i)) 0
 
--- the sum of what all leaves' longest packets cost
+-- the sum of what all leaves' longest packets cost (R38)
 unfoldable pub allLongest : Tree → ℕ
 allLongest t = sumTo (longestCost t) (t .count)
 
--- Q: the sum of all weights plus the sum of what all leaves' longest packets cost
+-- Q: the sum of all weights plus the sum of what all leaves' longest packets cost (R38)
 unfoldable pub roundSize : Tree → ℕ
 roundSize t = sizeOf (allWeights t) (allLongest t)
 
--- Q is at most 63,582,120: 63 classes of the heaviest weight, each a leaf of the longest packet
+-- Q is at most 63,582,120: 63 classes of the heaviest weight, each a leaf of the longest packet (R39)
 abbrev pub mostSize : ℕ
 mostSize = 63 * 1_000_000 + 63 * mostCost

@@ -30,7 +30,7 @@ pub record InnerRight (weight longest children : ℕ) : Type 0 where
   pub some : 1 ≤ children
   pub share : children ≤ weight
 
--- rows 4, 5 and 6 are not broken at class i, and where it is inner its children weigh this much together
+-- numbers 4, 5 and 6 are not broken at class i, and where it is inner its children weigh this much together
 pub record ClassRight (t : Tree) (i children : ℕ) : Type 0 where
   pub parent : badParent t i ≡ false
   pub weight : badWeight t i ≡ false

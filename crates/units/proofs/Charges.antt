@@ -1,4 +1,4 @@
--- The charges of five lengths, computed: the shortest packet, the last two that are padded, the first that is not, and the longest. Document 02, E2.
+-- The charges of five lengths (R15), computed: the shortest packet, the last two that are padded, the first that is not, and the longest.
 use mathlib.Core.List.{List, [], _∷_, map}
 use mathlib.Core.Path.{_≡_, refl}
 use Prim.Native.Nat.{ℕ}

@@ -1,3 +1,3 @@
--- The units of document 01.
+-- Weights and bytes, and what a packet costs (R8 to R18).
 pub mod Unit
 pub mod Cost

@@ -1,4 +1,4 @@
-// Weights and bytes as two types, and the only four places where they meet (document 01, "The class tree"); what a packet costs.
+// Weights and bytes as two types (R8), and the only four places where they meet (R9 to R13); what a packet costs (R14 to R18).
 // Serves demand 2: a share is never taken for a byte count.
 ghost use mathlib.Core.Path.{_≡_};
 ghost use Prim.Native.Nat.{_+_, _-_, _*_, _^_, _<_, _≤_, max};
@@ -58,10 +58,10 @@ pub fn quota(balance: Bytes, sum: Weight) -> u64
 }
 
 // The surplus test reads a weight sum as bytes.
-pub fn surplus(held: Bytes, sum: Weight) -> bool
-    ensures { λ r. ⌜ r ≡ surplusOf (held .0) (sum .0) ⌝ }
+pub fn surplus(funds: Bytes, sum: Weight) -> bool
+    ensures { λ r. ⌜ r ≡ surplusOf (funds .0) (sum .0) ⌝ }
 {
-    sum.0 as u64 <= held.0
+    sum.0 as u64 <= funds.0
 }
 
 // The round size adds weights to bytes.

@@ -1,122 +1,94 @@
--- The bounded wait. From the acceptance of a packet, with D bytes then in its class's queue and a class of weight w, the whole link sends at most
+-- The bounded wait (R202). From the acceptance of a packet, with D bytes then in its class's queue and a class of weight w, the whole link sends at most
 -- (D / w rounded up, plus 1) times Q bytes until it has gone, in whatever order later arrivals and sends come. Demand 3.
+-- It speaks of the library: from any answer by which the contract accepts a packet, through any run of calls from there. Nothing is asked
+-- of the caller: that the link is sound, that the class is a class number and that the record's lists have the lengths of its arrays
+-- follow from the acceptance and the contract.
 use mathlib.Core.Bool.{Bool, true, false}
-use mathlib.Core.List.{List, [], _∷_, _++_}
-use mathlib.Core.Path.{_≡_, refl, ap, _∙_}
-use Prim.Native.Nat.{ℕ, suc, _+_, _-_, _*_, _^_, _≤_, _<_}
-use native.Mathlib.Nat.{add-mul, mul-comm, mul-le-mul, mul-le-mul-left, suc-mul}
+use mathlib.Core.List.{List}
+use mathlib.Core.Path.{_≡_, refl, sym, ap, ap₂, subst, _∙_}
+use Prim.Native.Nat.{ℕ, _^_, _≤_, _<_}
 use native.Mathlib.Omega.{arith}
-use lib.ListN.{length, getD, length-set}
-use lib.Seq.{take-all}
 use Rattle.checks.specs.declared.Verdict.the-variants.{Passed}
 use Rattle.checks.specs.Check.{firstBroken}
-use Rattle.units.specs.Cost.{costOf, mostCost}
-use Rattle.units.proofs.Laws.{cost-ceiling}
-use Rattle.tree.specs.Class.{weightOf, isLeaf}
-use Rattle.tree.proofs.Rules.{weight-range, longest-range, size-ceiling}
-use Rattle.tree.specs.Size.{mostSize}
+use Rattle.tree.specs.Class.{weightOf}
+use Rattle.state.specs.declared.Link.{Link}
 use Rattle.state.specs.declared.Packet.{Packet}
-use Rattle.state.specs.Account.{balanceOf}
-use Rattle.state.specs.Queue.{noPacket}
-use Rattle.state.specs.State.{State, queueAt}
-use Rattle.sound.specs.Sound.{Sound}
+use Rattle.state.specs.Queue.{heldOf, queueOf, bytesIn}
+use Rattle.state.specs.State.{State, meaning, queueAt}
+use Rattle.state.proofs.Meaning.{meaning-queue, meaning-held}
+use Rattle.sound.specs.Sound.{SoundLink}
 use Rattle.rules.specs.Wide.{Wide}
-use Rattle.rules.proofs.Taken.{leaf-class}
-use Rattle.link.specs.Arrival.{arrivalChecks, arrived}
-use Rattle.link.proofs.Arrivals.{taken, length-arrived, arrival-keeps}
-use Rattle.wait.specs.Calls.{Call, bytesIn, follow, sendsIn, overRoundedUp, bound}
-use Rattle.wait.proofs.AnyCalls.{wait-within}
-use Rattle.wait.proofs.Credit.{Holds, bytesUpTo, lacking, mains, falling, credit-most, holds-weight}
-use Rattle.wait.proofs.InOrder.{accepted-last}
-use Rattle.wait.proofs.WhatGoes.{goes-as}
-use Rattle.wait.proofs.RoundedUp.{up-grows, up-most}
+use Rattle.rules.proofs.Meanings.{meaning-wide}
+use Rattle.link.specs.declared.AfterArrival.{AfterArrival}
+use Rattle.link.specs.Arrival.{arrivalChecks, arrived, Arrives}
+use Rattle.link.specs.Run.{Made, Run}
+use Rattle.link.proofs.Arrivals.{taken-number, arrives-as, arrival-verdict, accepted-sound}
+use Rattle.link.proofs.Runs.{left-taken}
+use Rattle.wait.specs.Wait.{followed, sendsIn, bound}
+use Rattle.wait.proofs.Credit.{Holds, falling}
+use Rattle.wait.proofs.InOrder.{packetBehind, accepted-last}
+use Rattle.wait.proofs.AnyRun.{Within, run-keeps}
+use Rattle.wait.proofs.Accepted.{accepted-holds, starts-within, fits-64}
 
--- a queue of packets that cost at most m each
-bytes-most : (q : List Packet) (m : ℕ) → ((j : ℕ) → j < length q → costOf (getD q j noPacket .length) ≤ m) → bytesIn q ≤ length q * m
-unfolding bytesIn
-bytes-most [] m h = omega arith
-bytes-most (p ∷ q) m h =
-    let one = h 0 (omega arith) in
-    let rest = bytes-most q m (λ j u. h (suc j) (omega arith)) in
-    omega (arith, one, rest, suc-mul (length q) m)
+-- an arrival of packet p to class i with the answer a, that is accepted
+module _ (l : Link) (i : ℕ) (p : Packet) (a : AfterArrival) (arrives : Arrives l i p a) (accepted : a .answer .verdict ≡ Passed) where
+  sound : SoundLink l
+  sound = accepted-sound l i p a arrives accepted
 
--- the bound of any leaf of a sound state fits a 64-bit number: at most 32 packets of at most 9,216 bytes wait there, and Q is at most 63,580,608
-leaf-bound-small : (s : State) (i : ℕ) → Sound s → i < 64 → isLeaf (s .tree) i ≡ true
-    → bound (bytesIn (queueAt s i)) (weightOf (s .tree) i) (s .size) < 2 ^ 64
-leaf-bound-small s i sound u leaf =
-    let rules = sound .fits .tree in
-    let is = leaf-class (s .tree) i rules u leaf in
-    let w = weightOf (s .tree) i in
-    let weight = weight-range (s .tree) i (rules .each .weights i is) .1 in
-    let longest = longest-range (s .tree) i (rules .each .longests i is) leaf .1 in
-    let each =
-    bytes-most (queueAt s i) mostCost
-    (λ j v. cost-ceiling (getD (queueAt s i) j noPacket .length) (omega (arith, longest, sound .holds i u .range leaf j v .high)))
-    in
-    let size : s .size ≤ mostSize = omega (arith, sound .fits .size, size-ceiling (s .tree) rules) in
-    let over : overRoundedUp (bytesIn (queueAt s i)) w + 1 ≤ 32 * mostCost + 1_000_001 =
-    omega (arith, up-most (bytesIn (queueAt s i)) w, weight, each, sound .holds i u .few leaf) in
-    omega (arith, mul-le-mul over size)
+  passes : firstBroken (arrivalChecks true (meaning l) i p) ≡ Passed
+  passes =
+      sym (arrival-verdict true l i p)
+      ∙ ap (λ (x : AfterArrival). x .answer .verdict) (sym (arrives-as l i p a sound arrives))
+      ∙ accepted
 
-module _ (s : State) (i : ℕ) (p : Packet) (sound : Sound s) (wide : Wide s) (u : i < 64) (accepted : firstBroken (arrivalChecks true s i p) ≡ Passed) where
-  inside : i < length (s .queues)
-  inside = omega (arith, wide .queues)
+  low : i < 64
+  low = taken-number (meaning l) i p (sound .state) passes
 
-  after : Sound (arrived s i p)
-  after = arrival-keeps s i p u (wide .queues) sound (taken true s i p accepted)
+  wide : Wide (meaning l)
+  wide = meaning-wide l (arrives .shape .accounts)
 
-  -- the packet waits behind those that waited there
-  accepted-holds : Holds (arrived s i p) i (length (queueAt s i))
-  accepted-holds = record {
-    sound = after;
-    wide = record { accounts = wide .accounts; queues = length-set (s .queues) i (queueAt s i ++ (p ∷ [])) ∙ wide .queues };
-    low = u;
-    leaf = taken true s i p accepted .leaf;
-    behind = omega (arith, length-arrived s i p inside);
-  }
+  -- the link after it, and what waits there
+  means : meaning (a .link) ≡ arrived (meaning l) i p
+  means = left-taken l i p a sound arrives passes
 
-  -- so the bytes up to it are all of its queue
-  accepted-bytes : bytesUpTo (arrived s i p) i (length (queueAt s i)) ≡ bytesIn (queueAt (arrived s i p) i)
-  unfolding bytesUpTo
-  accepted-bytes =
-      ap bytesIn (take-all (suc (length (queueAt s i))) (queueAt (arrived s i p) i) (omega (arith, length-arrived s i p inside)))
+  waiting : queueAt (arrived (meaning l) i p) i ≡ queueOf (a .link) i
+  waiting = ap (λ (s : State). queueAt s i) (sym means) ∙ meaning-queue (a .link) i low
 
-  -- and the number that falls starts within the bound
-  starts-within : falling (arrived s i p) i (length (queueAt s i)) ≤ bound (bytesIn (queueAt (arrived s i p) i)) (weightOf (s .tree) i) (s .size)
-  unfolding falling mains lacking
-  starts-within =
-      let d = bytesIn (queueAt (arrived s i p) i) in
-      let w = weightOf (s .tree) i in
-      let left = bytesUpTo (arrived s i p) i (length (queueAt s i)) - balanceOf (s .accounts) i in
-      let less = up-grows left d w (holds-weight (arrived s i p) i (length (queueAt s i)) accepted-holds) (omega (arith, accepted-bytes)) in
-      omega (
-        arith,
-        credit-most (arrived s i p) after,
-        mul-le-mul-left (s .size) less,
-        mul-comm (s .size) (overRoundedUp d w),
-        add-mul (overRoundedUp d w) 1 (s .size),
-      )
+  -- the packet waits behind those that waited there, and the number that falls starts within the bound
+  holds : Holds (meaning (a .link)) i (heldOf l i)
+  holds = rw (means, ← meaning-held l i low) (accepted-holds (meaning l) i p (sound .state) wide low passes)
 
-  -- from its acceptance, with D bytes then in its class's queue, the whole link sends at most (D / w rounded up, plus 1) times Q until it has gone
-  pub bounded-wait : (calls : List Call)
-      → follow i (length (queueAt s i)) calls (arrived s i p) .sent ≤ bound (bytesIn (queueAt (arrived s i p) i)) (weightOf (s .tree) i) (s .size)
-  bounded-wait calls =
-      omega (arith, starts-within, wait-within calls (arrived s i p) i (length (queueAt s i)) accepted-holds .sent)
+  within-bound : falling (meaning (a .link)) i (heldOf l i) ≤ bound (bytesIn (queueOf (a .link) i)) (weightOf (l .tree) i) (l .size .0)
+  within-bound = rw (means, ← meaning-held l i low, ← waiting) (starts-within (meaning l) i p (sound .state) wide low passes)
 
-  -- and it goes: after as many sends it has gone
-  pub it-goes : (calls : List Call) → bound (bytesIn (queueAt (arrived s i p) i)) (weightOf (s .tree) i) (s .size) ≤ sendsIn calls
-      → follow i (length (queueAt s i)) calls (arrived s i p) .gone ≡ true
-  it-goes calls many = go (follow i (length (queueAt s i)) calls (arrived s i p) .gone) refl
+  within : (run : List Made) → Run (a .link) run
+      → Within (followed i (heldOf l i) run) (sendsIn run) (falling (meaning (a .link)) i (heldOf l i)) p
+  within run is =
+      subst (Within (followed i (heldOf l i) run) (sendsIn run) (falling (meaning (a .link)) i (heldOf l i)))
+      (ap₂ (λ (s : State) (k : ℕ). packetBehind s i k) means (sym (meaning-held l i low)) ∙ accepted-last (meaning l) i p wide low)
+      (run-keeps run (a .link) i (arrives .keeps sound) is (heldOf l i) holds)
+
+  -- from its acceptance, with D bytes then in its class's queue and a class of weight w, the whole link sends at most
+  -- (D / w rounded up, plus 1) times Q bytes until it has gone, in whatever order later arrivals and sends come
+  pub bounded-wait : (run : List Made) → Run (a .link) run
+      → followed i (heldOf l i) run .sent ≤ bound (bytesIn (queueOf (a .link) i)) (weightOf (l .tree) i) (l .size .0)
+  bounded-wait run is = omega (arith, within run is .sent, within-bound)
+
+  -- it goes: after as many sends it has gone
+  pub it-goes : (run : List Made) → Run (a .link) run
+      → bound (bytesIn (queueOf (a .link) i)) (weightOf (l .tree) i) (l .size .0) ≤ sendsIn run
+      → followed i (heldOf l i) run .gone ≡ true
+  it-goes run is many = go (followed i (heldOf l i) run .gone) refl
     where
-      go : (b : Bool) → follow i (length (queueAt s i)) calls (arrived s i p) .gone ≡ b → b ≡ true
+      go : (b : Bool) → followed i (heldOf l i) run .gone ≡ b → b ≡ true
       go true e = refl
-      go false e = absurd (omega (arith, many, starts-within, wait-within calls (arrived s i p) i (length (queueAt s i)) accepted-holds .waits e))
+      go false e = absurd (omega (arith, many, within-bound, within run is .waits e))
 
-  -- what goes as it is this packet
-  pub it-is-this : (calls : List Call) → follow i (length (queueAt s i)) calls (arrived s i p) .gone ≡ true
-      → follow i (length (queueAt s i)) calls (arrived s i p) .packet ≡ p
-  it-is-this calls g = goes-as calls (arrived s i p) i (length (queueAt s i)) accepted-holds g ∙ accepted-last s i p wide u
+  -- and what goes is the accepted packet
+  pub it-is-this : (run : List Made) → Run (a .link) run → followed i (heldOf l i) run .gone ≡ true
+      → followed i (heldOf l i) run .packet ≡ p
+  it-is-this run is = within run is .this
 
-  -- the bound is a number of the link: it fits 64 bits
-  pub bound-small : bound (bytesIn (queueAt (arrived s i p) i)) (weightOf (s .tree) i) (s .size) < 2 ^ 64
-  bound-small = leaf-bound-small (arrived s i p) i after u (taken true s i p accepted .leaf)
+  -- the bound fits 64 bits
+  pub bound-small : bound (bytesIn (queueOf (a .link) i)) (weightOf (l .tree) i) (l .size .0) < 2 ^ 64
+  bound-small = rw (← waiting) (fits-64 (meaning l) i p (sound .state) wide low passes)

@@ -1,12 +1,11 @@
 -- The number that falls while a packet waits: what the classes other than the root hold, and Q for each main round that may still be needed. Demand 3.
 use mathlib.Core.Bool.{true}
-use mathlib.Core.List.{List, [], _∷_}
 use mathlib.Core.Path.{_≡_, refl}
 use Prim.Native.Nat.{ℕ, suc, _+_, _-_, _*_, _≤_, _<_}
 use native.Mathlib.Decide.{decLe}
 use native.Mathlib.Nat.{mul-le-mul}
 use native.Mathlib.Omega.{arith}
-use lib.ListN.{length, getD, take, drop}
+use lib.ListN.{length, take}
 use Rattle.units.specs.Cost.{costOf}
 use Rattle.units.proofs.Laws.{cost-positive}
 use Rattle.tree.specs.Class.{weightOf, isClass, isLeaf}
@@ -14,17 +13,17 @@ use Rattle.tree.specs.Size.{allWeights, roundSize}
 use Rattle.tree.specs.Sum.{sumTo}
 use Rattle.tree.proofs.Classes.{class-range}
 use Rattle.tree.proofs.Rules.{weight-range}
-use Rattle.state.specs.declared.Packet.{Packet}
-use Rattle.state.specs.Account.{accountOf, balanceOf, heldBy}
-use Rattle.state.specs.Queue.{noPacket}
+use Rattle.state.specs.Account.{accountOf, balanceOf, fundsOf}
+use Rattle.state.specs.Queue.{bytesIn}
 use Rattle.state.specs.State.{State, queueAt}
+use Rattle.state.proofs.Bytes.{bytes-first}
 use Rattle.sound.specs.Sound.{Sound, total}
 use Rattle.tree.proofs.Sums.{sum-part}
 use Rattle.rules.specs.Sending.{firstOf}
 use Rattle.rules.specs.Waits.{Waits}
 use Rattle.rules.specs.Wide.{Wide}
 use Rattle.rules.proofs.Taken.{leaf-class}
-use Rattle.wait.specs.Calls.{bytesIn, overRoundedUp}
+use Rattle.wait.specs.Wait.{overRoundedUp}
 use Rattle.wait.proofs.RoundedUp.{up-some}
 
 -- class i of a sound state holds a packet with k packets before it
@@ -37,7 +36,7 @@ pub record Holds (s : State) (i k : ℕ) : Type 0 where
 
 -- all B and R of the classes other than the root
 unfoldable pub credit : State → ℕ
-credit s = sumTo (λ i. heldBy (accountOf (s .accounts) i)) 63
+credit s = sumTo (λ i. fundsOf (accountOf (s .accounts) i)) 63
 
 -- the bytes of class i's packets up to the one with k before it, and with it
 unfoldable pub bytesUpTo : State → ℕ → ℕ → ℕ
@@ -58,7 +57,7 @@ falling s i k = credit s + s .size * mains s i k
 -- ---- what the classes other than the root hold
 
 -- the root holds the rest
-pub credit-rest : (s : State) → total (s .accounts) ≡ heldBy (accountOf (s .accounts) 0) + credit s
+pub credit-rest : (s : State) → total (s .accounts) ≡ fundsOf (accountOf (s .accounts) 0) + credit s
 unfolding total credit
 credit-rest s = refl
 
@@ -68,34 +67,20 @@ credit-most s sound = omega (arith, credit-rest s, sound .adds .adds)
 
 -- and what the root gains they lose
 pub credit-change : (s t : State) (c : ℕ) → total (t .accounts) ≡ total (s .accounts)
-    → heldBy (accountOf (s .accounts) 0) + c ≤ heldBy (accountOf (t .accounts) 0) → credit t + c ≤ credit s
+    → fundsOf (accountOf (s .accounts) 0) + c ≤ fundsOf (accountOf (t .accounts) 0) → credit t + c ≤ credit s
 credit-change s t c same more = omega (arith, credit-rest s, credit-rest t, same, more)
 
 -- a balance is part of it
 pub balance-part : (s : State) (i : ℕ) → 1 ≤ i → i < 64 → balanceOf (s .accounts) i ≤ credit s
 unfolding credit
-balance-part s i l u = omega (arith, sum-part (λ k. heldBy (accountOf (s .accounts) k)) 63 i l (omega arith))
-
--- ---- the bytes up to a packet
-
--- the first packet is one of them
-first-in : (q : List Packet) (k : ℕ) → k < length q → costOf (getD q 0 noPacket .length) ≤ bytesIn (take (suc k) q)
-unfolding bytesIn
-first-in [] k h = absurd (omega arith)
-first-in (p ∷ q) k h = omega arith
-
-pub first-part : (s : State) (i k : ℕ) → k < length (queueAt s i) → costOf (firstOf s i .length) ≤ bytesUpTo s i k
-unfolding bytesUpTo
-first-part s i k h = first-in (queueAt s i) k h
-
--- without the first packet there is one less before it
-pub bytes-without : (q : List Packet) (k : ℕ) → suc k < length q
-    → bytesIn (take (suc (suc k)) q) ≡ costOf (getD q 0 noPacket .length) + bytesIn (take (suc k) (drop 1 q))
-unfolding bytesIn
-bytes-without [] k h = absurd (omega arith)
-bytes-without (p ∷ q) k h = refl
+balance-part s i l u = omega (arith, sum-part (λ k. fundsOf (accountOf (s .accounts) k)) 63 i l (omega arith))
 
 -- ---- the number that falls
+
+-- the first packet is among the bytes up to a packet
+pub first-part : (s : State) (i k : ℕ) → k < length (queueAt s i) → costOf (firstOf s i .length) ≤ bytesUpTo s i k
+unfolding bytesUpTo
+first-part s i k h = bytes-first (queueAt s i) k h
 
 module _ (s : State) (i k : ℕ) (h : Holds s i k) where
   -- the class of the packet

@@ -13,8 +13,10 @@ use Rattle.tree.specs.Class.{weightOf}
 use Rattle.tree.proofs.Classes.{class-range}
 use Rattle.state.specs.declared.Account.{Account}
 use Rattle.state.specs.declared.Packet.{Packet}
-use Rattle.state.specs.Account.{accountOf, balanceOf, heldBy, sentFrom}
+use Rattle.state.specs.Account.{accountOf, balanceOf, fundsOf, sentFrom}
+use Rattle.state.specs.Queue.{bytesIn}
 use Rattle.state.specs.State.{State, queueAt}
+use Rattle.state.proofs.Bytes.{bytes-without}
 use Rattle.rules.specs.Active.{roundActive}
 use Rattle.rules.specs.Opening.{Kind, main, surplus, nextKind, opened}
 use Rattle.rules.specs.Sending.{firstOf, nextLeaf, booksAfter, sentState}
@@ -25,7 +27,7 @@ use Rattle.rules.proofs.Sender.{Sender}
 use Rattle.rules.proofs.Sent.{sent-queue, sent-other, wide-after, sound-after}
 use Rattle.rules.proofs.SentBooks.{paid-leaf, books-total, sent-books}
 use Rattle.rules.proofs.Taken.{waits-taken}
-use Rattle.wait.specs.Calls.{bytesIn, overRoundedUp}
+use Rattle.wait.specs.Wait.{overRoundedUp}
 use Rattle.wait.proofs.Credit.{
   Holds,
   credit,
@@ -37,7 +39,6 @@ use Rattle.wait.proofs.Credit.{
   credit-change,
   balance-part,
   first-part,
-  bytes-without,
   holds-class,
   holds-weight,
   first-costs,
@@ -94,7 +95,7 @@ module _ (s : State) (i k : ℕ) (h : Holds s i k) (closed : nextLeaf s ≡ 64) 
   unfolding opened mains lacking bytesUpTo
   surplus-falls kind =
       let gain = opened-leaf s (h .sound) (h .wide) i (holds-class s i k h) (h .leaf) taken-in .1 in
-      let root = ap heldBy (opened-root-stays s (h .sound) (h .wide) kind) in
+      let root = ap fundsOf (opened-root-stays s (h .sound) (h .wide) kind) in
       let fall = credit-change s (opened s) 0 (opened-total s (h .sound) (h .wide)) (omega (arith, root)) in
       let less =
       up-grows (bytesIn (take (suc k) (queueAt s i)) - balanceOf (opened s .accounts) i) (bytesIn (take (suc k) (queueAt s i)) - balanceOf (s .accounts) i)

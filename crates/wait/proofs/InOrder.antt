@@ -1,16 +1,11 @@
 -- The packet that is followed stays the same packet: arrivals wait behind it, a send takes the first of its class's queue, and what goes is that packet. Demand 3.
-use mathlib.Core.Bool.{true}
 use mathlib.Core.List.{List, [], _∷_, _++_}
-use mathlib.Core.Logic.{_⊎_, inl, inr}
 use mathlib.Core.Path.{_≡_, refl, sym, ap, subst, _∙_}
 use Prim.Native.Nat.{ℕ, suc, _+_, _<_}
-use native.Mathlib.Decide.{decLt, ℕ-discrete}
+use native.Mathlib.Decide.{ℕ-discrete}
 use native.Mathlib.Omega.{arith}
 use lib.ListN.{length, getD, List·getD-append}
 use lib.Seq.{getD-at, getD-drop}
-use Rattle.checks.specs.declared.Verdict.the-variants.{Passed, Refused}
-use Rattle.checks.specs.Check.{firstBroken}
-use Rattle.checks.proofs.Laws.{refused-or-passed}
 use Rattle.state.specs.declared.Packet.{Packet}
 use Rattle.state.specs.Queue.{noPacket}
 use Rattle.state.specs.State.{State, queueAt}
@@ -18,50 +13,38 @@ use Rattle.rules.specs.Sending.{firstOf, nextLeaf, sentState, Turn, Trace, trac
 use Rattle.rules.specs.Wide.{Wide}
 use Rattle.rules.proofs.Rounds.{two-rounds}
 use Rattle.rules.proofs.Sent.{sent-queue, sent-other}
-use Rattle.link.specs.Arrival.{arrivalChecks, arrived}
+use Rattle.link.specs.Arrival.{arrived}
 use Rattle.link.proofs.Arrivals.{queue-arrived, queue-other}
-use Rattle.wait.specs.Calls.{afterArrival, arrivalTo}
 use Rattle.wait.proofs.Credit.{Holds, holds-some}
-use Rattle.wait.proofs.OneCall.{no-queue}
 
 -- the packet of class i with k packets before it
-abbrev pub packetOf : State → ℕ → ℕ → Packet
-packetOf s i k = getD (queueAt s i) k noPacket
+abbrev pub packetBehind : State → ℕ → ℕ → Packet
+packetBehind s i k = getD (queueAt s i) k noPacket
 
 -- an accepted packet has before it those that waited there
-pub accepted-last : (s : State) (i : ℕ) (p : Packet) → Wide s → i < 64 → packetOf (arrived s i p) i (length (queueAt s i)) ≡ p
+pub accepted-last : (s : State) (i : ℕ) (p : Packet) → Wide s → i < 64 → packetBehind (arrived s i p) i (length (queueAt s i)) ≡ p
 accepted-last s i p wide u =
     ap (λ (q : List Packet). getD q (length (queueAt s i)) noPacket) (queue-arrived s i p (omega (arith, wide .queues)))
     ∙ getD-at (queueAt s i) p [] noPacket (length (queueAt s i)) refl
 
 -- an arrival waits behind it, or elsewhere
-arrived-packet : (s : State) (i k j : ℕ) (p : Packet) → Holds s i k → Dec (j < 64) → packetOf (arrived s j p) i k ≡ packetOf s i k
-arrived-packet s i k j p h (no u) = ap (λ (t : State). packetOf t i k) (no-queue s j p (omega (arith, h .wide .queues)))
-arrived-packet s i k j p h (yes u) = go (ℕ-discrete i j)
+pub arrived-packet : (s : State) (i k j : ℕ) (p : Packet) → Holds s i k → j < 64 → packetBehind (arrived s j p) i k ≡ packetBehind s i k
+arrived-packet s i k j p h u = go (ℕ-discrete i j)
   where
     inside : j < length (s .queues)
     inside = omega (arith, h .wide .queues)
 
-    go : Dec (i ≡ j) → packetOf (arrived s j p) i k ≡ packetOf s i k
+    go : Dec (i ≡ j) → packetBehind (arrived s j p) i k ≡ packetBehind s i k
     go (yes e) =
         let room : k < length (queueAt s j) = omega (arith, ap (λ (x : ℕ). length (queueAt s x)) e, h .behind) in
         rw (e, queue-arrived s j p inside) (List·getD-append (queueAt s j) (p ∷ []) noPacket k room)
     go (no ne) = ap (λ (q : List Packet). getD q k noPacket) (queue-other s j p inside i ne)
 
-pub arrival-same-packet : (s : State) (i k j : ℕ) (p : Packet) → Holds s i k → packetOf (afterArrival s j p) i k ≡ packetOf s i k
-unfolding afterArrival
-arrival-same-packet s i k j p h = go (refused-or-passed (firstBroken (arrivalChecks true s j p)))
-  where
-    go : (firstBroken (arrivalChecks true s j p) ≡ Passed) ⊎ ((n : ℕ) × (q : ℕ) × (firstBroken (arrivalChecks true s j p) ≡ Refused n q))
-        → packetOf (arrivalTo (firstBroken (arrivalChecks true s j p)) s j p) i k ≡ packetOf s i k
-    go (inl e) = rw e (arrived-packet s i k j p h (decLt j 64))
-    go (inr r) = rw (r .2)
-
 -- a send with the trace t takes the first packet of its class's queue, and leaves every other packet where it was in its queue
 pub record SendsFirst (s : State) (t : Trace) : Type 0 where
-  pub packet : t .packet ≡ packetOf s (t .class) 0
-  pub own : (k : ℕ) → packetOf (t .state) (t .class) k ≡ packetOf s (t .class) (suc k)
-  pub other : (i k : ℕ) → (i ≡ t .class → ⊥) → packetOf (t .state) i k ≡ packetOf s i k
+  pub packet : t .packet ≡ packetBehind s (t .class) 0
+  pub own : (k : ℕ) → packetBehind (t .state) (t .class) k ≡ packetBehind s (t .class) (suc k)
+  pub other : (i k : ℕ) → (i ≡ t .class → ⊥) → packetBehind (t .state) i k ≡ packetBehind s i k
 
 -- so does the leaf that is found, whatever rounds were opened first: they leave the queues as they were
 found-first : (s u : State) (turns : List Turn) → Wide u → u .queues ≡ s .queues → nextLeaf u < 64
@@ -72,12 +55,12 @@ found-first s u turns wide same found = record {
       λ k.
       ap (λ (q : List Packet). getD q k noPacket) (sent-queue u (nextLeaf u) wide found)
       ∙ getD-drop 1 (queueAt u (nextLeaf u)) k noPacket
-      ∙ ap (λ (n : ℕ). packetOf u (nextLeaf u) n) (next k)
+      ∙ ap (λ (n : ℕ). packetBehind u (nextLeaf u) n) (next k)
       ∙ at (nextLeaf u) (suc k);
   other = λ i k ne. ap (λ (q : List Packet). getD q k noPacket) (sent-other u (nextLeaf u) i ne) ∙ at i k;
 }
   where
-    at : (i k : ℕ) → packetOf u i k ≡ packetOf s i k
+    at : (i k : ℕ) → packetBehind u i k ≡ packetBehind s i k
     at i k = ap (λ (qs : List (List Packet)). getD (getD qs i []) k noPacket) same
 
     next : (k : ℕ) → 1 + k ≡ suc k

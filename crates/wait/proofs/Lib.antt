@@ -1,14 +1,12 @@
--- The bounded wait, proved over states and over the calls; and the stand-ins that the contracts reject.
+-- The bounded wait, over any run of the library; and the stand-ins that the contracts reject.
 pub mod RoundedUp
 pub mod Credit
 pub mod RootGains
 pub mod Falls
-pub mod OneCall
 pub mod InOrder
-pub mod AnyCalls
-pub mod WhatGoes
+pub mod OneCall
+pub mod AnyRun
+pub mod Accepted
 pub mod BoundedWait
-pub mod OverCalls
-pub mod LinkWait
 pub mod TwoLeaves
 pub mod StandIns

@@ -7,7 +7,7 @@ use Prim.Native.Nat.{ℕ, suc, _+_, _-_, _*_, _≤_, _<_}
 use native.Mathlib.Decide.{decLt, ℕ-discrete}
 use native.Mathlib.Omega.{arith}
 use lib.ListN.{length, take, length-set}
-use lib.Seq.{set-out, take-append-le}
+use lib.Seq.{take-append-le}
 use borrow.Author.Tests.{le-leb}
 use Rattle.checks.specs.declared.Verdict.the-variants.{Passed, Refused}
 use Rattle.checks.specs.Check.{firstBroken}
@@ -17,18 +17,24 @@ use Rattle.units.proofs.Laws.{cost-positive}
 use Rattle.tree.specs.Class.{weightOf}
 use Rattle.tree.proofs.Classes.{class-range}
 use Rattle.tree.proofs.Sums.{some-found}
+use Rattle.state.specs.declared.Link.{Link}
 use Rattle.state.specs.declared.Packet.{Packet}
 use Rattle.state.specs.Account.{balanceOf}
-use Rattle.state.specs.State.{State, queueAt, withQueues}
+use Rattle.state.specs.Queue.{bytesIn}
+use Rattle.state.specs.State.{State, meaning, queueAt}
+use Rattle.sound.specs.Sound.{SoundLink}
 use Rattle.rules.specs.Active.{waits, someWaits}
 use Rattle.rules.specs.Opening.{opened}
 use Rattle.rules.specs.Sending.{firstOf, nextLeaf, sentState, Turn, Trace, turnOf, sends, traceOf}
 use Rattle.rules.proofs.Rounds.{leaf-most, main-sends, next-main, opened-waits, sends-now, sends-closed}
 use Rattle.rules.proofs.Sender.{Sender, next-sender}
-use Rattle.link.specs.Arrival.{arrivalChecks, arrived}
-use Rattle.link.proofs.Arrivals.{Taken, taken, queue-arrived, queue-other, length-arrived, arrival-keeps}
-use Rattle.wait.specs.Calls.{afterArrival, arrivalTo, bytesIn, overRoundedUp}
+use Rattle.link.specs.declared.AfterArrival.{AfterArrival}
+use Rattle.link.specs.Arrival.{arrivalChecks, arrived, Arrives}
+use Rattle.link.proofs.Arrivals.{Taken, taken, taken-number, queue-arrived, queue-other, length-arrived, arrival-keeps}
+use Rattle.link.proofs.Runs.{left-refused, left-taken}
+use Rattle.wait.specs.Wait.{overRoundedUp}
 use Rattle.wait.proofs.Credit.{Holds, credit, bytesUpTo, lacking, mains, falling, holds-class, holds-some}
+use Rattle.wait.proofs.InOrder.{packetBehind, arrived-packet}
 use Rattle.wait.proofs.Falls.{opened-holds, opened-falls, other-holds, other-falls, own-holds, own-falls, itself-covered}
 
 -- ---- an arrival
@@ -72,27 +78,26 @@ module _ (s : State) (i k j : ℕ) (p : Packet) (h : Holds s i k) (u : j < 64) w
 pub record ArrivalKeeps (s : State) (i k : ℕ) (after : State) : Type 0 where
   pub holds : Holds after i k
   pub same : falling after i k ≡ falling s i k
-
-nothing-changed : (s : State) (i k : ℕ) → Holds s i k → ArrivalKeeps s i k s
-nothing-changed s i k h = record { holds = h; same = refl }
-
--- an arrival to a number that has no queue
-pub no-queue : (s : State) (j : ℕ) (p : Packet) → length (s .queues) ≤ j → arrived s j p ≡ s
-no-queue s j p out = ap (withQueues s) (set-out (s .queues) j (queueAt s j ++ (p ∷ [])) out)
+  pub packet : packetBehind after i k ≡ packetBehind s i k
 
 -- whatever the arrival is, taken or refused
-pub any-arrival : (s : State) (i k j : ℕ) (p : Packet) → Holds s i k → ArrivalKeeps s i k (afterArrival s j p)
-unfolding afterArrival
-any-arrival s i k j p h = go (refused-or-passed (firstBroken (arrivalChecks true s j p)))
+pub any-arrival : (l : Link) (i k j : ℕ) (p : Packet) (a : AfterArrival) → SoundLink l → Arrives l j p a → Holds (meaning l) i k
+    → ArrivalKeeps (meaning l) i k (meaning (a .link))
+any-arrival l i k j p a sound x h = go (refused-or-passed (firstBroken (arrivalChecks true (meaning l) j p)))
   where
-    passed : firstBroken (arrivalChecks true s j p) ≡ Passed → Dec (j < 64) → ArrivalKeeps s i k (arrived s j p)
-    passed e (yes u) = record { holds = arrived-holds s i k j p h u (taken true s j p e); same = arrived-same s i k j p h u }
-    passed e (no u) = subst (ArrivalKeeps s i k) (sym (no-queue s j p (omega (arith, h .wide .queues)))) (nothing-changed s i k h)
-
-    go : (firstBroken (arrivalChecks true s j p) ≡ Passed) ⊎ ((n : ℕ) × (q : ℕ) × (firstBroken (arrivalChecks true s j p) ≡ Refused n q))
-        → ArrivalKeeps s i k (arrivalTo (firstBroken (arrivalChecks true s j p)) s j p)
-    go (inl e) = rw e (passed e (decLt j 64))
-    go (inr r) = rw (r .2) (nothing-changed s i k h)
+    go : (firstBroken (arrivalChecks true (meaning l) j p) ≡ Passed)
+        ⊎ ((n : ℕ) × (q : ℕ) × (firstBroken (arrivalChecks true (meaning l) j p) ≡ Refused n q))
+        → ArrivalKeeps (meaning l) i k (meaning (a .link))
+    go (inl e) =
+        let u = taken-number (meaning l) j p (sound .state) e in
+        subst (ArrivalKeeps (meaning l) i k) (sym (left-taken l j p a sound x e)) (record {
+          holds = arrived-holds (meaning l) i k j p h u (taken true (meaning l) j p e);
+          same = arrived-same (meaning l) i k j p h u;
+          packet = arrived-packet (meaning l) i k j p h u;
+        })
+    go (inr r) =
+        subst (λ (m : Link). ArrivalKeeps (meaning l) i k (meaning m)) (sym (left-refused l j p a sound x (r .2)))
+        (record { holds = h; same = refl; packet = refl })
 
 -- ---- a send
 

@@ -13,7 +13,7 @@ use Rattle.tree.specs.declared.Tree.{Tree}
 use Rattle.tree.specs.Class.{parentOf}
 use Rattle.tree.specs.Sum.{someTo}
 use Rattle.state.specs.declared.Account.{Account}
-use Rattle.state.specs.Account.{noAccount, accountOf, heldBy, received}
+use Rattle.state.specs.Account.{noAccount, accountOf, fundsOf, received}
 use Rattle.state.specs.State.{State, queueAt}
 use Rattle.rules.specs.Sending.{Books}
 use Rattle.rules.specs.Active.{activeChild}
@@ -24,16 +24,16 @@ use Rattle.rules.proofs.SentBooks.{paid-length, paid-root}
 
 -- what the root holds, by the books
 abbrev rootHolds : Books → ℕ
-rootHolds b = heldBy (accountOf (b .accounts) 0)
+rootHolds b = fundsOf (accountOf (b .accounts) 0)
 
 -- a class that receives is the root or another
 received-root : (xs : List Account) (p held : ℕ) → length xs ≡ 64
-    → heldBy (accountOf xs 0) ≤ heldBy (accountOf (set xs p (received (accountOf xs p) held)) 0)
+    → fundsOf (accountOf xs 0) ≤ fundsOf (accountOf (set xs p (received (accountOf xs p) held)) 0)
 received-root xs zero held many =
-    let same = ap heldBy (getD-set-same xs 0 (received (accountOf xs 0) held) noAccount (omega (arith, many))) in
+    let same = ap fundsOf (getD-set-same xs 0 (received (accountOf xs 0) held) noAccount (omega (arith, many))) in
     omega (arith, same)
 received-root xs (suc p) held many =
-    let same = ap heldBy (getD-set-other xs (suc p) 0 (received (accountOf xs (suc p)) held) noAccount (λ z. omega arith)) in
+    let same = ap fundsOf (getD-set-other xs (suc p) 0 (received (accountOf xs (suc p)) held) noAccount (λ z. omega arith)) in
     omega (arith, same)
 
 -- a class that turns inactive gives to its parent, so the root has no less
@@ -41,8 +41,8 @@ given-root : (t : Tree) (i : ℕ) (b : Books) → length (b .accounts) ≡ 64 �
 unfolding givenUp
 given-root t i b many l =
     let rest = set (b .accounts) i noAccount in
-    let same = ap heldBy (getD-set-other (b .accounts) i 0 noAccount noAccount (λ z. omega arith)) in
-    let more = received-root rest (parentOf t i) (heldBy (accountOf (b .accounts) i)) (length-set (b .accounts) i noAccount ∙ many) in
+    let same = ap fundsOf (getD-set-other (b .accounts) i 0 noAccount noAccount (λ z. omega arith)) in
+    let more = received-root rest (parentOf t i) (fundsOf (accountOf (b .accounts) i)) (length-set (b .accounts) i noAccount ∙ many) in
     omega (arith, same, more)
 
 -- and so has it when all that turn inactive have given
@@ -65,16 +65,16 @@ turns-root (suc n) t i b many l =
 
 -- a leaf that has sent its first packet leaves the root with what the packet cost, at the least
 pub books-root : (s : State) (i : ℕ) → Wide s → 1 ≤ i
-    → heldBy (accountOf (s .accounts) 0) + costOf (firstOf s i .length) ≤ heldBy (accountOf (booksAfter s i .accounts) 0)
+    → fundsOf (accountOf (s .accounts) 0) + costOf (firstOf s i .length) ≤ fundsOf (accountOf (booksAfter s i .accounts) 0)
 unfolding booksAfter
 books-root s i wide l = go (leb (length (queueAt s i)) 1)
   where
     b : Books
     b = record { active = s .active; accounts = paid s i }
 
-    root : heldBy (accountOf (s .accounts) 0) + costOf (firstOf s i .length) ≤ rootHolds b
-    root = omega (arith, ap heldBy (paid-root s i wide l))
+    root : fundsOf (accountOf (s .accounts) 0) + costOf (firstOf s i .length) ≤ rootHolds b
+    root = omega (arith, ap fundsOf (paid-root s i wide l))
 
-    go : (x : Bool) → heldBy (accountOf (s .accounts) 0) + costOf (firstOf s i .length) ≤ rootHolds (cond x (turnsOff 63 (s .tree) i b) b)
+    go : (x : Bool) → fundsOf (accountOf (s .accounts) 0) + costOf (firstOf s i .length) ≤ rootHolds (cond x (turnsOff 63 (s .tree) i b) b)
     go true = omega (arith, root, turns-root 63 (s .tree) i b (paid-length s i ∙ wide .accounts) l)
     go false = root

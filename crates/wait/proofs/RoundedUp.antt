@@ -4,7 +4,7 @@ use Prim.Native.Nat.{ℕ, _+_, _-_, _/_, _≤_}
 use native.Mathlib.Decide.{ℕ-discrete}
 use native.Mathlib.Nat.{le-div-iff-mul-le, div-mul-le-self, div-eq-of-lt, div-eq-sub-div, div-le-self}
 use native.Mathlib.Omega.{arith}
-use Rattle.wait.specs.Calls.{overRoundedUp}
+use Rattle.wait.specs.Wait.{overRoundedUp}
 
 -- more over the same weight is no less
 over-grows : (a b w : ℕ) → 1 ≤ w → a ≤ b → a / w ≤ b / w

@@ -1,12 +1,13 @@
--- Stand-ins that the contracts reject (document 01, "How tight the contracts must be"): for each, a call on a fresh link of a tree of two leaves that shows it. Demand 2.
+-- Stand-ins that the contracts reject (docs/PROMISES.md, "Stand-ins"): for each, a call on a fresh link of a tree of two leaves that shows
+-- it. Demand 2.
 use mathlib.Core.Bool.{true}
 use mathlib.Core.Path.{_≡_, refl, sym, ap, _∙_}
 use Prim.Native.Nat.{ℕ}
 use native.Mathlib.Omega.{arith}
 use lib.ListN.{length}
-use Rattle.checks.specs.declared.Verdict.the-variants.{Refused}
+use Rattle.checks.specs.declared.Verdict.the-variants.{Passed, Refused}
 use Rattle.checks.specs.Check.{firstBroken}
-use Rattle.checks.proofs.Laws.{not-both, not-true-and-false, exactly-yes}
+use Rattle.checks.proofs.Laws.{not-both, not-true-and-false}
 use Rattle.state.specs.declared.Link.{Link}
 use Rattle.state.specs.declared.Packet.{Packet}
 use Rattle.state.specs.Queue.{Shaped}
@@ -17,56 +18,74 @@ use Rattle.rules.specs.Active.{waits, someWaits}
 use Rattle.rules.specs.Sending.{traceOf}
 use Rattle.link.specs.declared.AfterArrival.{AfterArrival}
 use Rattle.link.specs.declared.AfterSend.{AfterSend}
-use Rattle.link.specs.Arrival.{arrivalChecks, arrivalOf, Arrives}
+use Rattle.link.specs.Arrival.{arrivalChecks, arrived, arrivalOf, Arrives}
 use Rattle.link.specs.Send.{departs, sendOf, Sends}
-use Rattle.link.proofs.Arrivals.{arrives-as, arrives-by}
-use Rattle.link.proofs.Departures.{send-goes, sends-as, sends-by}
+use Rattle.link.specs.Run.{arrival, send}
+use Rattle.link.proofs.Arrivals.{arrival-verdict, arrival-shaped, arrives-as}
+use Rattle.link.proofs.Departures.{send-shaped, sends-as}
+use Rattle.link.proofs.Runs.{left-taken, sent-is, sent-means, rules-meet}
 use Rattle.link.proofs.FreshLinks.{fresh-sound}
-use Rattle.wait.specs.Calls.{afterArrival}
-use Rattle.wait.proofs.OverCalls.{Gives, arrival-verdict, arrival-gives, send-gives}
 use Rattle.wait.proofs.TwoLeaves.{tree, rules, fresh, first, second, withFirst, withBoth, sentOnce, arrivals-pass, arrivals-wait, two-sends}
 
 -- an arrival and a send that meet their contracts on every sound link whose lists have the lengths of its arrays
-pub record Meets (arrive : Link → ℕ → Packet → AfterArrival) (send : Link → AfterSend) : Type 0 where
+pub record Obey (arrive : Link → ℕ → Packet → AfterArrival) (send : Link → AfterSend) : Type 0 where
   pub arrivals : (l : Link) (i : ℕ) (p : Packet) → Shaped l → SoundLink l → Arrives l i p (arrive l i p)
   pub sends : (l : Link) → Shaped l → SoundLink l → Sends l (send l)
 
 -- the rules' own calls do
-pub rules-meet : Meets (arrivalOf true) (sendOf true)
-rules-meet = record {
-  arrivals = λ l i p shape sound.
-      arrives-by l i p true (arrivalOf true l i p) shape (exactly-yes sound) refl;
-  sends = λ l shape sound. sends-by l true (sendOf true l) shape (exactly-yes sound) refl;
+pub rules-obey : Obey (arrivalOf true) (sendOf true)
+rules-obey = record {
+  arrivals = λ l i p shape sound. rules-meet l (arrival i p) shape sound;
+  sends = λ l shape sound. rules-meet l send shape sound;
 }
 
-module _ (arrive : Link → ℕ → Packet → AfterArrival) (send : Link → AfterSend) (meets : Meets arrive send) where
+-- a sound link whose lists have the lengths of its arrays and that means this state
+record InState (l : Link) (s : State) : Type 0 where
+  pub shape : Shaped l
+  pub sound : SoundLink l
+  pub means : meaning l ≡ s
+
+module _ (arrive : Link → ℕ → Packet → AfterArrival) (send : Link → AfterSend) (obey : Obey arrive send) where
   -- ---- what such calls give on a sound link
 
-  arrive-verdict : (l : Link) (s : State) (i : ℕ) (p : Packet) → Gives l s → arrive l i p .answer .verdict ≡ firstBroken (arrivalChecks true s i p)
-  arrive-verdict l s i p g =
-      ap (λ (a : AfterArrival). a .answer .verdict) (arrives-as l i p (arrive l i p) (g .sound) (meets .arrivals l i p (g .shape) (g .sound)))
-      ∙ arrival-verdict l i p
-      ∙ ap (λ (t : State). firstBroken (arrivalChecks true t i p)) (g .means)
+  module _ (l : Link) (s : State) (i : ℕ) (p : Packet) (g : InState l s) where
+    meets-arrival : Arrives l i p (arrive l i p)
+    meets-arrival = obey .arrivals l i p (g .shape) (g .sound)
 
-  arrive-after : (l : Link) (s : State) (i : ℕ) (p : Packet) → Gives l s → Gives (arrive l i p .link) (afterArrival s i p)
-  arrive-after l s i p g =
-      rw (arrives-as l i p (arrive l i p) (g .sound) (meets .arrivals l i p (g .shape) (g .sound)), ← g .means)
-      (arrival-gives l i p (g .shape) (g .sound))
+    arrive-verdict : arrive l i p .answer .verdict ≡ firstBroken (arrivalChecks true s i p)
+    arrive-verdict =
+        ap (λ (a : AfterArrival). a .answer .verdict) (arrives-as l i p (arrive l i p) (g .sound) meets-arrival)
+        ∙ arrival-verdict true l i p
+        ∙ ap (λ (t : State). firstBroken (arrivalChecks true t i p)) (g .means)
 
-  send-is : (l : Link) (s : State) → Gives l s → someWaits s ≡ true → send l ≡ departs l (traceOf s)
-  send-is l s g w =
-      sends-as l (send l) (g .sound) (meets .sends l (g .shape) (g .sound))
-      ∙ send-goes l (ap someWaits (g .means) ∙ w)
-      ∙ ap (λ (t : State). departs l (traceOf t)) (g .means)
+    arrive-after : firstBroken (arrivalChecks true s i p) ≡ Passed → InState (arrive l i p .link) (arrived s i p)
+    arrive-after e = record {
+      shape = rw (arrives-as l i p (arrive l i p) (g .sound) meets-arrival) (arrival-shaped true l i p (g .shape));
+      sound = meets-arrival .keeps (g .sound);
+      means =
+          left-taken l i p (arrive l i p) (g .sound) meets-arrival
+          (ap (λ (t : State). firstBroken (arrivalChecks true t i p)) (g .means) ∙ e)
+          ∙ ap (λ (t : State). arrived t i p) (g .means);
+    }
 
-  send-after : (l : Link) (s : State) → Gives l s → someWaits s ≡ true → Gives (send l .link) (traceOf s .state)
-  send-after l s g w =
-      rw (sends-as l (send l) (g .sound) (meets .sends l (g .shape) (g .sound)), ← g .means)
-      (send-gives l (g .shape) (g .sound) (ap someWaits (g .means) ∙ w))
+  module _ (l : Link) (s : State) (g : InState l s) where
+    meets-send : Sends l (send l)
+    meets-send = obey .sends l (g .shape) (g .sound)
+
+    send-is : someWaits s ≡ true → send l ≡ departs l (traceOf s)
+    send-is w =
+        sent-is l (send l) (g .sound) meets-send (ap someWaits (g .means) ∙ w) ∙ ap (λ (t : State). departs l (traceOf t)) (g .means)
+
+    send-after : someWaits s ≡ true → InState (send l .link) (traceOf s .state)
+    send-after w = record {
+      shape = rw (sends-as l (send l) (g .sound) meets-send) (send-shaped l (g .shape) (g .sound));
+      sound = meets-send .keeps (g .sound);
+      means = sent-means l (send l) (g .sound) meets-send (ap someWaits (g .means) ∙ w) ∙ ap (λ (t : State). traceOf t .state) (g .means);
+    }
 
   -- ---- the calls on the two leaves
 
-  starts : Gives fresh (meaning fresh)
+  starts : InState fresh (meaning fresh)
   unfolding fresh
   starts = record { shape = shaped-fresh tree; sound = fresh-sound tree rules; means = refl }
 
@@ -80,15 +99,15 @@ module _ (arrive : Link → ℕ → Packet → AfterArrival) (send : Link → Af
   abbrev pub gone : Link
   gone = send two .link
 
-  one-gives : Gives one withFirst
+  one-gives : InState one withFirst
   unfolding withFirst
-  one-gives = arrive-after fresh (meaning fresh) 1 first starts
+  one-gives = arrive-after fresh (meaning fresh) 1 first starts (arrivals-pass .0)
 
-  two-gives : Gives two withBoth
+  two-gives : InState two withBoth
   unfolding withBoth
-  two-gives = arrive-after one withFirst 2 second one-gives
+  two-gives = arrive-after one withFirst 2 second one-gives (arrivals-pass .2)
 
-  gone-gives : Gives gone sentOnce
+  gone-gives : InState gone sentOnce
   unfolding sentOnce
   gone-gives = send-after two withBoth two-gives (two-sends .0 .waits)
 

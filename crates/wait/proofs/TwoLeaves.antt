@@ -25,8 +25,7 @@ use Rattle.tree.specs.Below.{climbs, atOrBelow}
 use Rattle.rules.specs.Active.{waits, someWaits, someBelow, setOf, upward, roundActive, activeChild, activeWeight, weightSum}
 use Rattle.rules.specs.Opening.{surplusAt, hasSurplus, kindOf, quotaIn, quota, due, handsDown, openedLeaf, openedInner, openedAccount, openedAccounts, nextKind, opened}
 use Rattle.rules.specs.Sending.{ready, firstFrom, nextLeaf, givenUp, turnsOff, paid, booksAfter, sentState, turnOf, sends, traceOf}
-use Rattle.link.specs.Arrival.{noLeaf, badLength, full, arrivalChecks}
-use Rattle.wait.specs.Calls.{afterArrival}
+use Rattle.link.specs.Arrival.{noLeaf, badLength, full, arrivalChecks, arrived}
 
 -- ---- the tree
 
@@ -74,23 +73,24 @@ second = record { length = 10; tag = 4 }
 
 -- the state with the first, with both, and the two sends then
 unfoldable pub withFirst : State
-withFirst = afterArrival (meaning fresh) 1 first
+withFirst = arrived (meaning fresh) 1 first
 
 unfoldable pub withBoth : State
-withBoth = afterArrival withFirst 2 second
+withBoth = arrived withFirst 2 second
 
 unfoldable pub sentOnce : State
 sentOnce = traceOf withBoth .state
 
--- class 1 is a leaf and takes it, 3 is no class
+-- classes 1 and 2 are leaves and take theirs, 3 is no class
 pub arrivals-pass : (firstBroken (arrivalChecks true (meaning fresh) 1 first) ≡ Passed)
     × (firstBroken (arrivalChecks true (meaning fresh) 3 first) ≡ Refused 12 3)
-unfolding leaf one tree fresh first firstBroken noLeaf badLength full isLeaf has with table queueOf
-arrivals-pass = (refl, refl)
+    × (firstBroken (arrivalChecks true withFirst 2 second) ≡ Passed)
+unfolding leaf one tree fresh first second withFirst firstBroken noLeaf badLength full isLeaf has with table queueOf
+arrivals-pass = (refl, refl, refl)
 
 -- a packet waits only once it has arrived
 pub arrivals-wait : (someWaits (meaning fresh) ≡ false) × (someWaits withFirst ≡ true) × (waits withFirst 2 ≡ false) × (waits withBoth 2 ≡ true)
-unfolding leaf one tree fresh first second withFirst withBoth firstBroken noLeaf badLength full afterArrival isLeaf has with table queueOf waits someWaits someTo
+unfolding leaf one tree fresh first second withFirst withBoth isLeaf has with table queueOf waits someWaits someTo
 arrivals-wait = (refl, refl, refl, refl)
 
 -- the send on state s sends the packet with this tag and opens so many rounds
@@ -101,5 +101,5 @@ pub record SendsAs (s : State) (mark many : ℕ) : Type 0 where
 
 -- the first packet goes in a new round, the second in the same round, and then none waits
 pub two-sends : SendsAs withBoth 1 1 × SendsAs sentOnce 4 0 × (someWaits (traceOf sentOnce .state) ≡ false)
-unfolding leaf one tree fresh first second withFirst withBoth sentOnce firstBroken noLeaf badLength full afterArrival roundSize allWeights allLongest longestCost sumTo someTo isClass isLeaf isInner isChild has with without costOf table queueOf climbs atOrBelow waits someWaits someBelow setOf upward roundActive activeChild activeWeight weightSum surplusAt hasSurplus kindOf quotaIn quota due handsDown openedLeaf openedInner openedAccount openedAccounts nextKind opened ready firstFrom nextLeaf givenUp turnsOff paid booksAfter sentState turnOf sends traceOf
+unfolding leaf one tree fresh first second withFirst withBoth sentOnce roundSize allWeights allLongest longestCost sumTo someTo isClass isLeaf isInner isChild has with without costOf table queueOf climbs atOrBelow waits someWaits someBelow setOf upward roundActive activeChild activeWeight weightSum surplusAt hasSurplus kindOf quotaIn quota due handsDown openedLeaf openedInner openedAccount openedAccounts nextKind opened ready firstFrom nextLeaf givenUp turnsOff paid booksAfter sentState turnOf sends traceOf
 two-sends = (record { waits = refl; tag = refl; rounds = refl }, record { waits = refl; tag = refl; rounds = refl }, refl)

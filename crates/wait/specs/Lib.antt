@@ -1,3 +1,2 @@
 -- What the bounded wait is stated with.
-pub mod Calls
-pub mod Library
+pub mod Wait

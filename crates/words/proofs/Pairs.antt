@@ -1,4 +1,4 @@
--- CLASS=REQUEST (document 02, E13): the steps of reading it, and the words that are taken.
+-- CLASS=REQUEST (R177): the steps of reading it, and the words that are taken.
 use mathlib.Core.List.{List}
 use mathlib.Core.Path.{_≡_, refl, sym, ap, _∙_}
 use Prim.Native.Nat.{ℕ, _+_}

@@ -1,4 +1,4 @@
--- A number read digit by digit is the number that the word is (document 02, E13).
+-- A number read digit by digit is the number that the word is (R175).
 use mathlib.Core.Bool.{Bool, true, false, _&&_, cond, and-false}
 use mathlib.Core.List.{List, [], _∷_}
 use mathlib.Core.Path.{_≡_, refl, sym, ap, _∙_}

@@ -1,4 +1,4 @@
--- Which words are taken (document 02, E13): the digits of a number read back give it, leading zeros count for nothing, and CLASS=REQUEST
+-- Which words are taken (R175, R177): the digits of a number read back give it, leading zeros count for nothing, and CLASS=REQUEST
 -- is digits, one `=` and digits, nothing else.
 use mathlib.Core.Bool.{Bool, true, false, _&&_, cond}
 use mathlib.Core.List.{List, [], _∷_, _++_}

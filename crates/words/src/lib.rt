@@ -1,4 +1,4 @@
-// A planner's words (document 02, E13): a number, and CLASS=REQUEST, from any bytes. Entries for callers outside: they ask nothing.
+// A planner's words (R175, R177): a number, and CLASS=REQUEST, from any bytes. Entries for callers outside: they ask nothing.
 ghost use mathlib.Core.Path.{_≡_};
 ghost use Prim.Native.Nat.{_<_};
 ghost use Rattle.words.specs.Step.{withDigit, oneMore};

@@ -1,4 +1,4 @@
--- `allot::range_fault` meets its contract: row 20, then row 21.
+-- `allot::range_fault` meets its contract: number 20, then number 21.
 use mathlib.Core.Bool.{or-true}
 use mathlib.Core.Path.{sym, _∙_}
 use lib.Dec.{ltb}

@@ -1,4 +1,4 @@
--- `allot::request_fault` meets its contract: class by class upward row 21.
+-- `allot::request_fault` meets its contract: class by class upward number 21.
 use mathlib.Core.Bool.{Bool, _&&_}
 use mathlib.Core.Path.{_≡_, sym, ap, _∙_}
 use Prim.Native.Nat.{ℕ, _+_, _-_, _≤_, _<_}

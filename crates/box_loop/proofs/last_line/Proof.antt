@@ -1,7 +1,7 @@
 -- `box_loop::last_line` meets its contract.
 use mathlib.Core.Path.{sym, ap, _∙_}
 use Rattle.plan.specs.declared.EventRead.{EventRead}
-use Rattle.box_loop.specs.Loop.{lastLine}
+use Rattle.run.specs.Event.{lastLine}
 use borrow.Author.Needs.{needs}
 use Rattle.box_loop.proofs.last_line.Statement.{statement}
 use Rattle.box_loop.proofs.last_line.Tie as tie

@@ -313,7 +313,7 @@ module _ {M : Type 1} (𝓤 : URA M) (H : Heap 𝓤) (A : Atoms 𝓤) (W : Given
         qed W (At m (t .event)) ∵ exec ! C Λ En againᴹ (anyQ (Ends t)) $
         move ! (10 ∷ 11 ∷ []) $ use2 W (raw (Reads 𝓤 H A at-mem run .pre (to-event i)) ⊛ ‵ Own) (goes-event i (o .1 .1 .1 .1 .0 .1)) $ split ! $
         calls-at-last ! fm (Reads 𝓤 H A at-mem run) (met .0) (to-event i)
-        (and-then ! (load ! (from ! (stop !)) (look ! 4 refl)) (and-then ! (load ! (from ! (fld ! refl (stop !))) (look-in ! 3 (sub ! 4 refl (whole !)))) (no-more !))) (λ u.
+        (and-then ! (load ! (from ! (stop !)) (look ! 4 refl)) (and-then ! (load ! (from ! (fld ! {d = 24} refl (stop !))) (look-in ! 3 (sub ! 4 {d = 24} refl (whole !)))) (no-more !))) (λ u.
         event-read ! tt i u (λ e less is.
         -- [the token; input; _4; _5; …]
         land-last ! (from ! (stop !)) (store ! 3 refl (typed-event e u is)) $ rewrite ! 3 (λ (us : List Val). ‵ (fat fullShare Ev′.mir l₅ zero (only us))) (LL.tells Ev.the-type Ev′.the-laws e (u ∷ []) is) refl $
@@ -332,12 +332,12 @@ module _ {M : Type 1} (𝓤 : URA M) (H : Heap 𝓤) (A : Atoms 𝓤) (W : Given
         loan ! fm (ask-arrive.Lent 𝓤 H A at-mem run) (met .1 .0) N.the-row (λ r m. Arrives h i p′ (arrivalLeaves r m)) l₄ h (t .known)
         (λ α δ. ask-arrive.to-lent 𝓤 H A W at-mem run l₄ α δ h i p′ (o .1 .1 .0 .1) (o .1 .1 .1 .0))
         (λ α δ. ask-arrive.goes 𝓤 H A W at-mem run l₄ α δ h i p′ (o .1 .1 .0 .1) (o .1 .1 .1 .0)) (λ α δ. ask-arrive.given-back 𝓤 H A W at-mem run l₄ α δ h i p′ (o .1 .1 .0 .1) (o .1 .1 .1 .0))
-        (λ α δ. and-then ! (load ! (from ! (stop !)) (look ! 7 refl)) (and-then ! (load ! (from ! (fld ! refl (stop !))) (look-in ! 2 (sub ! 2 refl (whole !))))
-        (and-then ! (load ! (from ! (fld ! refl (stop !))) (look-in ! 2 (sub ! 3 refl (whole !)))) (no-more !)))) (λ v r m e isr ism.
+        (λ α δ. and-then ! (load ! (from ! (stop !)) (look ! 7 refl)) (and-then ! (load ! (from ! (fld ! {d = 8} refl (stop !))) (look-in ! 2 (sub ! 2 {d = 8} refl (whole !))))
+        (and-then ! (load ! (from ! (fld ! {d = 16} refl (stop !))) (look-in ! 2 (sub ! 3 {d = 16} refl (whole !)))) (no-more !)))) (λ v r m e isr ism.
         land ! (from ! (stop !)) (init ! 3 refl (LL.lawful N.the-type N′.the-laws 𝓤 H A W .typed r _ isr .0)) $
         use0 W (raw (ShowsArrival 𝓤 H A at-mem run .pre (to-arrival 𝓤 H A W at-mem run (t .event .read) r (rval (t .event .read)) v))) (goes-arrival 𝓤 H A W at-mem run (t .event .read) r (rval (t .event .read)) v (o .1 .1 .1 .1 .1 .0) isr) $
         calls-at-last ! fm (ShowsArrival 𝓤 H A at-mem run) (met .1 .1 .1 .0) (to-arrival 𝓤 H A W at-mem run (t .event .read) r (rval (t .event .read)) v)
-        (and-then ! (load ! (from ! (fld ! refl (stop !))) (look-in ! 2 (sub ! 5 refl (whole !)))) (and-then ! (load ! (from ! (stop !)) (look ! 4 refl)) (no-more !))) (λ w.
+        (and-then ! (load ! (from ! (fld ! {d = 32} refl (stop !))) (look-in ! 2 (sub ! 5 {d = 32} refl (whole !)))) (and-then ! (load ! (from ! (stop !)) (look ! 4 refl)) (no-more !))) (λ w.
         shown 𝓤 H A W at-mem run ! tt w _ (ensured 𝓤 H A show-arrival.ended (show-arrival.clauses 𝓤 H A at-mem run) tt (t .event .read, (r, tt)) tt) (id⊢ 𝓤 _) (λ wt. land-last ! (from ! (stop !)) (init ! 7 refl wt) $ forget ! 3 refl $ forget ! 6 refl $ forget ! 7 refl $ by ! (next-event t on m ism))))
 
     -- a send
@@ -363,7 +363,7 @@ module _ {M : Type 1} (𝓤 : URA M) (H : Heap 𝓤) (A : Atoms 𝓤) (W : Given
         assigns ! (of-opd ! (load ! (from ! (stop !)) (look ! 0 refl))) (from ! (stop !)) (init ! 15 refl (LL.lawful L.the-type L′.the-laws 𝓤 H A W .typed h _ (t .known) .0)) $
         use0 W (raw (ShowsEnd 𝓤 H A at-mem run .pre (to-end 𝓤 H A W at-mem run (t .event .read) h (rval (t .event .read))))) (goes-end 𝓤 H A W at-mem run (t .event .read) h (rval (t .event .read)) (o .1 .1 .1 .1 .1 .0) (t .known)) $
         calls-at ! fm (ShowsEnd 𝓤 H A at-mem run) (met .1 .1 .1 .1 .1) (to-end 𝓤 H A W at-mem run (t .event .read) h (rval (t .event .read)))
-        (and-then ! (load ! (from ! (fld ! refl (stop !))) (look-in ! 2 (sub ! 5 refl (whole !)))) (and-then ! (load ! (from ! (stop !)) (look ! 16 refl)) (no-more !))) (λ w.
+        (and-then ! (load ! (from ! (fld ! {d = 32} refl (stop !))) (look-in ! 2 (sub ! 5 {d = 32} refl (whole !)))) (and-then ! (load ! (from ! (stop !)) (look ! 16 refl)) (no-more !))) (λ w.
         shown 𝓤 H A W at-mem run ! tt w _ (ensured 𝓤 H A show-end.ended (show-end.clauses 𝓤 H A at-mem run) tt (t .event .read, (h, tt)) tt) (id⊢ 𝓤 _) (λ wt. land ! (from ! (stop !)) (init ! 14 refl wt) $ assigns ! (of-opd ! (unit-lit !)) (from ! (stop !)) (init ! 16 refl (tt, tt)) $
         returns ! (look ! 16 refl) $ forget ! 0 refl $ forget ! 1 refl $ forget ! 2 refl $ forget ! 14 refl $ forget ! 15 refl $ forget ! 16 refl $
         move ! (16 ∷ 17 ∷ 12 ∷ 18 ∷ 2 ∷ 19 ∷ 13 ∷ 20 ∷ 0 ∷ 21 ∷ 1 ∷ 22 ∷ 3 ∷ 23 ∷ 4 ∷ 24 ∷ 5 ∷ 25 ∷ 6 ∷ 26 ∷ 7 ∷ 27 ∷ 8 ∷ 28 ∷ 9 ∷ 29 ∷ 14 ∷ 30 ∷ 15 ∷ 31 ∷ []) $
@@ -377,13 +377,13 @@ module _ {M : Type 1} (𝓤 : URA M) (H : Heap 𝓤) (A : Atoms 𝓤) (W : Given
         go : (b : Bool) → t .event .call ≡ b → ent 𝓤 (⋆ 𝓤 H A (Inv t)) (Wp 𝓤 H C Λ En turnᴹ (Ends t))
         go true on =
             qed W (Inv t) ∵ exec ! C Λ En turnᴹ (anyQ (Ends t)) $
-            assigns ! (of-opd ! (load ! (from ! (fld ! refl (stop !))) (look-in ! 1 (sub ! 0 refl (whole !))))) (from ! (stop !)) (init ! 5 refl (tt, tt)) $
+            assigns ! (of-opd ! (load ! (from ! (fld ! {d = 0} refl (stop !))) (look-in ! 1 (sub ! 0 {d = 0} refl (whole !))))) (from ! (stop !)) (init ! 5 refl (tt, tt)) $
             rewrite ! 5 (λ (b : Bool). ‵ (fat fullShare tyBool l₈ zero (vbool b))) on refl $ stays ! (load ! (from ! (stop !)) (look ! 5 refl)) $
-            assigns ! (of-opd ! (load ! (from ! (fld ! refl (stop !))) (look-in ! 1 (sub ! 1 refl (whole !))))) (from ! (stop !)) (store ! 5 refl (tt, tt)) $
+            assigns ! (of-opd ! (load ! (from ! (fld ! {d = 1} refl (stop !))) (look-in ! 1 (sub ! 1 {d = 1} refl (whole !))))) (from ! (stop !)) (store ! 5 refl (tt, tt)) $
             first ! $ branches ! (load ! (from ! (stop !)) (look ! 5 refl)) (λ _. forget ! 5 refl $ by ! (arrives t on)) (λ _. forget ! 5 refl $ by ! (sends t on))
         go false off =
             qed W (Inv t) ∵ exec ! C Λ En turnᴹ (anyQ (Ends t)) $
-            assigns ! (of-opd ! (load ! (from ! (fld ! refl (stop !))) (look-in ! 1 (sub ! 0 refl (whole !))))) (from ! (stop !)) (init ! 5 refl (tt, tt)) $
+            assigns ! (of-opd ! (load ! (from ! (fld ! {d = 0} refl (stop !))) (look-in ! 1 (sub ! 0 {d = 0} refl (whole !))))) (from ! (stop !)) (init ! 5 refl (tt, tt)) $
             rewrite ! 5 (λ (b : Bool). ‵ (fat fullShare tyBool l₈ zero (vbool b))) off refl $ leaves-loop ! (load ! (from ! (stop !)) (look ! 5 refl)) $ forget ! 5 refl $ by ! (ends t)
 
     turns : (t : Turn) → ent 𝓤 (⋆ 𝓤 H A (Inv t)) (Wp 𝓤 H C Λ En (loop turnᴹ) Left)

@@ -48,7 +48,8 @@ use Rattle.link.specs.declared.Arrival.{Arrival}
 use Rattle.link.specs.declared.Placed.{Placed}
 use Rattle.lent.proofs.Returns.{returned-with}
 use Rattle.lent.proofs.Lends.{pval, Known, opened, closed}
-use Rattle.lent.proofs.Fields.{Fits, val-at, typed, parts-of, shaped, same, as-held, to, Lengths, Tags, mut-lengths, mut-tags, apart, together, lent-out, come-back, by-value}
+use Rattle.state.proofs.Shapes.{shaped}
+use Rattle.lent.proofs.Fields.{type-at, Fits, val-at, typed, parts-of, same, as-held, to, Lengths, Tags, mut-lengths, mut-tags, apart, together, lent-out, come-back, by-value}
 use Rattle.state.proofs.Link as L
 use Rattle.state.proofs.Link.Laws as L′
 use Rattle.state.proofs.Packet as P
@@ -117,7 +118,7 @@ module _ {M : Type 1} (𝓤 : URA M) (H : Heap 𝓤) (A : Atoms 𝓤) (W : Given
   Said = SaidOf (linkOf (h .tree) (h .size) (h .active) (h .place) (h .accounts) (same (h .start)) (same (h .held)) (same (h .lengths)) (same (h .tags)))
 
   arrived : Known h → (r : Placed) (w : List ℕ × List ℕ) → Said r w → Arrives h i p (arrivalLeaves (r .answer) (after r w))
-  arrived is r w e = subst (λ (l : Link). SaidOf l r w) (as-held h) e (shaped h is)
+  arrived is r w e = subst (λ (l : Link). SaidOf l r w) (as-held h) e (shaped h _ is)
 
   known-after : Known h → (r : Placed) (w : List ℕ × List ℕ) → Is S.the-row r (LL.val S.the-type S′.the-laws r ∷ []) → Fits 7 (w .0) → Fits 8 (w .1) → Known (after r w)
   known-after is r w isr isx isy =
@@ -189,15 +190,15 @@ module _ {M : Type 1} (𝓤 : URA M) (H : Heap 𝓤) (A : Atoms 𝓤) (W : Given
         pass1 ! (init ! 24 refl (tt, tt)) $ pass1 ! (init ! 22 refl (tt, record { fits = fits })) $ pass1 ! (init ! 20 refl wt) $ pass0 ! $
         move ! (28 ∷ 29 ∷ 30 ∷ []) $ opened ! tt h b o (λ is. let ps = parts-of h is in apart ! h b o $
         -- [the nine cells; the way back; the open borrow; obs; auth; _13; …; _12; …; _0; …]
-        assigns ! (of-opd ! (load ! (from ! (hop ! (look ! 37 refl) (fld ! {d = 0} refl (stop !)))) (look-raw ! 0 refl))) (from ! (stop !)) (init ! 29 refl (typed 𝓤 H A W 0 (h .tree) (ps .0) .0)) $
-        assigns ! (of-opd ! (load ! (from ! (hop ! (look ! 37 refl) (fld ! {d = 464} refl (stop !)))) (look-raw ! 1 refl))) (from ! (stop !)) (init ! 27 refl (typed 𝓤 H A W 1 (h .size) (ps .1 .0) .0)) $
-        assigns ! (of-opd ! (load ! (from ! (hop ! (look ! 37 refl) (fld ! {d = 472} refl (stop !)))) (look-raw ! 2 refl))) (from ! (stop !)) (init ! 25 refl (typed 𝓤 H A W 2 (h .active) (ps .1 .1 .0) .0)) $
-        assigns ! (of-opd ! (load ! (from ! (hop ! (look ! 37 refl) (fld ! {d = 480} refl (stop !)))) (look-raw ! 3 refl))) (from ! (stop !)) (init ! 23 refl (typed 𝓤 H A W 3 (h .place) (ps .1 .1 .1 .0) .0)) $
-        assigns ! (of-opd ! (load ! (from ! (hop ! (look ! 37 refl) (fld ! {d = 488} refl (stop !)))) (look-raw ! 4 refl))) (from ! (stop !)) (init ! 21 refl (typed 𝓤 H A W 4 (h .accounts) (ps .1 .1 .1 .1 .0) .0)) $
-        assigns ! (of-opd ! (load ! (from ! (hop ! (look ! 37 refl) (fld ! {d = 1_512} refl (stop !)))) (look-raw ! 5 refl))) (from ! (stop !)) (init ! 19 refl (typed 𝓤 H A W 5 (h .start) (ps .1 .1 .1 .1 .1 .0) .0)) $
-        assigns ! (of-opd ! (load ! (from ! (hop ! (look ! 37 refl) (fld ! {d = 1_576} refl (stop !)))) (look-raw ! 6 refl))) (from ! (stop !)) (init ! 17 refl (typed 𝓤 H A W 6 (h .held) (ps .1 .1 .1 .1 .1 .1 .0) .0)) $
-        assigns ! (addr ! (from ! (hop ! (look ! 37 refl) (fld ! {d = 1_640} refl (stop !))))) (from ! (stop !)) (init ! 15 refl (tt, tt)) $
-        assigns ! (addr ! (from ! (hop ! (look ! 37 refl) (fld ! {d = 5_736} refl (stop !))))) (from ! (stop !)) (init ! 13 refl (tt, tt)) $
+        assigns ! (of-opd ! (load ! (from ! (hop ! (look ! 37 refl) (fld ! {τ = type-at 0} {d = 0} refl (stop !)))) (look-raw ! 0 {τ = type-at 0} refl))) (from ! (stop !)) (init ! 29 refl (typed 𝓤 H A W 0 (h .tree) (ps .0) .0)) $
+        assigns ! (of-opd ! (load ! (from ! (hop ! (look ! 37 refl) (fld ! {τ = type-at 1} {d = 464} refl (stop !)))) (look-raw ! 1 {τ = type-at 1} refl))) (from ! (stop !)) (init ! 27 refl (typed 𝓤 H A W 1 (h .size) (ps .1 .0) .0)) $
+        assigns ! (of-opd ! (load ! (from ! (hop ! (look ! 37 refl) (fld ! {τ = type-at 2} {d = 472} refl (stop !)))) (look-raw ! 2 {τ = type-at 2} refl))) (from ! (stop !)) (init ! 25 refl (typed 𝓤 H A W 2 (h .active) (ps .1 .1 .0) .0)) $
+        assigns ! (of-opd ! (load ! (from ! (hop ! (look ! 37 refl) (fld ! {τ = type-at 3} {d = 480} refl (stop !)))) (look-raw ! 3 {τ = type-at 3} refl))) (from ! (stop !)) (init ! 23 refl (typed 𝓤 H A W 3 (h .place) (ps .1 .1 .1 .0) .0)) $
+        assigns ! (of-opd ! (load ! (from ! (hop ! (look ! 37 refl) (fld ! {τ = type-at 4} {d = 488} refl (stop !)))) (look-raw ! 4 {τ = type-at 4} refl))) (from ! (stop !)) (init ! 21 refl (typed 𝓤 H A W 4 (h .accounts) (ps .1 .1 .1 .1 .0) .0)) $
+        assigns ! (of-opd ! (load ! (from ! (hop ! (look ! 37 refl) (fld ! {τ = type-at 5} {d = 1_512} refl (stop !)))) (look-raw ! 5 {τ = type-at 5} refl))) (from ! (stop !)) (init ! 19 refl (typed 𝓤 H A W 5 (h .start) (ps .1 .1 .1 .1 .1 .0) .0)) $
+        assigns ! (of-opd ! (load ! (from ! (hop ! (look ! 37 refl) (fld ! {τ = type-at 6} {d = 1_576} refl (stop !)))) (look-raw ! 6 {τ = type-at 6} refl))) (from ! (stop !)) (init ! 17 refl (typed 𝓤 H A W 6 (h .held) (ps .1 .1 .1 .1 .1 .1 .0) .0)) $
+        assigns ! (addr ! (from ! (hop ! (look ! 37 refl) (fld ! {τ = type-at 7} {d = 1_640} refl (stop !))))) (from ! (stop !)) (init ! 15 refl (tt, tt)) $
+        assigns ! (addr ! (from ! (hop ! (look ! 37 refl) (fld ! {τ = type-at 8} {d = 5_736} refl (stop !))))) (from ! (stop !)) (init ! 13 refl (tt, tt)) $
         move ! (7 ∷ 8 ∷ []) $ lent-out ! tt (h .lengths) (h .tags) b o (ps .1 .1 .1 .1 .1 .1 .1 .0) (ps .1 .1 .1 .1 .1 .1 .1 .1 .0) (λ α γ₇ γ₈.
         use3 W (raw (Core 𝓤 H A W at-mem run .pre (to-core α γ₇ γ₈))) (goes-core is α γ₇ γ₈) $
         calls-at ! fm (Core 𝓤 H A W at-mem run) known (to-core α γ₇ γ₈)
@@ -211,8 +212,8 @@ module _ {M : Type 1} (𝓤 : URA M) (H : Heap 𝓤) (A : Atoms 𝓤) (W : Given
         land ! (from ! (stop !)) (init ! 34 refl (LL.lawful S.the-type S′.the-laws 𝓤 H A W .typed r _ is₁ .0)) $
         rewrite ! 34 (λ (us : List Val). ‵ (fat fullShare S′.mir l₄ zero (only us))) (LL.tells S.the-type S′.the-laws r (v ∷ []) is₁) refl $
         come-back ! tt (w .0) (w .1) b o (λ isx isy. move ! (2 ∷ 3 ∷ 4 ∷ 5 ∷ 6 ∷ 7 ∷ 8 ∷ 0 ∷ 1 ∷ []) $
-        assigns ! (of-opd ! (load ! (from ! (fld ! refl (stop !))) (look-in ! 31 (sub ! 1 refl (whole !))))) (from ! (hop ! (look ! 37 refl) (fld ! {d = 1_576} refl (stop !)))) (store-raw ! 6 refl (typed 𝓤 H A W 6 (r .held) (ws .1 .0) .0)) $
-        assigns ! (of-opd ! (load ! (from ! (fld ! refl (stop !))) (look-in ! 31 (sub ! 0 refl (whole !))))) (from ! (stop !)) (init ! 39 refl (LL.lawful N.the-type N′.the-laws 𝓤 H A W .typed (r .answer) _ (ws .0) .0)) $
+        assigns ! (of-opd ! (load ! (from ! (fld ! {τ = type-at 6} {d = 16} refl (stop !))) (look-in ! 31 {τ = type-at 6} (sub ! 1 {τ = type-at 6} {d = 16} refl (whole !))))) (from ! (hop ! (look ! 37 refl) (fld ! {τ = type-at 6} {d = 1_576} refl (stop !)))) (store-raw ! 6 {τ = type-at 6} refl (typed 𝓤 H A W 6 (r .held) (ws .1 .0) .0)) $
+        assigns ! (of-opd ! (load ! (from ! (fld ! {d = 0} refl (stop !))) (look-in ! 31 (sub ! 0 {d = 0} refl (whole !))))) (from ! (stop !)) (init ! 39 refl (LL.lawful N.the-type N′.the-laws 𝓤 H A W .typed (r .answer) _ (ws .0) .0)) $
         together ! (after r w) b o $ closed ! tt (after r w) (known-after is r w isr isx isy) b o $
         -- [obs; the borrow; the token; _13; …; _0; …]
         returns ! (look ! 29 refl) $ forget ! 3 refl $ forget ! 5 refl $ forget ! 7 refl $ forget ! 9 refl $ forget ! 11 refl $ forget ! 13 refl $ forget ! 15 refl $ forget ! 17 refl $ forget ! 19 refl $ forget ! 21 refl $ forget ! 23 refl $ forget ! 25 refl $ forget ! 27 refl $ forget ! 29 refl $

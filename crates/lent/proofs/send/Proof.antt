@@ -41,17 +41,18 @@ use denote.Triple.Clauses.{ensured, lasts}
 use Rattle.link.specs.Send.{sendLeaves, Sends}
 use Rattle.state.specs.declared.Link.{Link}
 use Rattle.link.specs.declared.Departure.{Departure}
-use Rattle.link.specs.declared.Went.{Went}
-use Rattle.link.specs.Parts.{moved, SendsIn}
+use Rattle.link.specs.declared.Changed.{Changed}
+use Rattle.link.specs.Parts.{changedLink, SendsIn}
 use Rattle.lent.proofs.Returns.{returned}
 use Rattle.lent.proofs.Lends.{Known, opened, closed}
-use Rattle.lent.proofs.Fields.{val-at, typed, parts-of, shaped, same, as-held, to, shr-lengths, shr-tags, apart, together, shared, unshared, by-value}
+use Rattle.state.proofs.Shapes.{shaped}
+use Rattle.lent.proofs.Fields.{type-at, val-at, typed, parts-of, same, as-held, to, shr-lengths, shr-tags, apart, together, shared, unshared, by-value}
 use Rattle.state.proofs.Link as L
 use Rattle.state.proofs.Link.Laws as L′
 use Rattle.link.proofs.Departure as N
 use Rattle.link.proofs.Departure.Laws as N′
-use Rattle.link.proofs.Went as S
-use Rattle.link.proofs.Went.Laws as S′
+use Rattle.link.proofs.Changed as S
+use Rattle.link.proofs.Changed.Laws as S′
 use Rattle.tree.proofs.Tree as T
 use Rattle.tree.proofs.Tree.Laws as T′
 use Rattle.units.proofs.Bytes as B
@@ -75,8 +76,8 @@ abbrev nval : Departure → Val
 nval a = LL.val N.the-type N′.the-laws a
 
 -- what is known of the parts that the call gives
-abbrev went-of : (r : Went) → Is S.the-row r (LL.val S.the-type S′.the-laws r ∷ []) → Are (S.the-type .parts) S′.the-laws (S.struct .as-values r)
-went-of r is = LL.owed S.the-type S′.the-laws r (LL.val S.the-type S′.the-laws r ∷ []) is
+abbrev changed-of : (r : Changed) → Is S.the-row r (LL.val S.the-type S′.the-laws r ∷ []) → Are (S.the-type .parts) S′.the-laws (S.struct .as-values r)
+changed-of r is = LL.owed S.the-type S′.the-laws r (LL.val S.the-type S′.the-laws r ∷ []) is
 
 module _ {M : Type 1} (𝓤 : URA M) (H : Heap 𝓤) (A : Atoms 𝓤) (W : Given 𝓤 H A) (at-mem : Memory → SProp 𝓤) (run : Routine → Fun 𝓤) where
   abbrev Core : Contract 𝓤
@@ -95,17 +96,17 @@ module _ {M : Type 1} (𝓤 : URA M) (H : Heap 𝓤) (A : Atoms 𝓤) (W : Given
   abbrev Post : Val → SProp 𝓤
   Post = walkOf 𝓤 H A lent.ended stayed (lent.clauses 𝓤 H A at-mem run) .post (((κ, tt), (q, tt), tt, x, at), tt)
 
-  exits : (r : Went) → Sends h (sendLeaves (r .answer) (moved h r)) → Is N.the-row (r .answer) (nval (r .answer) ∷ [])
-      → ent 𝓤 (sep 𝓤 (A .obs γ (L.the-row .coded .code (moved h r))) (sep 𝓤 (A .bor κ (Body (mem L.the-row) b o γ)) (A .lft κ q))) (Post (nval (r .answer)))
+  exits : (r : Changed) → Sends h (sendLeaves (r .answer) (changedLink h r)) → Is N.the-row (r .answer) (nval (r .answer) ∷ [])
+      → ent 𝓤 (sep 𝓤 (A .obs γ (L.the-row .coded .code (changedLink h r))) (sep 𝓤 (A .bor κ (Body (mem L.the-row) b o γ)) (A .lft κ q))) (Post (nval (r .answer)))
   exits r e is =
-      qed W (‵ (fobs γ (L.the-row .coded .code (moved h r))) ∷ ‵ (fbor κ (Body (mem L.the-row) b o γ)) ∷ ‵ (flft κ q) ∷ []) ∵
-      suffices ! _ (ends-at 𝓤 H A lent.ended stayed (lent.clauses 𝓤 H A at-mem run) W (((κ, tt), (q, tt), tt, x, at), tt) (nval (r .answer)) (r .answer) (moved h r, tt) (tt, tt)) $ says ! e $
+      qed W (‵ (fobs γ (L.the-row .coded .code (changedLink h r))) ∷ ‵ (fbor κ (Body (mem L.the-row) b o γ)) ∷ ‵ (flft κ q) ∷ []) ∵
+      suffices ! _ (ends-at 𝓤 H A lent.ended stayed (lent.clauses 𝓤 H A at-mem run) W (((κ, tt), (q, tt), tt, x, at), tt) (nval (r .answer)) (r .answer) (changedLink h r, tt) (tt, tt)) $ says ! e $
       nothing ! $ move ! (3 ∷ 0 ∷ []) $ join ! $ frame ! $ feqI ! (List Val) (vptr b o ∷ []) (vptr b o ∷ []) refl $ fjoin3 ! $ nothing ! $
       move ! (1 ∷ 0 ∷ []) $ fjoin ! $
       owned ! N.the-row (Is N.the-row) (LL.makes N.the-type N′.the-plain 𝓤 H A) (r .answer) _ is $ move ! (1 ∷ 0 ∷ []) $ done !
 
   -- what the call over parts says of its result
-  abbrev Said : Went → Type 0
+  abbrev Said : Changed → Type 0
   Said r = SendsIn (linkOf (h .tree) (h .size) (h .active) (h .place) (h .accounts) (same (h .start)) (same (h .held)) (same (h .lengths)) (same (h .tags))) r
 
   abbrev to-core : ℕ → GName → GName → Core 𝓤 H A W at-mem run .Ghost
@@ -127,18 +128,18 @@ module _ {M : Type 1} (𝓤 : URA M) (H : Heap 𝓤) (A : Atoms 𝓤) (W : Given
       qed W (‵ (flft (α ∷ []) fullShare) ∷ ‵ (shr-lengths b o α γ₇ (same (h .lengths))) ∷ ‵ (shr-tags b o α γ₈ (same (h .tags))) ∷ []) ∵
       nothing ! $ move ! (1 ∷ 0 ∷ []) $ join ! $ nothing ! $ move ! (3 ∷ 0 ∷ []) $ fjoin ! $ move ! (2 ∷ 0 ∷ []) $ fjoin ! $ by-value ! h is $ move ! (1 ∷ 0 ∷ []) $ join ! $ frame ! $ done !
 
-  said-of : (α : ℕ) (γ₇ γ₈ : GName) (r : Went) → ent 𝓤 (ensured 𝓤 H A core.ended (core.clauses 𝓤 H A at-mem run) (α ∷ [], tt) (to-core α γ₇ γ₈ .0 .3) tt r) (fact 𝓤 (Said r))
+  said-of : (α : ℕ) (γ₇ γ₈ : GName) (r : Changed) → ent 𝓤 (ensured 𝓤 H A core.ended (core.clauses 𝓤 H A at-mem run) (α ∷ [], tt) (to-core α γ₇ γ₈ .0 .3) tt r) (fact 𝓤 (Said r))
   said-of α γ₇ γ₈ r = exE 𝓤 _ (λ ws. snd∗ 𝓤 (sem 𝓤 H A (lasts core.ended (α ∷ [], tt) (to-core α γ₇ γ₈ .0 .3) ws)) (fact 𝓤 (Said r)))
 
   -- the record after it
-  sent : Known h → (r : Went) → Said r → Sends h (sendLeaves (r .answer) (moved h r))
-  sent is r e = subst (λ (l : Link). SendsIn l r) (as-held h) e (shaped h is)
+  sent : Known h → (r : Changed) → Said r → Sends h (sendLeaves (r .answer) (changedLink h r))
+  sent is r e = subst (λ (l : Link). SendsIn l r) (as-held h) e (shaped h _ is)
 
-  after : Known h → (r : Went) → Is S.the-row r (LL.val S.the-type S′.the-laws r ∷ []) → Known (moved h r)
+  after : Known h → (r : Changed) → Is S.the-row r (LL.val S.the-type S′.the-laws r ∷ []) → Known (changedLink h r)
   after is r isr =
       let ps = parts-of h is in
-      let ws = went-of r isr in
-      LL.owes L.the-type L′.the-laws (moved h r) (ps .0, (ps .1 .0, (ws .1 .0, (ws .1 .1 .0, (ws .1 .1 .1 .0, (ws .1 .1 .1 .1 .0, (ws .1 .1 .1 .1 .1 .0, (ps .1 .1 .1 .1 .1 .1 .1 .0, (ps .1 .1 .1 .1 .1 .1 .1 .1 .0, tt)))))))))
+      let ws = changed-of r isr in
+      LL.owes L.the-type L′.the-laws (changedLink h r) (ps .0, (ps .1 .0, (ws .1 .0, (ws .1 .1 .0, (ws .1 .1 .1 .0, (ws .1 .1 .1 .1 .0, (ws .1 .1 .1 .1 .1 .0, (ps .1 .1 .1 .1 .1 .1 .1 .0, (ps .1 .1 .1 .1 .1 .1 .1 .1 .0, tt)))))))))
 
   module _ (C : Calls 𝓤 H) (Λ : Loops 𝓤 H) (fm : FmC 𝓤 H (W .laws) C) (known : Triple 𝓤 (C #core) (Core 𝓤 H A W at-mem run)) where
     walk : ent 𝓤 (onEntry 𝓤 H A lent.signature (κ, tt) (q, tt) x at) (WpFn 𝓤 H C Λ code.function args Post)
@@ -149,34 +150,34 @@ module _ {M : Type 1} (𝓤 : URA M) (H : Heap 𝓤) (A : Atoms 𝓤) (W : Given
         pass1 ! (init ! 20 refl (tt, tt)) $ pass0 ! $
         move ! (24 ∷ 25 ∷ 26 ∷ []) $ opened ! tt h b o (λ is. let ps = parts-of h is in apart ! h b o $
         -- [the nine cells; the way back; the open borrow; obs; auth; _11; …; _10; …; _0; …]
-        assigns ! (of-opd ! (load ! (from ! (hop ! (look ! 33 refl) (fld ! {d = 0} refl (stop !)))) (look-raw ! 0 refl))) (from ! (stop !)) (init ! 29 refl (typed 𝓤 H A W 0 (h .tree) (ps .0) .0)) $
-        assigns ! (of-opd ! (load ! (from ! (hop ! (look ! 33 refl) (fld ! {d = 464} refl (stop !)))) (look-raw ! 1 refl))) (from ! (stop !)) (init ! 27 refl (typed 𝓤 H A W 1 (h .size) (ps .1 .0) .0)) $
-        assigns ! (of-opd ! (load ! (from ! (hop ! (look ! 33 refl) (fld ! {d = 472} refl (stop !)))) (look-raw ! 2 refl))) (from ! (stop !)) (init ! 25 refl (typed 𝓤 H A W 2 (h .active) (ps .1 .1 .0) .0)) $
-        assigns ! (of-opd ! (load ! (from ! (hop ! (look ! 33 refl) (fld ! {d = 480} refl (stop !)))) (look-raw ! 3 refl))) (from ! (stop !)) (init ! 23 refl (typed 𝓤 H A W 3 (h .place) (ps .1 .1 .1 .0) .0)) $
-        assigns ! (of-opd ! (load ! (from ! (hop ! (look ! 33 refl) (fld ! {d = 488} refl (stop !)))) (look-raw ! 4 refl))) (from ! (stop !)) (init ! 21 refl (typed 𝓤 H A W 4 (h .accounts) (ps .1 .1 .1 .1 .0) .0)) $
-        assigns ! (of-opd ! (load ! (from ! (hop ! (look ! 33 refl) (fld ! {d = 1_512} refl (stop !)))) (look-raw ! 5 refl))) (from ! (stop !)) (init ! 19 refl (typed 𝓤 H A W 5 (h .start) (ps .1 .1 .1 .1 .1 .0) .0)) $
-        assigns ! (of-opd ! (load ! (from ! (hop ! (look ! 33 refl) (fld ! {d = 1_576} refl (stop !)))) (look-raw ! 6 refl))) (from ! (stop !)) (init ! 17 refl (typed 𝓤 H A W 6 (h .held) (ps .1 .1 .1 .1 .1 .1 .0) .0)) $
-        assigns ! (addr ! (from ! (hop ! (look ! 33 refl) (fld ! {d = 1_640} refl (stop !))))) (from ! (stop !)) (init ! 15 refl (tt, tt)) $
-        assigns ! (addr ! (from ! (hop ! (look ! 33 refl) (fld ! {d = 5_736} refl (stop !))))) (from ! (stop !)) (init ! 13 refl (tt, tt)) $
+        assigns ! (of-opd ! (load ! (from ! (hop ! (look ! 33 refl) (fld ! {τ = type-at 0} {d = 0} refl (stop !)))) (look-raw ! 0 {τ = type-at 0} refl))) (from ! (stop !)) (init ! 29 refl (typed 𝓤 H A W 0 (h .tree) (ps .0) .0)) $
+        assigns ! (of-opd ! (load ! (from ! (hop ! (look ! 33 refl) (fld ! {τ = type-at 1} {d = 464} refl (stop !)))) (look-raw ! 1 {τ = type-at 1} refl))) (from ! (stop !)) (init ! 27 refl (typed 𝓤 H A W 1 (h .size) (ps .1 .0) .0)) $
+        assigns ! (of-opd ! (load ! (from ! (hop ! (look ! 33 refl) (fld ! {τ = type-at 2} {d = 472} refl (stop !)))) (look-raw ! 2 {τ = type-at 2} refl))) (from ! (stop !)) (init ! 25 refl (typed 𝓤 H A W 2 (h .active) (ps .1 .1 .0) .0)) $
+        assigns ! (of-opd ! (load ! (from ! (hop ! (look ! 33 refl) (fld ! {τ = type-at 3} {d = 480} refl (stop !)))) (look-raw ! 3 {τ = type-at 3} refl))) (from ! (stop !)) (init ! 23 refl (typed 𝓤 H A W 3 (h .place) (ps .1 .1 .1 .0) .0)) $
+        assigns ! (of-opd ! (load ! (from ! (hop ! (look ! 33 refl) (fld ! {τ = type-at 4} {d = 488} refl (stop !)))) (look-raw ! 4 {τ = type-at 4} refl))) (from ! (stop !)) (init ! 21 refl (typed 𝓤 H A W 4 (h .accounts) (ps .1 .1 .1 .1 .0) .0)) $
+        assigns ! (of-opd ! (load ! (from ! (hop ! (look ! 33 refl) (fld ! {τ = type-at 5} {d = 1_512} refl (stop !)))) (look-raw ! 5 {τ = type-at 5} refl))) (from ! (stop !)) (init ! 19 refl (typed 𝓤 H A W 5 (h .start) (ps .1 .1 .1 .1 .1 .0) .0)) $
+        assigns ! (of-opd ! (load ! (from ! (hop ! (look ! 33 refl) (fld ! {τ = type-at 6} {d = 1_576} refl (stop !)))) (look-raw ! 6 {τ = type-at 6} refl))) (from ! (stop !)) (init ! 17 refl (typed 𝓤 H A W 6 (h .held) (ps .1 .1 .1 .1 .1 .1 .0) .0)) $
+        assigns ! (addr ! (from ! (hop ! (look ! 33 refl) (fld ! {τ = type-at 7} {d = 1_640} refl (stop !))))) (from ! (stop !)) (init ! 15 refl (tt, tt)) $
+        assigns ! (addr ! (from ! (hop ! (look ! 33 refl) (fld ! {τ = type-at 8} {d = 5_736} refl (stop !))))) (from ! (stop !)) (init ! 13 refl (tt, tt)) $
         move ! (7 ∷ 8 ∷ []) $ shared ! tt (h .lengths) (h .tags) b o (ps .1 .1 .1 .1 .1 .1 .1 .0) (ps .1 .1 .1 .1 .1 .1 .1 .1 .0) (λ α γ₇ γ₈.
         use3 W (raw (Core 𝓤 H A W at-mem run .pre (to-core α γ₇ γ₈))) (goes-core is α γ₇ γ₈) $
         calls-at ! fm (Core 𝓤 H A W at-mem run) known (to-core α γ₇ γ₈)
         (and-then ! (load ! (from ! (stop !)) (look ! 30 refl)) (and-then ! (load ! (from ! (stop !)) (look ! 28 refl)) (and-then ! (load ! (from ! (stop !)) (look ! 26 refl)) (and-then ! (load ! (from ! (stop !)) (look ! 24 refl)) (and-then ! (load ! (from ! (stop !)) (look ! 22 refl)) (and-then ! (load ! (from ! (stop !)) (look ! 20 refl)) (and-then ! (load ! (from ! (stop !)) (look ! 18 refl)) (and-then ! (load ! (from ! (stop !)) (look ! 16 refl)) (and-then ! (load ! (from ! (stop !)) (look ! 14 refl)) (no-more !)))))))))) (λ v.
         returned ! tt S.the-row Said (‵ (flft (α ∷ []) fullShare) ⊛ ‵ ftrue) v _ (ensured 𝓤 H A core.ended (core.clauses 𝓤 H A at-mem run) (α ∷ [], tt) (to-core α γ₇ γ₈ .0 .3) tt) (id⊢ 𝓤 _) (said-of α γ₇ γ₈) (λ r e is₁.
         let isr = subst (Is S.the-row r) (LL.tells S.the-type S′.the-laws r (v ∷ []) is₁) is₁ in
-        let ws = went-of r isr in
+        let ws = changed-of r isr in
         split ! $ move ! (1 ∷ []) $ drop ! $
         -- [the token; the lender's two parts; the seven cells; …]
         land ! (from ! (stop !)) (init ! 32 refl (LL.lawful S.the-type S′.the-laws 𝓤 H A W .typed r _ is₁ .0)) $
         rewrite ! 32 (λ (us : List Val). ‵ (fat fullShare S′.mir l₂ zero (only us))) (LL.tells S.the-type S′.the-laws r (v ∷ []) is₁) refl $
         unshared ! tt (h .lengths) (h .tags) b o $ move ! (2 ∷ 3 ∷ 4 ∷ 5 ∷ 6 ∷ 7 ∷ 8 ∷ 0 ∷ 1 ∷ []) $
-        assigns ! (of-opd ! (load ! (from ! (fld ! refl (stop !))) (look-in ! 31 (sub ! 1 refl (whole !))))) (from ! (hop ! (look ! 33 refl) (fld ! {d = 472} refl (stop !)))) (store-raw ! 2 refl (typed 𝓤 H A W 2 (r .active) (ws .1 .0) .0)) $
-        assigns ! (of-opd ! (load ! (from ! (fld ! refl (stop !))) (look-in ! 31 (sub ! 2 refl (whole !))))) (from ! (hop ! (look ! 33 refl) (fld ! {d = 480} refl (stop !)))) (store-raw ! 3 refl (typed 𝓤 H A W 3 (r .place) (ws .1 .1 .0) .0)) $
-        assigns ! (of-opd ! (load ! (from ! (fld ! refl (stop !))) (look-in ! 31 (sub ! 3 refl (whole !))))) (from ! (hop ! (look ! 33 refl) (fld ! {d = 488} refl (stop !)))) (store-raw ! 4 refl (typed 𝓤 H A W 4 (r .accounts) (ws .1 .1 .1 .0) .0)) $
-        assigns ! (of-opd ! (load ! (from ! (fld ! refl (stop !))) (look-in ! 31 (sub ! 4 refl (whole !))))) (from ! (hop ! (look ! 33 refl) (fld ! {d = 1_512} refl (stop !)))) (store-raw ! 5 refl (typed 𝓤 H A W 5 (r .start) (ws .1 .1 .1 .1 .0) .0)) $
-        assigns ! (of-opd ! (load ! (from ! (fld ! refl (stop !))) (look-in ! 31 (sub ! 5 refl (whole !))))) (from ! (hop ! (look ! 33 refl) (fld ! {d = 1_576} refl (stop !)))) (store-raw ! 6 refl (typed 𝓤 H A W 6 (r .held) (ws .1 .1 .1 .1 .1 .0) .0)) $
-        assigns ! (of-opd ! (load ! (from ! (fld ! refl (stop !))) (look-in ! 31 (sub ! 0 refl (whole !))))) (from ! (stop !)) (init ! 35 refl (LL.lawful N.the-type N′.the-laws 𝓤 H A W .typed (r .answer) _ (ws .0) .0)) $
-        together ! (moved h r) b o $ closed ! tt (moved h r) (after is r isr) b o $
+        assigns ! (of-opd ! (load ! (from ! (fld ! {τ = type-at 2} {d = 40} refl (stop !))) (look-in ! 31 {τ = type-at 2} (sub ! 1 {τ = type-at 2} {d = 40} refl (whole !))))) (from ! (hop ! (look ! 33 refl) (fld ! {τ = type-at 2} {d = 472} refl (stop !)))) (store-raw ! 2 {τ = type-at 2} refl (typed 𝓤 H A W 2 (r .active) (ws .1 .0) .0)) $
+        assigns ! (of-opd ! (load ! (from ! (fld ! {τ = type-at 3} {d = 48} refl (stop !))) (look-in ! 31 {τ = type-at 3} (sub ! 2 {τ = type-at 3} {d = 48} refl (whole !))))) (from ! (hop ! (look ! 33 refl) (fld ! {τ = type-at 3} {d = 480} refl (stop !)))) (store-raw ! 3 {τ = type-at 3} refl (typed 𝓤 H A W 3 (r .place) (ws .1 .1 .0) .0)) $
+        assigns ! (of-opd ! (load ! (from ! (fld ! {τ = type-at 4} {d = 56} refl (stop !))) (look-in ! 31 {τ = type-at 4} (sub ! 3 {τ = type-at 4} {d = 56} refl (whole !))))) (from ! (hop ! (look ! 33 refl) (fld ! {τ = type-at 4} {d = 488} refl (stop !)))) (store-raw ! 4 {τ = type-at 4} refl (typed 𝓤 H A W 4 (r .accounts) (ws .1 .1 .1 .0) .0)) $
+        assigns ! (of-opd ! (load ! (from ! (fld ! {τ = type-at 5} {d = 1_080} refl (stop !))) (look-in ! 31 {τ = type-at 5} (sub ! 4 {τ = type-at 5} {d = 1_080} refl (whole !))))) (from ! (hop ! (look ! 33 refl) (fld ! {τ = type-at 5} {d = 1_512} refl (stop !)))) (store-raw ! 5 {τ = type-at 5} refl (typed 𝓤 H A W 5 (r .start) (ws .1 .1 .1 .1 .0) .0)) $
+        assigns ! (of-opd ! (load ! (from ! (fld ! {τ = type-at 6} {d = 1_144} refl (stop !))) (look-in ! 31 {τ = type-at 6} (sub ! 5 {τ = type-at 6} {d = 1_144} refl (whole !))))) (from ! (hop ! (look ! 33 refl) (fld ! {τ = type-at 6} {d = 1_576} refl (stop !)))) (store-raw ! 6 {τ = type-at 6} refl (typed 𝓤 H A W 6 (r .held) (ws .1 .1 .1 .1 .1 .0) .0)) $
+        assigns ! (of-opd ! (load ! (from ! (fld ! {d = 0} refl (stop !))) (look-in ! 31 (sub ! 0 {d = 0} refl (whole !))))) (from ! (stop !)) (init ! 35 refl (LL.lawful N.the-type N′.the-laws 𝓤 H A W .typed (r .answer) _ (ws .0) .0)) $
+        together ! (changedLink h r) b o $ closed ! tt (changedLink h r) (after is r isr) b o $
         -- [obs; the borrow; the token; _11; …; _0; …]
         returns ! (look ! 25 refl) $ forget ! 3 refl $ forget ! 5 refl $ forget ! 7 refl $ forget ! 9 refl $ forget ! 11 refl $ forget ! 13 refl $ forget ! 15 refl $ forget ! 17 refl $ forget ! 19 refl $ forget ! 21 refl $ forget ! 23 refl $ forget ! 25 refl $
         move ! (25 ∷ 26 ∷ []) $ free1 ! $ move ! (23 ∷ 24 ∷ []) $ free1 ! $ move ! (21 ∷ 22 ∷ []) $ free1 ! $ move ! (19 ∷ 20 ∷ []) $ free1 ! $ move ! (17 ∷ 18 ∷ []) $ free1 ! $ move ! (15 ∷ 16 ∷ []) $ free1 ! $ move ! (13 ∷ 14 ∷ []) $ free1 ! $ move ! (11 ∷ 12 ∷ []) $ free1 ! $ move ! (9 ∷ 10 ∷ []) $ free1 ! $ move ! (7 ∷ 8 ∷ []) $ free1 ! $ move ! (5 ∷ 6 ∷ []) $ free1 ! $ move ! (3 ∷ 4 ∷ []) $ free1 ! $ free0 ! $

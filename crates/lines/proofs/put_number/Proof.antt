@@ -1,50 +1,75 @@
--- `lines::put_number` meets its contract: the digits, and a space before them.
-use Prim.Native.Nat.{_≤_}
+-- `lines::put_number` meets its contract: a space, then the digits.
+use mathlib.Core.Path.{_∙_}
 use native.Mathlib.Omega.{arith}
 use denote.Ref.{now}
+use lib.ListN.{length-set}
 use Rattle.lines.proofs.Decimals.{decimal-most}
-use Rattle.lines.proofs.Spelling.{number-laid}
+use Rattle.lines.proofs.Laying.{laid-byte, laid-then}
 use borrow.Author.Needs.{needs}
 use Rattle.lines.proofs.put_number.Statement.{statement}
 use Rattle.lines.proofs.put_number.Tie as tie
 
--- at most 20 digits
-few : (c : tie.After-digits) → c .digits .result ≤ 20
-few c = omega (arith, c .digits .ensures, decimal-most (c .before .before .args .n) (omega arith))
-
-add-end : tie.Need-add-end
-add-end c = search needs
-
-digits-requires : tie.Need-digits-requires
-digits-requires c κs = search needs
-
-add-end-2 : tie.Need-add-end-2
-add-end-2 c = omega (arith, few c, c .before .before .pre)
-
-put-digits-requires : tie.Need-put-digits-requires
-put-digits-requires c κs = let d = c .before in (omega (arith, d .digits .ensures), omega (arith, few d, d .before .before .pre))
-
 slice-write-out : tie.Need-slice-write-out
 slice-write-out c = search needs
 
+cast-put-few : tie.Need-cast-put-few
+cast-put-few c = search needs
+
+add-put-few : tie.Need-add-put-few
+add-put-few c = search needs
+
+put-few-requires : tie.Need-put-few-requires
+put-few-requires c κs =
+    let st = c .before .before .before in
+    (omega arith, rw length-set (omega (arith, st .pre)))
+
 same-length : tie.Need-same-length
-same-length c = search needs
+same-length c =
+    let p = c .before .before in
+    let a = p .before .before .before .before .args in
+    p .put-few .kept .1 .1 .0 ∙ length-set (now (a .out)) (a .at) _
 
 returns : tie.Need-returns
 returns c =
     let p = c .before .before in
-    let d = p .before .before in
-    let a = d .before .before .args in
-    (number-laid (a .n) (a .at) (d .digits .result) (now (a .out)) _ (omega arith) (d .digits .ensures) (p .put-digits .ensures), omega (arith, few d))
+    let a = p .before .before .before .before .args in
+    let b = now (a .out) in
+    let whole = laid-then _ _ _ _ _ _ _ _ (omega arith) (laid-byte (a .at) 32 b (omega arith)) (p .put-few .ensures) in
+    (whole, omega (arith, p .put-few .ensures .0, decimal-most (a .n) (omega arith)))
+
+add-put-large : tie.Need-add-put-large
+add-put-large c = search needs
+
+put-large-requires : tie.Need-put-large-requires
+put-large-requires c κs =
+    let st = c .before .before .before in
+    (omega arith, rw length-set (omega (arith, st .pre)))
+
+same-length-2 : tie.Need-same-length-2
+same-length-2 c =
+    let p = c .before .before in
+    let a = p .before .before .before .before .args in
+    p .put-large .kept .1 .1 .0 ∙ length-set (now (a .out)) (a .at) _
+
+returns-2 : tie.Need-returns-2
+returns-2 c =
+    let p = c .before .before in
+    let a = p .before .before .before .before .args in
+    let b = now (a .out) in
+    let whole = laid-then _ _ _ _ _ _ _ _ (omega arith) (laid-byte (a .at) 32 b (omega arith)) (p .put-large .ensures) in
+    (whole, omega (arith, p .put-large .ensures .0, decimal-most (a .n) (omega arith)))
 
 pub put-number-spec : {M : Type 1} → statement M
 put-number-spec =
     tie.close
     (tie.spec
-    add-end
-    digits-requires
-    add-end-2
-    put-digits-requires
     slice-write-out
+    cast-put-few
+    add-put-few
+    put-few-requires
     same-length
-    returns)
+    returns
+    add-put-large
+    put-large-requires
+    same-length-2
+    returns-2)

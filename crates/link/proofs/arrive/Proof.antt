@@ -1,21 +1,9 @@
 -- `link::arrive` meets its contract: a link is made up of its parts, and the packet is laid where the call over them says.
-use mathlib.Core.Path.{sym, _∙_}
-use lib.ListN.{length-map}
-use Rattle.state.specs.Queue.{Shaped}
+use Rattle.state.proofs.Shapes.{shaped}
 use Rattle.link.proofs.OverParts.{unlaid}
 use borrow.Author.Needs.{needs}
 use Rattle.link.proofs.arrive.Statement.{statement}
 use Rattle.link.proofs.arrive.Tie as tie
-
--- the lists of the link have the lengths of its arrays
-shaped : (c : tie.Start) → Shaped (c .args .link)
-shaped c = record {
-  accounts = sym (length-map (c .args .link .accounts) _) ∙ c .good .0 .1 .1 .1 .1 .1 .1 .0 .1 .0 .1;
-  start = search needs;
-  held = search needs;
-  lengths = search needs;
-  tags = search needs;
-}
 
 arrive-of-requires : tie.Need-arrive-of-requires
 arrive-of-requires c κs = search needs
@@ -36,13 +24,13 @@ returns : tie.Need-returns
 returns c =
     let q = c .before .before .before in
     let s = q .before .before .before .before .before .before .before .before in
-    q .arrive-of .ensures (s .args .link .tags) (shaped s)
+    q .arrive-of .ensures (s .args .link .tags) (shaped (s .args .link) _ (s .good .0))
 
 returns-2 : tie.Need-returns-2
 returns-2 c =
     let q = c .before .before .before in
     let s = q .before .before .before .before .before .before .before .before in
-    let shape = shaped s in
+    let shape = shaped (s .args .link) _ (s .good .0) in
     unlaid (s .args .link) (s .args .class) (s .args .packet) (q .arrive-of .result) shape (c .if1 .left) (q .arrive-of .ensures (s .args .link .tags) shape)
 
 pub arrive-spec : {M : Type 1} → statement M

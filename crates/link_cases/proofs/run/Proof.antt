@@ -20,38 +20,20 @@ none-requires-2 c κs = tt
 loop-holds : tie.Need-loop-holds Inv-loop μ-loop
 loop-holds c = tt
 
-sub-after : tie.Need-sub-after Inv-loop μ-loop
-sub-after c = omega arith
+sub-command : tie.Need-sub-command Inv-loop μ-loop
+sub-command c = omega arith
 
-part-after-start : tie.Need-part-after-start Inv-loop μ-loop
-part-after-start c = omega arith
+part-command-start : tie.Need-part-command-start Inv-loop μ-loop
+part-command-start c = omega arith
 
-part-after-end : tie.Need-part-after-end Inv-loop μ-loop
-part-after-end c = omega arith
+part-command-end : tie.Need-part-command-end Inv-loop μ-loop
+part-command-end c = omega arith
 
 after-requires : tie.Need-after-requires Inv-loop μ-loop
 after-requires c κs = tt
 
-sub-kept-after : tie.Need-sub-kept-after Inv-loop μ-loop
-sub-kept-after c = omega arith
-
-part-kept-after-start : tie.Need-part-kept-after-start Inv-loop μ-loop
-part-kept-after-start c = omega arith
-
-part-kept-after-end : tie.Need-part-kept-after-end Inv-loop μ-loop
-part-kept-after-end c = omega arith
-
 kept-after-requires : tie.Need-kept-after-requires Inv-loop μ-loop
 kept-after-requires c κs = tt
-
-sub-size : tie.Need-sub-size Inv-loop μ-loop
-sub-size c = omega arith
-
-part-size-start : tie.Need-part-size-start Inv-loop μ-loop
-part-size-start c = omega arith
-
-part-size-end : tie.Need-part-size-end Inv-loop μ-loop
-part-size-end c = omega arith
 
 size-requires : tie.Need-size-requires Inv-loop μ-loop
 size-requires c κs = tt
@@ -77,17 +59,11 @@ run-spec =
     none-requires
     none-requires-2
     loop-holds
-    sub-after
-    part-after-start
-    part-after-end
+    sub-command
+    part-command-start
+    part-command-end
     after-requires
-    sub-kept-after
-    part-kept-after-start
-    part-kept-after-end
     kept-after-requires
-    sub-size
-    part-size-start
-    part-size-end
     size-requires
     next-requires
     loop-less

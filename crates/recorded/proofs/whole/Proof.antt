@@ -5,7 +5,7 @@ use native.Mathlib.Omega.{arith}
 use denote.Ref.{now}
 use lib.ListN.{length, length-replicate}
 use Rattle.run.proofs.Lines.{stepsLeft, steps-less}
-use Rattle.run.proofs.Parts.{parts-on}
+use Rattle.parts.proofs.Parts.{parts-on}
 use borrow.Author.Needs.{needs}
 use Rattle.recorded.proofs.whole.Statement.{statement}
 use Rattle.recorded.proofs.whole.Tie as tie

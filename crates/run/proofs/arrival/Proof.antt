@@ -1,10 +1,8 @@
 -- `run::arrival` meets its contract.
 use mathlib.Core.Bool.{true}
-use mathlib.Core.Path.{ap, _∙_}
+use mathlib.Core.Path.{ap}
 use Prim.Native.Nat.{_+_}
 use Rattle.lines.specs.declared.Line.{Line}
-use Rattle.link.specs.declared.AfterArrival.{AfterArrival}
-use Rattle.run.specs.Event.{arrivalLine}
 use borrow.Author.Needs.{needs}
 use Rattle.run.proofs.arrival.Statement.{statement}
 use Rattle.run.proofs.arrival.Tie as tie
@@ -25,15 +23,13 @@ returns : tie.Need-returns
 returns c =
     let g = c .before .before .before in
     let st = g .before .before in
-    let a = st .args .a in
-    let did = g .arrive .ensures in
     record {
-      sound = did .sound;
-      exactly = did .exactly;
-      answer =
-          ap (λ (line : Line). record { line = line; more = true; link = g .arrive .result .link; place = st .args .place + 8 }) (c .before .arrival-line .ensures)
-          ∙ ap (λ (r : AfterArrival). record { line = arrivalLine (r .answer) a; more = true; link = r .link; place = st .args .place + 8 }) (did .answer);
-      keeps = did .keeps;
+      answer = g .arrive .result .answer;
+      after = g .arrive .result .link;
+      meets = g .arrive .ensures;
+      step =
+          ap (λ (line : Line). record { line = line; more = true; link = g .arrive .result .link; place = st .args .place + 8 })
+          (c .before .arrival-line .ensures);
     }
 
 pub arrival-spec : {M : Type 1} → statement M

@@ -1,7 +1,7 @@
 -- `run::arrival_line` meets its contract.
 use mathlib.Core.Path.{sym, ap}
 use Rattle.checks.specs.declared.Verdict.{Verdict}
-use Rattle.run.specs.Event.{arrivalSays}
+use Rattle.run.specs.Event.{arrivalSays, packetIn}
 use borrow.Author.Needs.{needs}
 use Rattle.run.proofs.arrival_line.Statement.{statement}
 use Rattle.run.proofs.arrival_line.Tie as tie
@@ -27,12 +27,12 @@ cast-t9 c = search needs
 returns : tie.Need-returns
 returns c =
     let a = c .before .before .before .before .before .args .a in
-    sym (ap (λ (v : Verdict). arrivalSays v a) (c .enum-told .given .1))
+    sym (ap (λ (v : Verdict). arrivalSays v (a .class) (packetIn a)) (c .enum-told .given .1))
 
 returns-2 : tie.Need-returns-2
 returns-2 c =
     let a = c .before .before .before .before .before .before .args .a in
-    sym (ap (λ (v : Verdict). arrivalSays v a) (c .before .verdict .given .1))
+    sym (ap (λ (v : Verdict). arrivalSays v (a .class) (packetIn a)) (c .before .verdict .given .1))
 
 pub arrival-line-spec : {M : Type 1} → statement M
 arrival-line-spec =

@@ -1,10 +1,8 @@
 -- `run::send` meets its contract.
 use mathlib.Core.Bool.{true}
-use mathlib.Core.Path.{ap, _∙_}
+use mathlib.Core.Path.{ap}
 use Prim.Native.Nat.{_+_}
 use Rattle.lines.specs.declared.Line.{Line}
-use Rattle.link.specs.declared.AfterSend.{AfterSend}
-use Rattle.run.specs.Event.{sendLine}
 use borrow.Author.Needs.{needs}
 use Rattle.run.proofs.send.Statement.{statement}
 use Rattle.run.proofs.send.Tie as tie
@@ -22,14 +20,13 @@ returns : tie.Need-returns
 returns c =
     let g = c .before .before .before in
     let st = g .before in
-    let did = g .send .ensures in
     record {
-      sound = did .sound;
-      exactly = did .exactly;
-      answer =
-          ap (λ (line : Line). record { line = line; more = true; link = g .send .result .link; place = st .args .place + 1 }) (c .before .send-line .ensures)
-          ∙ ap (λ (r : AfterSend). record { line = sendLine (r .answer); more = true; link = r .link; place = st .args .place + 1 }) (did .answer);
-      keeps = did .keeps;
+      answer = g .send .result .answer;
+      after = g .send .result .link;
+      meets = g .send .ensures;
+      step =
+          ap (λ (line : Line). record { line = line; more = true; link = g .send .result .link; place = st .args .place + 1 })
+          (c .before .send-line .ensures);
     }
 
 pub send-spec : {M : Type 1} → statement M

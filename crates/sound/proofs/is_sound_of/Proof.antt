@@ -35,52 +35,31 @@ returns-3 c = λ tags. exactly-no (λ p. omega (arith, p .state .place .low, c .
 returns-4 : tie.Need-returns-4
 returns-4 c = λ tags. exactly-no (λ p. omega (arith, p .state .place .high, c .if4 .taken))
 
-adds-up-requires : tie.Need-adds-up-requires
-adds-up-requires c κs =
+classes-right-requires : tie.Need-classes-right-requires
+classes-right-requires c κs =
     let e2 = c .before .before in
     let e1 = e2 .before .before .before in
-    omega (arith, e2 .if2 .left, size e1, size-ceiling _ (rules e1))
+    (rules e1, omega (arith, e2 .if2 .left, size e1, size-ceiling _ (rules e1)))
 
 returns-5 : tie.Need-returns-5
-returns-5 c = λ tags. exactly-no (λ p. not-true-and-false (c .before .adds-up .ensures .complete (p .state .adds .adds)) (not-true _
-    (c .if5 .taken)))
-
-parents-of-requires : tie.Need-parents-of-requires
-parents-of-requires c κs = rules (c .before .before .before .before .before .before .before)
-
-classes-right-requires : tie.Need-classes-right-requires
-classes-right-requires c κs = search needs
-
-returns-6 : tie.Need-returns-6
-returns-6 c = λ tags.
-    let e5 = c .before .before in
-    let e4 = e5 .before .before in
+returns-5 c = λ tags.
+    let e4 = c .before in
     let e3 = e4 .before in
     let e2 = e3 .before in
     let e1 = e2 .before .before .before in
-    let a = e1 .before .before .before .args in
+    let st = e1 .before .before .before in
+    let a = st .args in
     let l = linkOf (a .tree) (a .size) (a .active) (a .place) (a .accounts) (a .start) (a .held) (a .lengths .now) tags in
-    let said = rw (c .before .parents-of .ensures .0) at (c .classes-right .ensures (a .size) tags) in
+    let said = c .classes-right .ensures tags in
     record {
       sound =
           λ e.
           right-to-sound l (rules e1) (sym (e2 .if2 .left) ∙ size e1) (record { low = e3 .if3 .left; high = e4 .if4 .left })
-          (record { adds = e5 .before .adds-up .ensures .sound (not-false _ (e5 .if5 .left)) }) (c .before .parents-of .ensures .1)
-          (said .sound e);
+          (st .fits .active .fits) (said .sound e);
       complete = λ p. said .complete (sound-to-right l (rules e1) p);
     }
 
 pub is-sound-of-spec : {M : Type 1} → statement M
 is-sound-of-spec =
     tie.close
-    (tie.spec
-    plan-size-requires
-    returns
-    returns-2
-    returns-3
-    returns-4
-    adds-up-requires
-    returns-5
-    parents-of-requires
-    classes-right-requires
-    returns-6)
+    (tie.spec plan-size-requires returns returns-2 returns-3 returns-4 classes-right-requires returns-5)

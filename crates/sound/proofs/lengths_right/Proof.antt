@@ -5,6 +5,7 @@ use native.Mathlib.Omega.{arith}
 use borrow.Author.Count.{below-more}
 use borrow.Author.Tests.{eq-eqb, eqb-true}
 use Rattle.checks.proofs.Laws.{exactly-yes}
+use Rattle.state.specs.Queue.{slot}
 use Rattle.sound.proofs.Places.{PlaceAt, places-queue, queue-places}
 use borrow.Author.Needs.{needs}
 use Rattle.sound.proofs.lengths_right.Statement.{statement}
@@ -26,17 +27,14 @@ returns c = exactly-yes (record { low = λ j u. absurd (omega (arith, c .if1 .ta
 loop-holds : tie.Need-loop-holds Inv-loop μ-loop
 loop-holds c = (omega arith, omega arith, λ e m u. absurd (omega arith), λ all. refl)
 
+wide-requires : tie.Need-wide-requires Inv-loop μ-loop
+wide-requires c κs = search needs
+
+slot-requires : tie.Need-slot-requires Inv-loop μ-loop
+slot-requires c κs = search needs
+
 mul-length : tie.Need-mul-length Inv-loop μ-loop
 mul-length c = search needs
-
-cast-length : tie.Need-cast-length Inv-loop μ-loop
-cast-length c = search needs
-
-add-length : tie.Need-add-length Inv-loop μ-loop
-add-length c = search needs
-
-mul-length-2 : tie.Need-mul-length-2 Inv-loop μ-loop
-mul-length-2 c = search needs
 
 element-copy-out-length : tie.Need-element-copy-out-length Inv-loop μ-loop
 element-copy-out-length c = search needs
@@ -62,11 +60,14 @@ loop-less c = search needs
 loop-again : tie.Need-loop-again Inv-loop μ-loop
 loop-again c =
     let o = c .outside .ensures in
-    let h = c .before .before .before in (
+    let p = c .before .before in
+    let h = p .before .before .before in
+    let class = h .before .before .args .class in
+    let lies : p .slot .result ≡ slot class (h .loop .k) = omega (arith, p .slot .ensures .0, p .before .wide .ensures .0) in (
       omega arith,
       omega (arith, o .0),
-      λ e. below-more _ _ (h .loop .inv .2 (omega arith)) (o .1 (omega arith)),
-      λ all. omega (arith, h .loop .inv .3 (λ m u. all m (omega arith)), o .2 (all (h .loop .k) (omega arith))),
+      λ e. below-more _ _ (h .loop .inv .2 (omega arith)) (rw lies at (o .1 (omega arith))),
+      λ all. omega (arith, h .loop .inv .3 (λ m u. all m (omega arith)), o .2 (rw lies (all (h .loop .k) (omega arith)))),
     )
 
 returns-2 : tie.Need-returns-2 Inv-loop μ-loop
@@ -87,10 +88,9 @@ lengths-right-spec =
     μ-loop
     returns
     loop-holds
+    wide-requires
+    slot-requires
     mul-length
-    cast-length
-    add-length
-    mul-length-2
     element-copy-out-length
     add-outside
     sub-outside

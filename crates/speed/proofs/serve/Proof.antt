@@ -295,8 +295,8 @@ module _ {M : Type 1} (𝓤 : URA M) (H : Heap 𝓤) (A : Atoms 𝓤) (W : Given
         qed W (At m (t .event) k) ∵ exec ! C Λ En againᴹ (anyQ (Ends t)) $
         move ! (9 ∷ 10 ∷ []) $ use2 W (raw (Reads 𝓤 H A at-mem run .pre (to-event i j)) ⊛ ‵ Own) (goes-event i j (o .1 .1 .1 .1 .0 .1) (o .1 .1 .1 .1 .1 .0 .1)) $ split ! $
         calls-at-last ! fm (Reads 𝓤 H A at-mem run) (met .0) (to-event i j)
-        (and-then ! (load ! (from ! (stop !)) (look ! 4 refl)) (and-then ! (load ! (from ! (fld ! refl (stop !))) (look-in ! 3 (sub ! 4 refl (whole !))))
-        (and-then ! (load ! (from ! (fld ! refl (stop !))) (look-in ! 3 (sub ! 5 refl (whole !)))) (no-more !)))) (λ u.
+        (and-then ! (load ! (from ! (stop !)) (look ! 4 refl)) (and-then ! (load ! (from ! (fld ! {d = 24} refl (stop !))) (look-in ! 3 (sub ! 4 {d = 24} refl (whole !))))
+        (and-then ! (load ! (from ! (fld ! {d = 32} refl (stop !))) (look-in ! 3 (sub ! 5 {d = 32} refl (whole !)))) (no-more !)))) (λ u.
         event-read ! tt i j u (λ e less is.
         -- [the token; input; _4; _5; …]
         land-last ! (from ! (stop !)) (store ! 3 refl (typed-event e u is)) $ rewrite ! 3 (λ (us : List Val). ‵ (fat fullShare Ev′.mir l₅ zero (only us))) (LL.tells Ev.the-type Ev′.the-laws e (u ∷ []) is) refl $
@@ -315,8 +315,8 @@ module _ {M : Type 1} (𝓤 : URA M) (H : Heap 𝓤) (A : Atoms 𝓤) (W : Given
         loan ! fm (ask-arrive.Lent 𝓤 H A at-mem run) (met .1 .0) N.the-row (λ r m. Arrives h i p (arrivalLeaves r m)) l₄ h (t .known)
         (λ α δ. ask-arrive.to-lent 𝓤 H A W at-mem run l₄ α δ h i p (o .1 .1 .0 .1) (o .1 .1 .1 .0))
         (λ α δ. ask-arrive.goes 𝓤 H A W at-mem run l₄ α δ h i p (o .1 .1 .0 .1) (o .1 .1 .1 .0)) (λ α δ. ask-arrive.given-back 𝓤 H A W at-mem run l₄ α δ h i p (o .1 .1 .0 .1) (o .1 .1 .1 .0))
-        (λ α δ. and-then ! (load ! (from ! (stop !)) (look ! 8 refl)) (and-then ! (load ! (from ! (fld ! refl (stop !))) (look-in ! 2 (sub ! 2 refl (whole !))))
-        (and-then ! (load ! (from ! (fld ! refl (stop !))) (look-in ! 2 (sub ! 3 refl (whole !)))) (no-more !)))) (λ v r m e isr ism.
+        (λ α δ. and-then ! (load ! (from ! (stop !)) (look ! 8 refl)) (and-then ! (load ! (from ! (fld ! {d = 8} refl (stop !))) (look-in ! 2 (sub ! 2 {d = 8} refl (whole !))))
+        (and-then ! (load ! (from ! (fld ! {d = 16} refl (stop !))) (look-in ! 2 (sub ! 3 {d = 16} refl (whole !)))) (no-more !)))) (λ v r m e isr ism.
         land ! (from ! (stop !)) (init ! 4 refl (LL.lawful N.the-type N′.the-laws 𝓤 H A W .typed r _ isr .0)) $
         use0 W (raw (HearsArrival 𝓤 H A at-mem run .pre (to-arrival 𝓤 H A W at-mem run (t .tally) r v))) (goes-arrival 𝓤 H A W at-mem run (t .tally) r v (t .fits) isr) $
         calls-at-last ! fm (HearsArrival 𝓤 H A at-mem run) (met .1 .1 .1 .0) (to-arrival 𝓤 H A W at-mem run (t .tally) r v)
@@ -359,13 +359,13 @@ module _ {M : Type 1} (𝓤 : URA M) (H : Heap 𝓤) (A : Atoms 𝓤) (W : Given
         go : (b : Bool) → t .event .call ≡ b → ent 𝓤 (⋆ 𝓤 H A (Inv t)) (Wp 𝓤 H C Λ En turnᴹ (Ends t))
         go true on =
             qed W (Inv t) ∵ exec ! C Λ En turnᴹ (anyQ (Ends t)) $
-            assigns ! (of-opd ! (load ! (from ! (fld ! refl (stop !))) (look-in ! 1 (sub ! 0 refl (whole !))))) (from ! (stop !)) (init ! 6 refl (tt, tt)) $
+            assigns ! (of-opd ! (load ! (from ! (fld ! {d = 0} refl (stop !))) (look-in ! 1 (sub ! 0 {d = 0} refl (whole !))))) (from ! (stop !)) (init ! 6 refl (tt, tt)) $
             rewrite ! 6 (λ (b : Bool). ‵ (fat fullShare tyBool l₉ zero (vbool b))) on refl $ stays ! (load ! (from ! (stop !)) (look ! 6 refl)) $
-            assigns ! (of-opd ! (load ! (from ! (fld ! refl (stop !))) (look-in ! 1 (sub ! 1 refl (whole !))))) (from ! (stop !)) (store ! 6 refl (tt, tt)) $
+            assigns ! (of-opd ! (load ! (from ! (fld ! {d = 1} refl (stop !))) (look-in ! 1 (sub ! 1 {d = 1} refl (whole !))))) (from ! (stop !)) (store ! 6 refl (tt, tt)) $
             first ! $ branches ! (load ! (from ! (stop !)) (look ! 6 refl)) (λ _. forget ! 6 refl $ by ! (arrives t on)) (λ _. forget ! 6 refl $ by ! (sends t on))
         go false off =
             qed W (Inv t) ∵ exec ! C Λ En turnᴹ (anyQ (Ends t)) $
-            assigns ! (of-opd ! (load ! (from ! (fld ! refl (stop !))) (look-in ! 1 (sub ! 0 refl (whole !))))) (from ! (stop !)) (init ! 6 refl (tt, tt)) $
+            assigns ! (of-opd ! (load ! (from ! (fld ! {d = 0} refl (stop !))) (look-in ! 1 (sub ! 0 {d = 0} refl (whole !))))) (from ! (stop !)) (init ! 6 refl (tt, tt)) $
             rewrite ! 6 (λ (b : Bool). ‵ (fat fullShare tyBool l₉ zero (vbool b))) off refl $ leaves-loop ! (load ! (from ! (stop !)) (look ! 6 refl)) $ forget ! 6 refl $ by ! (ends t)
 
     turns : (t : Turn) → ent 𝓤 (⋆ 𝓤 H A (Inv t)) (Wp 𝓤 H C Λ En (loop turnᴹ) Left)

@@ -1,6 +1,12 @@
 -- `steps::send_values` meets its contract.
+use mathlib.Core.List.{List}
 use mathlib.Core.Path.{_≡_, refl}
+use Prim.Native.Nat.{ℕ}
 use lib.ListN.{length}
+use Rattle.checks.proofs.Laws.{not-true-and-false}
+use Rattle.sets.proofs.Laws.{has-empty}
+use Rattle.tree.specs.declared.Tree.{Tree}
+use Rattle.steps.specs.Rounds.{Kept}
 use Rattle.steps.proofs.Wholes.{values-parts, values-wide, values-moves}
 use borrow.Author.Needs.{needs}
 use Rattle.steps.proofs.send_values.Statement.{statement}
@@ -10,6 +16,10 @@ use Rattle.steps.proofs.send_values.Tie as tie
 many : (c : tie.Start) → length (c .args .accounts) ≡ 64
 many c = c .good .1 .1 .1 .0 .1 .0 .1
 
+-- no weight sums are kept
+none-kept : (t : Tree) (kept : List ℕ) → Kept t 0 kept
+none-kept t kept on = absurd (not-true-and-false on (has-empty 0))
+
 balances-requires : tie.Need-balances-requires
 balances-requires c κs = search needs
 
@@ -18,15 +28,15 @@ residuals-requires c κs = search needs
 
 send-requires : tie.Need-send-requires
 send-requires c κs =
-    let z = c .before .before .before .before .before in
+    let z = c .before .before .before .before .before .before in
     let y = z .before in
     let st = y .before .before in
-    ((st .pre .0, values-parts (many st) (st .pre .1) _ _ (y .balances .ensures) (z .residuals .ensures)), refl)
+    ((st .pre .0, values-parts (many st) (st .pre .1) _ _ (y .balances .ensures) (z .residuals .ensures)), refl, none-kept _ _)
 
 zipped-requires : tie.Need-zipped-requires
 zipped-requires c κs =
     let g = c .before .before in
-    let z = g .before .before .before .before .before .before in
+    let z = g .before .before .before .before .before .before .before in
     let y = z .before in
     let st = y .before .before in
     let parts = values-parts (many st) (st .pre .1) _ _ (y .balances .ensures) (z .residuals .ensures) in
@@ -36,7 +46,7 @@ returns : tie.Need-returns
 returns c =
     let k = c .before in
     let g = k .before .before .before in
-    let z = g .before .before .before .before .before .before in
+    let z = g .before .before .before .before .before .before .before in
     let y = z .before in
     let st = y .before .before in
     λ size sound.

@@ -1,4 +1,4 @@
--- `reader::put_class` meets its contract: row 3, then rows 4, 5 and 6.
+-- `reader::put_class` meets its contract: number 3, then numbers 4, 5 and 6.
 use mathlib.Core.Path.{refl, sym, _∙_}
 use Prim.Native.Nat.{_+_}
 use native.Mathlib.Omega.{arith}

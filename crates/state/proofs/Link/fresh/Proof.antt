@@ -18,7 +18,8 @@ array-set-from-accounts c = search needs
 returns : tie.Need-returns
 returns c =
     let z = c .before in
-    let q : z .round-size .result ≡ record { 0 = roundSize (z .before .args .tree) } = ap (λ (n : ℕ). record { 0 = n }) (z .round-size .ensures) in
+    let q : z .round-size .result
+    ≡ record { 0 = roundSize (z .before .args .tree) } = ap (λ (n : ℕ). record { 0 = n }) (z .round-size .ensures) in
     rw (c .none .ensures, q)
 
 pub fresh-spec : {M : Type 1} → statement M

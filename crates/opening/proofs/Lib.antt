@@ -1,0 +1,2 @@
+pub mod Zips
+pub mod Openings

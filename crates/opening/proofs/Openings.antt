@@ -1,0 +1,179 @@
+-- An opening over lent accounts, class by class.
+use mathlib.Core.Bool.{Bool, true, false, cond, not, _&&_}
+use mathlib.Core.List.{List, append-nil}
+use mathlib.Core.Path.{_≡_, refl, sym, ap, _∙_}
+use Prim.Native.Nat.{ℕ, _+_, _-_, _*_, _/_, _^_, _≤_, _<_}
+use native.Mathlib.Nat.{div-zero}
+use native.Mathlib.Omega.{arith}
+use lib.ListN.{length, getD, set, drop, replicate, length-append, length-drop, drop-of-length-le}
+use borrow.Author.Tests.{ne-eqb}
+use Rattle.checks.proofs.Laws.{not-true-and-false}
+use Rattle.sets.specs.Set.{has}
+use Rattle.sets.proofs.Laws.{has-not}
+use Rattle.units.specs.declared.Weight.{Weight}
+use Rattle.units.specs.Unit.{dueOf, surplusOf}
+use Rattle.tree.specs.declared.Tree.{Tree}
+use Rattle.tree.specs.Class.{noWeight, parentOf, weightOf, isClass, isLeaf, isInner}
+use Rattle.tree.proofs.Rules.{parent-no-leaf, parent-below}
+use Rattle.tree.specs.Size.{mostSize}
+use Rattle.state.specs.declared.Account.{Account}
+use Rattle.state.specs.Account.{noAccount, accountOf, fundsOf, tookQuota, handedDown}
+use Rattle.state.specs.Queue.{table}
+use Rattle.state.proofs.Tables.{table-none, table-length, table-fill, table-front, table-over, table-behind}
+use Rattle.rules.specs.Active.{weightSum, weightSums}
+use Rattle.rules.specs.Opening.{Kind, kindIs, surplusAt, hasSurplus, rootOpened, rootQuota, quota, due, handsDown, openedLeaf, openedInner}
+use Rattle.rules.specs.Opening.{openedAccount, openedAccounts}
+use Rattle.rules.specs.Steps.{CanOpen}
+use Rattle.rules.proofs.Sums.{sum-without, sums-at}
+use Rattle.rules.proofs.Shares.{quota-root, quota-step, quota-inactive, due-most}
+use Rattle.opening.specs.declared.Shared.{Shared}
+use Rattle.opening.specs.Parts.{zipAccounts}
+use Rattle.opening.specs.Opens.{rootShared, classShared, Opening}
+
+abbrev both : Account → ℕ → Shared
+both a q = record { account = a; quota = q }
+
+-- the root's step
+root-shares : (surplus : Bool) (t : Tree) (active : ℕ) (accounts : List Account)
+    → rootShared surplus (weightSum t active 0) (accountOf accounts 0)
+    ≡ both (rootOpened (kindIs surplus) t active (accountOf accounts 0)) (rootQuota (kindIs surplus) t active accounts)
+root-shares true t active accounts = refl
+root-shares false t active accounts =
+    let a = accountOf accounts 0 in
+    let s = weightSum t active 0 in
+    let e : fundsOf a + 0 ≡ fundsOf a = omega arith in
+    ap (λ (n : ℕ). both (handedDown (tookQuota a 0) (dueOf s (n / s))) (n / s)) e
+
+module _ (kind : Kind) (t : Tree) (active : ℕ) (accounts : List Account) (can : CanOpen t active accounts) where
+  -- a leaf shares out nothing
+  leaf-none : (i : ℕ) → 1 ≤ i → i < 64 → isLeaf t i ≡ true → quota kind t active accounts i ≡ 0
+  leaf-none i l u leaf =
+      quota-step kind t active accounts (can .rules) i l u
+      ∙ ap (λ (w : ℕ). (fundsOf (accountOf accounts i) + weightOf t i * quota kind t active accounts (parentOf t i)) / w)
+      (sum-without t active i (λ k is e a. not-true-and-false (ap (isLeaf t) e ∙ leaf) (parent-no-leaf t k (can .rules) is)))
+      ∙ div-zero _
+
+  -- a class's step
+  class-shares : (i : ℕ) → 1 ≤ i → i < 64
+      → classShared (has active i) (isLeaf t i) (weightSum t active i) (dueOf (weightOf t i) (quota kind t active accounts (parentOf t i)))
+      (accountOf accounts i)
+      ≡ both (openedAccount kind t active accounts i) (quota kind t active accounts i)
+  unfolding openedAccount openedLeaf openedInner due handsDown
+  class-shares i l u = rw (ne-eqb i 0 (λ z. omega arith)) (go (has active i) refl (isLeaf t i) refl)
+    where
+      go : (x : Bool) → has active i ≡ x → (y : Bool) → isLeaf t i ≡ y
+          → classShared x y (weightSum t active i) (dueOf (weightOf t i) (quota kind t active accounts (parentOf t i)))
+          (accountOf accounts i)
+          ≡ both
+          (cond x
+          (cond y
+          (tookQuota (accountOf accounts i) (dueOf (weightOf t i) (quota kind t active accounts (parentOf t i))))
+          (handedDown (tookQuota (accountOf accounts i) (dueOf (weightOf t i) (quota kind t active accounts (parentOf t i))))
+          (dueOf (weightSum t active i) (quota kind t active accounts i))))
+          (accountOf accounts i))
+          (quota kind t active accounts i)
+      go false off y e = ap (both (accountOf accounts i)) (sym (quota-inactive kind t active accounts can i l u off))
+      go true on true leaf =
+          ap (both (tookQuota (accountOf accounts i) (dueOf (weightOf t i) (quota kind t active accounts (parentOf t i)))))
+          (sym (leaf-none i l u leaf))
+      go true on false inner =
+          ap (λ (q : ℕ). both (handedDown
+          (tookQuota (accountOf accounts i) (dueOf (weightOf t i) (quota kind t active accounts (parentOf t i))))
+          (dueOf (weightSum t active i) q)) q)
+          (sym (quota-step kind t active accounts (can .rules) i l u))
+
+  module _ (i : ℕ) (l : 1 ≤ i) (u : i < 64) {q : List ℕ} (b r : List ℕ) (o : Opening kind t active accounts i q b r) where
+    -- there are as many accounts, the parent's quota is there, the account at hand has not opened yet
+    pub opening-wide : length (zipAccounts b r) ≡ 64
+    opening-wide =
+        ap length (o .opened) ∙ length-append (table (openedAccount kind t active accounts) i) (drop i accounts)
+        ∙ omega (arith, table-length (openedAccount kind t active accounts) i, length-drop i accounts, can .many)
+
+    parents : getD q (parentOf t i) 0 ≡ quota kind t active accounts (parentOf t i)
+    parents =
+        ap (λ (xs : List ℕ). getD xs (parentOf t i) 0) (o .shares)
+        ∙ table-front (quota kind t active accounts) 0 64 i (parentOf t i) (parent-below t i (can .rules) l u)
+
+    at-hand : accountOf (zipAccounts b r) i ≡ accountOf accounts i
+    at-hand =
+        ap (λ (xs : List Account). accountOf xs i) (o .opened)
+        ∙ table-behind (openedAccount kind t active accounts) noAccount accounts i (omega (arith, can .many))
+
+    pub opening-funds : fundsOf (accountOf (zipAccounts b r) i) ≤ mostSize
+    opening-funds = rw at-hand (can .small i u)
+
+    pub opening-due : weightOf t i * getD q (parentOf t i) 0 ≤ 64 * mostSize * 1_000_000
+    opening-due = rw parents (due-most kind t active accounts can i u)
+
+    -- one class on
+    pub opening-on : (b′ r′ : List ℕ) {s : Shared} {d : ℕ} {on leaf : Bool} {x : Account} (sums : List Weight)
+        → sums ≡ weightSums t active → on ≡ has active i → leaf ≡ has (t .leaves) i → d ≡ dueOf (weightOf t i) (getD q (parentOf t i) 0)
+        → x ≡ accountOf (zipAccounts b r) i → s ≡ classShared on leaf (getD sums i noWeight .0) d x
+        → zipAccounts b′ r′ ≡ set (zipAccounts b r) i (s .account)
+        → Opening kind t active accounts (i + 1) (set q i (s .quota)) b′ r′
+    unfolding isLeaf
+    opening-on b′ r′ {s} {d} {on} {leaf} {x} sums w e f g h k y =
+        let sum : getD sums i noWeight .0 ≡ weightSum t active i = ap (λ (xs : List Weight). getD xs i noWeight .0) w
+        ∙ sums-at t active i u in
+        let is : s ≡ both (openedAccount kind t active accounts i) (quota kind t active accounts i) =
+        k ∙ rw (e, f, g, h, sum, parents, at-hand) (class-shares i l u)
+        in
+        record {
+          shares = rw (is, o .shares) (table-fill (quota kind t active accounts) 0 64 i u);
+          opened =
+              y ∙ rw (is, o .opened) (table-over (openedAccount kind t active accounts) noAccount accounts i (omega (arith, can .many)));
+        }
+
+-- it starts with the root
+pub opening-starts : (surplus : Bool) (t : Tree) (active : ℕ) (accounts : List Account) → CanOpen t active accounts
+    → (b r : List ℕ) {s : Shared} {x : Account} (sums : List Weight)
+    → sums ≡ weightSums t active → x ≡ accountOf accounts 0 → s ≡ rootShared surplus (getD sums 0 noWeight .0) x
+    → zipAccounts b r ≡ set accounts 0 (s .account)
+    → Opening (kindIs surplus) t active accounts 1 (set (replicate 64 0) 0 (s .quota)) b r
+unfolding openedAccount
+opening-starts surplus t active accounts can b r {s} {x} sums w h k y =
+    let sum : getD sums 0 noWeight .0 ≡ weightSum t active 0 = ap (λ (xs : List Weight). getD xs 0 noWeight .0) w
+    ∙ sums-at t active 0 (omega arith) in
+    let is : s ≡ both (rootOpened (kindIs surplus) t active (accountOf accounts 0)) (quota (kindIs surplus) t active accounts 0) =
+    k ∙ rw (h, sum) (root-shares surplus t active accounts)
+    ∙ ap (both (rootOpened (kindIs surplus) t active (accountOf accounts 0))) (sym (quota-root (kindIs surplus) t active accounts))
+    in
+    let q = quota (kindIs surplus) t active accounts in
+    let f = openedAccount (kindIs surplus) t active accounts in
+    record {
+      shares = rw is (rw (table-none q) at (table-fill q 0 64 0 (omega arith)));
+      opened = y ∙ rw is (rw (table-none f) at (table-over f noAccount accounts 0 (omega (arith, can .many))));
+    }
+
+-- and ends with all
+pub opening-ends : (kind : Kind) (t : Tree) (active : ℕ) (accounts : List Account) → CanOpen t active accounts → (i : ℕ) → i ≡ 64
+    → {q : List ℕ} (b r : List ℕ)
+    → Opening kind t active accounts i q b r → zipAccounts b r ≡ openedAccounts kind t active accounts
+unfolding openedAccounts
+opening-ends kind t active accounts can i e b r o =
+    let end : length accounts ≤ 64 = omega (arith, can .many) in
+    o .opened ∙ rw (e, drop-of-length-le accounts end) (append-nil (table (openedAccount kind t active accounts) 64))
+
+-- the surplus of a class, when it is told whether it is a leaf and whether it is active
+pub surplus-by : (t : Tree) (active : ℕ) (accounts : List Account) (i : ℕ) (u : i < 64) {leaf on : Bool} {a : Account} (sums : List Weight)
+    → isClass t i ≡ true
+    → sums ≡ weightSums t active → leaf ≡ has (t .leaves) i → on ≡ has active i → a ≡ accountOf accounts i
+    → (not leaf && on && surplusOf (fundsOf a) (getD sums i noWeight .0)) ≡ hasSurplus t active accounts i
+unfolding hasSurplus surplusAt isInner isLeaf
+surplus-by t active accounts i u {leaf} {on} {a} sums is w l o e =
+    let sum : getD sums i noWeight .0 ≡ weightSum t active i = ap (λ (xs : List Weight). getD xs i noWeight .0) w ∙ sums-at t active i u in
+    rw (is, l, o, e, sum) refl
+
+-- a class that is not both active and no leaf has no surplus
+pub not-inner : (t : Tree) (active : ℕ) (accounts : List Account) (k : ℕ) → k < 64 → t .leaves < 2 ^ 64
+    → (has active k && has (2 ^ 64 - 1 - t .leaves) k) ≡ false → hasSurplus t active accounts k ≡ false
+unfolding hasSurplus surplusAt isInner isLeaf
+not-inner t active accounts k u fits e =
+    go (isClass t k) (has active k) (has (t .leaves) k) (surplusOf (fundsOf (accountOf accounts k)) (weightSum t active k))
+    (ap (λ (b : Bool). has active k && b) (sym (has-not (t .leaves) k fits u)) ∙ e)
+  where
+    go : (is on leaf more : Bool) → (on && not leaf) ≡ false → ((is && not leaf) && on && more) ≡ false
+    go false on leaf more z = refl
+    go true on true more z = refl
+    go true false false more z = refl
+    go true true false more z = absurd (not-true-and-false refl z)

@@ -1,0 +1,34 @@
+-- The steps of an opening over lent accounts.
+use mathlib.Core.Bool.{Bool, cond}
+use mathlib.Core.List.{List, _++_}
+use mathlib.Core.Path.{_≡_}
+use Prim.Native.Nat.{ℕ, _+_, _-_}
+use lib.ListN.{drop, replicate}
+use Rattle.units.specs.Unit.{dueOf, quotaOf}
+use Rattle.tree.specs.declared.Tree.{Tree}
+use Rattle.state.specs.declared.Account.{Account}
+use Rattle.state.specs.Account.{fundsOf, tookQuota, handedDown}
+use Rattle.state.specs.Queue.{table}
+use Rattle.rules.specs.Opening.{Kind, quota, openedAccount}
+use Rattle.opening.specs.declared.Shared.{Shared}
+use Rattle.opening.specs.Parts.{zipAccounts}
+
+-- an account that takes its due and shares out what it has over a weight sum
+abbrev pub sharedOut : ℕ → Account → ℕ → Shared
+sharedOut sum a due = record {
+  account = handedDown (tookQuota a due) (dueOf sum (quotaOf (fundsOf a + due) sum));
+  quota = quotaOf (fundsOf a + due) sum;
+}
+
+-- the root, and a class other than the root
+abbrev pub rootShared : Bool → ℕ → Account → Shared
+rootShared surplus sum a = cond surplus (record { account = a; quota = 0 }) (sharedOut sum a 0)
+
+abbrev pub classShared : Bool → Bool → ℕ → ℕ → Account → Shared
+classShared on leaf sum due a =
+    cond on (cond leaf (record { account = tookQuota a due; quota = 0 }) (sharedOut sum a due)) (record { account = a; quota = 0 })
+
+-- the opening has come to class i
+pub record Opening (kind : Kind) (t : Tree) (active : ℕ) (accounts : List Account) (i : ℕ) (quotas balance residual : List ℕ) : Type 0 where
+  pub shares : quotas ≡ table (quota kind t active accounts) i ++ replicate (64 - i) 0
+  pub opened : zipAccounts balance residual ≡ table (openedAccount kind t active accounts) i ++ drop i accounts

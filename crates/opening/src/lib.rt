@@ -1,0 +1,180 @@
+// A round opens: main or surplus, and what each account then shares out. Who is active with the weight sums, and the accounts as lent
+// arrays, stand in the modules. Named for specs/Opens. Serves demand 2.
+mod accounts;
+mod active;
+
+pub use accounts::account_of;
+pub use accounts::balances;
+pub use accounts::keep;
+pub use accounts::keep_balance;
+pub use accounts::residuals;
+pub use accounts::zipped;
+pub use active::round_active;
+pub use active::sum_numbers;
+pub use active::sums_of;
+pub use active::weight_sums;
+ghost use mathlib.Core.Path.{_≡_};
+ghost use mathlib.Core.Bool.{not, _&&_};
+ghost use Prim.Native.Nat.{_*_, _≤_};
+ghost use Rattle.state.specs.Account.{fundsOf};
+ghost use Rattle.rules.specs.Steps.{CanOpen};
+ghost use Rattle.rules.specs.Active.{weightSums};
+ghost use Rattle.tree.specs.Size.{mostSize};
+ghost use Rattle.rules.specs.Opening.{kindIs, kindOf, openedAccounts};
+ghost use Rattle.opening.specs.Opens.{sharedOut, rootShared, classShared};
+ghost use Rattle.units.specs.Unit.{surplusOf};
+ghost use Rattle.opening.specs.Parts.{zipAccounts};
+use state::Account;
+use state::Link;
+use tree::Tree;
+use units::Bytes;
+use units::Weight;
+
+// An account after an opening, and the quota it shares out.
+pub struct Shared {
+    pub account: Account,
+    pub quota: u64,
+}
+
+// An account takes its due and shares out what it has over a weight sum.
+fn share_out(sum: Weight, a: Account, due: Bytes) -> Shared
+    requires { ⌜ (fundsOf a ≤ mostSize) × (due .0 ≤ 64 * mostSize * 1_000_000) ⌝ }
+    ensures { λ r. ⌜ r ≡ sharedOut (sum .0) a (due .0) ⌝ }
+{
+    let taken = a.take_quota(due);
+    let has = taken.balance;
+    let quota = units::quota(has, sum);
+    let account = taken.hand_down(units::due(sum, quota));
+    Shared { account, quota }
+}
+
+// The root when a round opens.
+fn open_root(surplus: bool, sum: Weight, a: Account) -> Shared
+    requires { ⌜ fundsOf a ≤ mostSize ⌝ }
+    ensures { λ r. ⌜ r ≡ rootShared surplus (sum .0) a ⌝ }
+{
+    if surplus {
+        return Shared {
+            account: a,
+            quota: 0,
+        };
+    }
+    share_out(sum, a, Bytes(0))
+}
+
+// A class other than the root.
+fn open_class(on: bool, leaf: bool, sum: Weight, due: Bytes, a: Account) -> Shared
+    requires { ⌜ (fundsOf a ≤ mostSize) × (due .0 ≤ 64 * mostSize * 1_000_000) ⌝ }
+    ensures { λ r. ⌜ r ≡ classShared on leaf (sum .0) (due .0) a ⌝ }
+{
+    if !on {
+        return Shared {
+            account: a,
+            quota: 0,
+        };
+    }
+    if leaf {
+        let account = a.take_quota(due);
+        return Shared { account, quota: 0 };
+    }
+    share_out(sum, a, due)
+}
+
+// The accounts when a round opens: top down, one pass.
+fn open_accounts(
+    tree: Tree,
+    active: u64,
+    surplus: bool,
+    sums: [Weight; 64],
+    balance: &mut [u64; 64],
+    residual: &mut [u64; 64],
+)
+    requires { ⌜ CanOpen tree active (zipAccounts (now balance) (now residual)) × (sums ≡ weightSums tree active) ⌝ }
+    ensures { λ _. ⌜ zipAccounts (now (balance .exit)) (now (residual .exit))
+        ≡ openedAccounts (kindIs surplus) tree active (zipAccounts (now (balance .entry)) (now (residual .entry))) ⌝ }
+{
+    let mut quotas = [0u64; 64];
+    let s = sums[0];
+    let root = open_root(surplus, s, account_of(0, balance, residual));
+    quotas[0] = root.quota;
+    let first = root.account;
+    keep(0, first, balance, residual);
+    let mut i: usize = 1;
+    while i < 64 {
+        let p = tree.parent[i] as usize;
+        let w = tree.weight[i];
+        let s = sums[i];
+        let due = units::due(w, quotas[p]);
+        let one = open_class(
+            sets::has(active, i),
+            sets::has(tree.leaves, i),
+            s,
+            due,
+            account_of(i, balance, residual),
+        );
+        quotas[i] = one.quota;
+        let account = one.account;
+        keep(i, account, balance, residual);
+        i += 1;
+    }
+}
+
+// Whether a class is inner and active and has a surplus.
+fn class_surplus(on: bool, leaf: bool, sum: Weight, a: Account) -> bool
+    requires { ⌜ fundsOf a ≤ mostSize ⌝ }
+    ensures { λ r. ⌜ r ≡ (not leaf && on && surplusOf (fundsOf a) (sum .0)) ⌝ }
+{
+    if leaf {
+        return false;
+    }
+    if !on {
+        return false;
+    }
+    units::surplus(a.funds(), sum)
+}
+
+// Whether the round that opens is a surplus round: some class has one, from the first active inner class on.
+fn is_surplus(
+    tree: Tree,
+    active: u64,
+    sums: [Weight; 64],
+    balance: &[u64; 64],
+    residual: &[u64; 64],
+) -> bool
+    requires { ⌜ CanOpen tree active (zipAccounts (now balance) (now residual)) × (sums ≡ weightSums tree active) ⌝ }
+    ensures { λ r. ⌜ kindIs r ≡ kindOf tree active (zipAccounts (now (balance .entry)) (now (residual .entry))) ⌝ }
+{
+    let last = tree.count;
+    let inner = sets::both(active, !tree.leaves);
+    let mut i = sets::next(inner, 1);
+    while i <= last {
+        let s = sums[i];
+        if class_surplus(
+            sets::has(active, i),
+            sets::has(tree.leaves, i),
+            s,
+            account_of(i, balance, residual),
+        ) {
+            return true;
+        }
+        i += 1;
+    }
+    false
+}
+
+// A round opens: the accounts are shared out, in a main round or a surplus round.
+pub fn open_round(
+    tree: Tree,
+    active: u64,
+    sums: [Weight; Link::CLASSES],
+    balance: &mut [u64; 64],
+    residual: &mut [u64; 64],
+)
+    requires { ⌜ CanOpen tree active (zipAccounts (now balance) (now residual)) × (sums ≡ weightSums tree active) ⌝ }
+    ensures { λ _. ⌜ zipAccounts (now (balance .exit)) (now (residual .exit))
+        ≡ openedAccounts (kindOf tree active (zipAccounts (now (balance .entry)) (now (residual .entry)))) tree active
+        (zipAccounts (now (balance .entry)) (now (residual .entry))) ⌝ }
+{
+    let surplus = is_surplus(tree, active, sums, balance, residual);
+    open_accounts(tree, active, surplus, sums, balance, residual);
+}

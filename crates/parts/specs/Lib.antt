@@ -1,0 +1,3 @@
+-- A run by parts.
+pub mod Part
+pub mod Steps

@@ -1,0 +1,23 @@
+-- The lists of a link that the code holds have the lengths of its arrays. Demands 1 and 2.
+use mathlib.Core.List.{List}
+use mathlib.Core.Path.{sym, _∙_}
+use lib.ListN.{length-map}
+use mir.Val.{Val}
+use denote.Laws.{Is}
+use denote.Struct.Laws as LL
+use Rattle.state.specs.declared.Link.{Link}
+use Rattle.state.specs.Queue.{Shaped}
+use Rattle.state.proofs.Link as L
+use Rattle.state.proofs.Link.Laws as L′
+
+-- what is known of a record's machine values says so: `c .good .0` of a link by value, what a `&mut Link` holds
+pub shaped : (l : Link) (values : List Val) → Is L.the-row l values → Shaped l
+shaped l values is =
+    let o = LL.owed L.the-type L′.the-laws l values is .1 .1 .1 .1 in
+    record {
+      accounts = sym (length-map (l .accounts) _) ∙ o .0 .1 .0 .1;
+      start = sym (length-map (l .start) _) ∙ o .1 .0 .1 .0 .1;
+      held = sym (length-map (l .held) _) ∙ o .1 .1 .0 .1 .0 .1;
+      lengths = sym (length-map (l .lengths) _) ∙ o .1 .1 .1 .0 .1 .0 .1;
+      tags = sym (length-map (l .tags) _) ∙ o .1 .1 .1 .1 .0 .1 .0 .1;
+    }

@@ -1,0 +1,84 @@
+-- `leaf::goes` meets its contract.
+use native.Mathlib.Omega.{arith}
+use Rattle.steps.specs.Parts.{lentLink}
+use Rattle.steps.proofs.Goings.{goes-first, goes-takes, goes-pays, goes-off, goes-more, goes-last}
+use borrow.Author.Needs.{needs}
+use Rattle.steps.proofs.leaf.goes.Statement.{statement}
+use Rattle.steps.proofs.leaf.goes.Tie as tie
+
+first-requires : tie.Need-first-requires
+first-requires c κs = goes-first (c .before .pre .3)
+
+cost-requires : tie.Need-cost-requires
+cost-requires c κs = search needs
+
+pay-requires : tie.Need-pay-requires
+pay-requires c κs =
+    let k = c .before .before in
+    let f = k .before in
+    let st = f .before .before in
+    goes-pays (st .pre .3) (f .first .ensures) (k .cost .ensures)
+
+element-copy-out-wide : tie.Need-element-copy-out-wide
+element-copy-out-wide c = search needs
+
+wide-requires : tie.Need-wide-requires
+wide-requires c κs = search needs
+
+take-requires : tie.Need-take-requires
+take-requires c κs =
+    let st = c .before .before .before .before .before .before .before .before .before .before in
+    goes-takes (st .pre .3)
+
+returns : tie.Need-returns
+returns c =
+    let m = c .before in
+    let w = m .before .before .before in
+    let y = w .before .before in
+    let k = y .before .before .before in
+    let f = k .before in
+    let a = f .before .before .args in
+    λ t size place s. (
+      f .first .ensures (lentLink t size (a .active) place (a .balance .now) (a .residual .now) (a .start .now) (a .held .now)
+          (a .lengths .now) (a .tags .now)) (a .held .now),
+      goes-more s (f .first .ensures) (k .cost .ensures) _ _ (y .pay .ensures) (λ l. m .take .ensures l (a .lengths .now) (a .tags .now))
+          (omega (arith, w .wide .ensures, c .if1 .taken)),
+    )
+
+turn-off-requires : tie.Need-turn-off-requires
+turn-off-requires c κs =
+    let y = c .before .before .before .before .before .before .before .before in
+    let k = y .before .before .before in
+    let f = k .before in
+    let st = f .before .before in
+    goes-off (st .pre .3) (f .first .ensures) (k .cost .ensures) _ _ (y .pay .ensures)
+
+returns-2 : tie.Need-returns-2
+returns-2 c =
+    let g = c .before .before .before in
+    let m = g .before in
+    let w = m .before .before .before in
+    let y = w .before .before in
+    let k = y .before .before .before in
+    let f = k .before in
+    let a = f .before .before .args in
+    λ t size place s. (
+      f .first .ensures (lentLink t size (a .active) place (a .balance .now) (a .residual .now) (a .start .now) (a .held .now)
+          (a .lengths .now) (a .tags .now)) (a .held .now),
+      goes-last s (f .first .ensures) (k .cost .ensures) _ _ (y .pay .ensures) (λ l. m .take .ensures l (a .lengths .now) (a .tags .now))
+          (omega (arith, w .wide .ensures, g .if1 .left)) _ _ _ (c .turn-off .ensures),
+    )
+
+pub goes-spec : {M : Type 1} → statement M
+goes-spec =
+    tie.close
+    (tie.spec
+    first-requires
+    cost-requires
+    pay-requires
+    element-copy-out-wide
+    wide-requires
+    take-requires
+    returns
+    turn-off-requires
+    returns-2)

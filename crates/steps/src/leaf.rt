@@ -1,0 +1,108 @@
+// The leaf that sends next: found by its balance, it pays for its first packet, which leaves its queue.
+// Serves demand 2.
+ghost use mathlib.Core.Path.{_≡_};
+ghost use Prim.Native.Nat.{ℕ, _<_, _≤_};
+ghost use lib.ListN.{getD};
+ghost use Rattle.state.specs.Account.{balanceOf};
+ghost use Rattle.rules.specs.Sending.{paidBy, nextLeaf};
+ghost use Rattle.rules.specs.Steps.{Fit};
+ghost use Rattle.state.specs.declared.Link.{Link};
+ghost use Rattle.state.specs.Queue.{packetAt};
+ghost use Rattle.state.specs.State.{meaning};
+ghost use Rattle.tree.specs.declared.Tree.{Tree};
+ghost use Rattle.opening.specs.Parts.{zipAccounts};
+ghost use Rattle.steps.specs.Parts.{lentLink, Searched, GoesNext};
+ghost use Rattle.units.specs.declared.Bytes.{Bytes};
+ghost use Rattle.rules.specs.After.{sentLink};
+use crate::inactive::turn_off;
+use opening::account_of;
+use opening::keep_balance;
+use state::Packet;
+use state::queue;
+use tree::wide;
+use units::Bytes;
+
+// Step 1: the lowest-numbered active leaf not below the place whose balance covers its first packet, or 64 where the round has closed.
+pub(crate) fn next_leaf(
+    leaves: u64,
+    place: usize,
+    balance: &[u64; 64],
+    start: &[u8; 64],
+    lengths: &[u16; 2048],
+) -> usize
+    requires { ⌜ (place ≤ 64) × ((i : ℕ) → i < 64 → getD (now start) i 0 < 32) ⌝ }
+    ensures { λ r. ⌜ ((l : Link) → Searched l leaves place (now (balance .entry)) (now (start .entry)) (now (lengths .entry))
+        → r ≡ nextLeaf (meaning l)) ⌝ }
+{
+    let mut at = place;
+    loop {
+        let i = sets::next(leaves, at);
+        if i == 64 {
+            return 64;
+        }
+        let s = start[i] as usize;
+        if units::cost(lengths[queue::slot(i, s)]).0 <= balance[i] {
+            return i;
+        }
+        at = i + 1;
+    }
+}
+
+// Leaf i loses what a packet costs, the root's balance gains it.
+fn pay(i: usize, cost: Bytes, balance: &mut [u64; 64], residual: &[u64; 64])
+    requires { ⌜ Fit (zipAccounts (now balance) (now residual)) × (i < 64)
+        × (cost .0 ≤ balanceOf (zipAccounts (now balance) (now residual)) i) ⌝ }
+    ensures { λ _. ⌜ zipAccounts (now (balance .exit)) (now (residual .entry))
+        ≡ paidBy (zipAccounts (now (balance .entry)) (now (residual .entry))) i (cost .0) ⌝ }
+{
+    let leaf = account_of(i, balance, residual);
+    keep_balance(i, leaf.send(cost), balance);
+    let root = account_of(0, balance, residual);
+    keep_balance(0, root.gain(cost), balance);
+}
+
+// The packet that goes, and who is active after it.
+pub struct Gone {
+    pub packet: Packet,
+    pub active: u64,
+}
+
+// Leaf i sends its first packet; if that was its last, it turns inactive at once, and so on up.
+pub(crate) fn goes(
+    i: usize,
+    active: u64,
+    count: usize,
+    parent: &[u8; 64],
+    balance: &mut [u64; 64],
+    residual: &mut [u64; 64],
+    start: &mut [u8; 64],
+    held: &mut [u8; 64],
+    lengths: &[u16; 2048],
+    tags: &[u32; 2048],
+) -> Gone
+    requires { ⌜ ((t : Tree) × (size : Bytes) × (place : ℕ)
+        × GoesNext t size place i active count (now parent) (now balance) (now residual) (now start) (now held) (now lengths)
+        (now tags)) ⌝ }
+    ensures { λ r. ⌜ ((t : Tree) (size : Bytes) (place : ℕ)
+        → GoesNext t size place i active count (now (parent .entry)) (now (balance .entry)) (now (residual .entry)) (now (start .entry))
+        (now (held .entry)) (now (lengths .entry)) (now (tags .entry))
+        → (r .packet ≡ packetAt (lentLink t size active place (now (balance .entry)) (now (residual .entry)) (now (start .entry))
+        (now (held .entry)) (now (lengths .entry)) (now (tags .entry))) i 0)
+        × (lentLink t size (r .active) i (now (balance .exit)) (now (residual .exit)) (now (start .exit)) (now (held .exit))
+        (now (lengths .entry)) (now (tags .entry))
+        ≡ sentLink (lentLink t size active place (now (balance .entry)) (now (residual .entry)) (now (start .entry)) (now (held .entry))
+        (now (lengths .entry)) (now (tags .entry))) i)) ⌝ }
+{
+    let packet = queue::first(i, start, lengths, tags);
+    pay(i, units::cost(packet.length), balance, residual);
+    let waiting = wide(held[i]);
+    queue::take(i, start, held);
+    if 1 < waiting {
+        return Gone { packet, active };
+    }
+    let off = turn_off(i, active, count, parent, balance, residual);
+    Gone {
+        packet,
+        active: off,
+    }
+}

@@ -1,0 +1,87 @@
+// Rounds are opened until a leaf sends. Named for specs/Rounds.
+// Serves demand 2.
+ghost use mathlib.Core.Path.{_≡_};
+ghost use Prim.Native.Nat.{_<_};
+ghost use Rattle.rules.specs.Steps.{OnTheWay};
+ghost use Rattle.rules.specs.Active.{weightSums};
+ghost use Rattle.steps.specs.Rounds.{Unseen, Closed, Opens, Kept, Finds, closedLink, openLink};
+ghost use Rattle.steps.specs.Parts.{lentLink};
+use crate::leaf::next_leaf;
+use opening::open_round;
+use opening::round_active;
+use opening::sums_of;
+use state::Link;
+use tree::Tree;
+use units::Weight;
+
+// The leaf that sends, the rounds opened for it and who is active at its turn; 64 where no packet waits.
+pub struct Found {
+    pub class: usize,
+    pub rounds: usize,
+    pub active: u64,
+}
+
+// Rounds are opened until a leaf sends; who is active, and so the weight sums, is the same in each.
+fn opened(
+    tree: Tree,
+    active: u64,
+    sums: [Weight; Link::CLASSES],
+    balance: &mut [u64; 64],
+    residual: &mut [u64; 64],
+    start: &[u8; 64],
+    lengths: &[u16; 2048],
+) -> Found
+    requires { ⌜ ((k : Unseen) × Opens tree k active (now balance) (now residual) (now start) (now lengths))
+        × (sums ≡ weightSums tree active) ⌝ }
+    ensures { λ r. ⌜ ((k : Unseen)
+        → Opens tree k active (now (balance .entry)) (now (residual .entry)) (now (start .entry)) (now (lengths .entry))
+        → OnTheWay (closedLink tree k (now (balance .entry)) (now (residual .entry)) (now (start .entry)) (now (lengths .entry))) (r .class)
+        (openLink tree k active (now (balance .exit)) (now (residual .exit)) (now (start .entry)) (now (lengths .entry))) (r .rounds)) ⌝ }
+    ensures { λ r. ⌜ (r .class < 64) × (r .active ≡ active) ⌝ }
+{
+    let leaves = sets::both(active, tree.leaves);
+    let mut rounds: usize = 0;
+    loop {
+        open_round(tree, active, sums, balance, residual);
+        rounds += 1;
+        let class = next_leaf(leaves, 1, balance, start, lengths);
+        if class < Link::CLASSES {
+            return Found {
+                class,
+                rounds,
+                active,
+            };
+        }
+    }
+}
+
+// The round has closed: rounds are opened until a leaf sends, unless no packet waits.
+pub(crate) fn reopened(
+    tree: Tree,
+    known: u64,
+    kept: &[u32; 64],
+    balance: &mut [u64; 64],
+    residual: &mut [u64; 64],
+    start: &[u8; 64],
+    held: &[u8; 64],
+    lengths: &[u16; 2048],
+) -> Found
+    requires { ⌜ ((k : Unseen) × (k .held ≡ now held) × Closed tree k (now balance) (now residual) (now start) (now lengths))
+        × Kept tree known (now kept) ⌝ }
+    ensures { λ r. ⌜ ((k : Unseen) → k .held ≡ now (held .entry)
+        → Closed tree k (now (balance .entry)) (now (residual .entry)) (now (start .entry)) (now (lengths .entry))
+        → Finds (closedLink tree k (now (balance .entry)) (now (residual .entry)) (now (start .entry)) (now (lengths .entry))) r
+        (λ active place. lentLink tree (k .size) active place (now (balance .exit)) (now (residual .exit)) (now (start .entry))
+        (k .held) (now (lengths .entry)) (k .tags))) ⌝ }
+{
+    let active = round_active(tree, held);
+    if !sets::has(active, 0) {
+        return Found {
+            class: Link::CLASSES,
+            rounds: 0,
+            active,
+        };
+    }
+    let sums = sums_of(tree, active, known, kept);
+    opened(tree, active, sums, balance, residual, start, lengths)
+}

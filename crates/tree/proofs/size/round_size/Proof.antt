@@ -1,0 +1,15 @@
+-- `size::round_size` meets its contract.
+use borrow.Author.Needs.{needs}
+use Rattle.tree.proofs.size.round_size.Statement.{statement}
+use Rattle.tree.proofs.size.round_size.Tie as tie
+
+plan-size-requires : tie.Need-plan-size-requires
+plan-size-requires c κs = search needs
+
+returns : tie.Need-returns
+returns c =
+    let p = c .before .plan-size .ensures in
+    p .1 (p .0 .complete (c .before .before .pre))
+
+pub round-size-spec : {M : Type 1} → statement M
+round-size-spec = tie.close (tie.spec plan-size-requires returns)

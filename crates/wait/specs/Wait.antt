@@ -1,0 +1,55 @@
+-- A run up to one packet's departure, read off the calls that were made and their answers alone; and the bound. Demand 3.
+use mathlib.Core.Bool.{Bool, true, false}
+use mathlib.Core.List.{List, [], _∷_}
+use Prim.Native.Nat.{ℕ, zero, suc, _+_, _*_, _-_, _/_}
+use lib.Dec.{eqb}
+use Rattle.checks.specs.Check.{passed}
+use Rattle.units.specs.Cost.{costOf}
+use Rattle.state.specs.declared.Packet.{Packet}
+use Rattle.state.specs.Queue.{noPacket}
+use Rattle.link.specs.Progress.{packetOf}
+use Rattle.link.specs.Run.{arrival, send, Made, made}
+
+-- what was sent from some moment on, up to and including the packet that is followed, whether it has gone, and the packet that went as it
+pub record Followed : Type 0 where
+  pub sent : ℕ
+  pub gone : Bool
+  pub packet : Packet
+
+abbrev pub stillWaits : Followed
+stillWaits = record { sent = 0; gone = false; packet = noPacket }
+
+abbrev pub wentAs : Packet → Followed
+wentAs p = record { sent = 0; gone = true; packet = p }
+
+abbrev pub more : ℕ → Followed → Followed
+more bytes f = record { sent = bytes + f .sent; gone = f .gone; packet = f .packet }
+
+-- one send of the run: where no packet goes, nothing changes; another class's packet leaves the k packets before the one that is followed;
+-- a packet of its own class leaves one fewer, and where none was before it, it goes (R16, R202)
+abbrev pub oneSend : (goes own : Bool) → Packet → ℕ → (ℕ → Followed) → Followed
+oneSend false own p k later = later k
+oneSend true false p k later = more (costOf (p .length)) (later k)
+oneSend true true p zero later = more (costOf (p .length)) (wentAs p)
+oneSend true true p (suc k) later = more (costOf (p .length)) (later k)
+
+-- the run up to the departure of the packet of class i that has k packets before it (R202)
+unfoldable pub followed : ℕ → ℕ → List Made → Followed
+followed i k [] = stillWaits
+followed i k (made (arrival class p) answer after ∷ rest) = followed i k rest
+followed i k (made send answer after ∷ rest) =
+    oneSend (passed (answer .verdict)) (eqb (answer .class) i) (packetOf answer) k (λ m. followed i m rest)
+
+-- how many of the calls are sends
+unfoldable pub sendsIn : List Made → ℕ
+sendsIn [] = 0
+sendsIn (made (arrival class p) answer after ∷ rest) = sendsIn rest
+sendsIn (made send answer after ∷ rest) = suc (sendsIn rest)
+
+-- d over w, rounded up (R202)
+abbrev pub overRoundedUp : ℕ → ℕ → ℕ
+overRoundedUp d w = (d + w - 1) / w
+
+-- the bound: D over w rounded up, plus 1, times Q (R202)
+abbrev pub bound : ℕ → ℕ → ℕ → ℕ
+bound d w q = (overRoundedUp d w + 1) * q
