@@ -205,7 +205,7 @@ fn shape_word(shape: Shape) -> &'static str {
 }
 
 // The bytes of a part at most.
-const PART: usize = 262_144;
+const PART: usize = 1_048_576;
 
 // A send with its arrival, on every recording.
 fn pairs(amount: &Amount) {
