@@ -204,8 +204,8 @@ fn shape_word(shape: Shape) -> &'static str {
     }
 }
 
-// The bytes of a part at most.
-const PART: usize = 1_048_576;
+// The bytes of a part at most, as in `linkrun`.
+const PART: usize = 65_536;
 
 // A send with its arrival, on every recording.
 fn pairs(amount: &Amount) {

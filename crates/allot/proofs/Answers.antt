@@ -162,7 +162,8 @@ module _ (t : Tree) (capacity : ℕ) (table : List ℕ) (obeys : Bool) (exactly 
 -- where nothing is refused, the tree obeys the plan rules
 pub passed-rules : (t : Tree) (capacity : ℕ) (table : List ℕ) (r : Allotted) → Rates t capacity table r → r .verdict ≡ Passed → PlanRules t
 passed-rules t capacity table r a e =
-    a .exactly .sound (not-false (a .obeys) (passed-parts (check 11 (not (a .obeys)) 0) (rangeChecks t capacity table) (sym (a .verdict) ∙ e) .0))
+    a .exactly .sound (not-false (a .obeys)
+    (passed-parts (check 11 (not (a .obeys)) 0) (rangeChecks t capacity table) (sym (a .verdict) ∙ e) .0))
 
 -- and every leaf's request is in range
 pub passed-in-range : (t : Tree) (capacity : ℕ) (table : List ℕ) → PlanRules t → firstBroken (rangeChecks t capacity table) ≡ Passed

@@ -159,5 +159,6 @@ no-leaf-word t capacity asked class request r s none one other =
     differ : (i : ℕ) → isLeaf t i ≡ true → i ≡ class → ⊥
     differ i leaf e = not-good (sym none ∙ ap (isLeaf t) (sym e) ∙ leaf)
 
-    same : (i : ℕ) → isClass t i ≡ true → isLeaf t i ≡ true → entry (asked .requests) i ≡ entry (heeded asked (Asks class request) .requests) i
+    same : (i : ℕ) → isClass t i ≡ true → isLeaf t i ≡ true
+        → entry (asked .requests) i ≡ entry (heeded asked (Asks class request) .requests) i
     same i is leaf = sym (getD-set-other (asked .requests) class i request 0 (differ i leaf))

@@ -15,7 +15,8 @@ use Rattle.box_loop.specs.declared.Event.{Event}
 abbrev pub plainEvent : Bool → ℕ → EventRead → Event
 plainEvent call place read = record { call = call; arrives = false; class = 0; packet = noPacket; place = place; read = read }
 
--- an event that was read at a place: an arrival and a send are calls, and the place moves on by what they use; the end of input and a refused record are none
+-- an event that was read at a place: an arrival and a send are calls, and the place moves on by what they use; the end of input and a
+-- refused record are none
 abbrev pub eventFor : ℕ → EventRead → Event
 eventFor place NoMore = plainEvent false place NoMore
 eventFor place (Arrive a) = record {
@@ -29,7 +30,8 @@ eventFor place (Arrive a) = record {
 eventFor place SendNext = plainEvent true (place + usedOf SendNext) SendNext
 eventFor place (Fault n p) = plainEvent false place (Fault n p)
 
--- of n bytes, what is left after a call's event, and one more; nothing after the last: the loop ends because each call uses some of the input
+-- of n bytes, what is left after a call's event, and one more; nothing after the last: the loop ends because each call uses some of the
+-- input
 abbrev pub left : ℕ → Event → ℕ
 left n e = cond (e .call) (suc (n - e .place)) 0
 

@@ -50,7 +50,8 @@ pub refused-before : (xs ys : List Check) {n p : ℕ} → firstBroken xs ≡ Ref
 refused-before [] ys e = absurd (not-both none-broken e)
 refused-before (c ∷ xs) ys {n} {p} e = go (c .broken) refl (λ h. refused-before xs ys h)
   where
-    go : (b : Bool) → c .broken ≡ b → (firstBroken xs ≡ Refused n p → firstBroken (xs ++ ys) ≡ Refused n p) → firstBroken (c ∷ xs ++ ys) ≡ Refused n p
+    go : (b : Bool) → c .broken ≡ b → (firstBroken xs ≡ Refused n p → firstBroken (xs ++ ys) ≡ Refused n p)
+        → firstBroken (c ∷ xs ++ ys) ≡ Refused n p
     go true h ih = decides c (xs ++ ys) h ∙ sym (decides c xs h) ∙ e
     go false h ih = pass-over c (xs ++ ys) h ∙ ih (sym (pass-over c xs h) ∙ e)
 
@@ -72,7 +73,8 @@ refused-by-first (here {c = c} {cs = cs} b) = decides c cs b
 refused-by-first (later {c = c} {cs = cs} b f) = pass-over c cs b ∙ refused-by-first f
 
 -- class by class
-pub classes-passed : (f : ℕ → List Check) (n : ℕ) → ((i : ℕ) → 1 ≤ i → i ≤ n → firstBroken (f i) ≡ Passed) → firstBroken (classByClass f n) ≡ Passed
+pub classes-passed : (f : ℕ → List Check) (n : ℕ) → ((i : ℕ) → 1 ≤ i → i ≤ n → firstBroken (f i) ≡ Passed)
+    → firstBroken (classByClass f n) ≡ Passed
 unfolding classByClass
 classes-passed f zero h = none-broken
 classes-passed f (suc n) h =
@@ -91,7 +93,8 @@ classes-refused f (suc n) i {a} {p} l u h e = go (decLe i n) (λ m. classes-refu
         after-passed (classByClass f n) (f (suc n)) (classes-passed f n (λ j a b. h j a (omega arith))) ∙ (rw s at e)
 
 -- what was passed class by class was passed at each class
-pub classes-each : (f : ℕ → List Check) (n : ℕ) → firstBroken (classByClass f n) ≡ Passed → (i : ℕ) → 1 ≤ i → i ≤ n → firstBroken (f i) ≡ Passed
+pub classes-each : (f : ℕ → List Check) (n : ℕ) → firstBroken (classByClass f n) ≡ Passed → (i : ℕ) → 1 ≤ i → i ≤ n
+    → firstBroken (f i) ≡ Passed
 unfolding classByClass
 classes-each f zero e i l u = absurd (omega arith)
 classes-each f (suc n) e i l u = go (refused-or-passed (firstBroken (classByClass f n))) (decLe i n) (λ h m. classes-each f n h i l m)
@@ -115,8 +118,13 @@ classes-which f (suc n) {a} {p} e = go (refused-or-passed (firstBroken (classByC
         → ((b q : ℕ) → firstBroken (classByClass f n) ≡ Refused b q
         → (i : ℕ) × (1 ≤ i) × (i ≤ n) × ((j : ℕ) → 1 ≤ j → j < i → firstBroken (f j) ≡ Passed) × (firstBroken (f i) ≡ Refused b q))
         → (i : ℕ) × (1 ≤ i) × (i ≤ suc n) × ((j : ℕ) → 1 ≤ j → j < i → firstBroken (f j) ≡ Passed) × (firstBroken (f i) ≡ Refused a p)
-    go (inl h) ih =
-        (suc n, omega arith, omega arith, λ j l u. classes-each f n h j l (omega arith), sym (after-passed (classByClass f n) (f (suc n)) h) ∙ e)
+    go (inl h) ih = (
+      suc n,
+      omega arith,
+      omega arith,
+      λ j l u. classes-each f n h j l (omega arith),
+      sym (after-passed (classByClass f n) (f (suc n)) h) ∙ e,
+    )
     go (inr r) ih =
         let w = ih (r .0) (r .1) (r .2) in
         (w .0, w .1, omega arith, w .3, w .4 ∙ sym (refused-before (classByClass f n) (f (suc n)) (r .2)) ∙ e)
@@ -163,6 +171,7 @@ pub broken-or-later : (c : Check) (cs : List Check) {n p : ℕ} → firstBroken 
     → ((c .broken ≡ true) × (Refused (c .number) (c .place) ≡ Refused n p)) ⊎ ((c .broken ≡ false) × (firstBroken cs ≡ Refused n p))
 broken-or-later c cs {n} {p} e = go (c .broken) refl
   where
-    go : (b : Bool) → c .broken ≡ b → ((c .broken ≡ true) × (Refused (c .number) (c .place) ≡ Refused n p)) ⊎ ((c .broken ≡ false) × (firstBroken cs ≡ Refused n p))
+    go : (b : Bool) → c .broken ≡ b → ((c .broken ≡ true) × (Refused (c .number) (c .place) ≡ Refused n p))
+        ⊎ ((c .broken ≡ false) × (firstBroken cs ≡ Refused n p))
     go true h = inl (h, sym (decides c cs h) ∙ e)
     go false h = inr (h, sym (pass-over c cs h) ∙ e)

@@ -1,4 +1,5 @@
--- What a caller of `arrive` has to give, and what it has of the call: `goes` and `given-back`. Each function that lends a link to an arrival cites this.
+-- What a caller of `arrive` has to give, and what it has of the call: `goes` and `given-back`. Each function that lends a link to an
+-- arrival cites this.
 use mathlib.Core.Path.{refl}
 use Prim.Native.Nat.{ℕ, zero, _<_, _^_}
 use mathlib.Core.List.{[], _∷_}
@@ -22,13 +23,13 @@ use denote.Struct.Laws as LL
 use denote.Triple.Statement.{Contract}
 use denote.Triple.Spec.{tripleOf}
 use denote.Triple.Clauses.{ensured, lasts}
-use Rattle.link.specs.Arrival.{arrivalLeaves, Arrives}
+use Rattle.calls.specs.Arrival.{arrivalLeaves, Arrives}
 use Rattle.state.specs.declared.Link.{Link}
 use Rattle.state.specs.declared.Packet.{Packet}
-use Rattle.link.specs.declared.Arrival.{Arrival}
+use Rattle.calls.specs.declared.Arrival.{Arrival}
 use Rattle.state.proofs.Packet as P
 use Rattle.state.proofs.Packet.Laws as P′
-use Rattle.link.proofs.Arrival as N
+use Rattle.calls.proofs.Arrival as N
 use Rattle.lent.proofs.Lends.{ref, own-at, pval}
 use Rattle.lent.proofs.Loans as loans
 use Rattle.lent.proofs.arrive as lent
@@ -37,14 +38,17 @@ module _ {M : Type 1} (𝓤 : URA M) (H : Heap 𝓤) (A : Atoms 𝓤) (at-mem : 
   abbrev pub Lent : Contract 𝓤
   Lent = tripleOf 𝓤 H A lent.signature (lent.spec 𝓤 H A at-mem run)
 
-module _ {M : Type 1} (𝓤 : URA M) (H : Heap 𝓤) (A : Atoms 𝓤) (W : Given 𝓤 H A) (at-mem : Memory → SProp 𝓤) (run : Routine → Fun 𝓤) (b α : ℕ) (δ : GName) (h : Link)
+module _ {M : Type 1} (𝓤 : URA M) (H : Heap 𝓤) (A : Atoms 𝓤) (W : Given 𝓤 H A) (at-mem : Memory → SProp 𝓤) (run : Routine → Fun 𝓤) (b α : ℕ)
+    (δ : GName) (h : Link)
     (i : ℕ) (p : Packet) (fits : i < 2 ^ 64) (isp : Is P.the-row p (pval p ∷ [])) where
   abbrev pub to-lent : Lent 𝓤 H A at-mem run .Ghost
   to-lent = (((α ∷ [], tt), (fullShare, tt), tt, (ref b δ h, (i, (p, tt))), (vptr b zero ∷ [], (vint w64 i ∷ [], (pval p ∷ [], tt)))), tt)
 
   pub goes : ent 𝓤 (sep 𝓤 (A .lft (α ∷ []) fullShare) (sem 𝓤 H A (own-at b α δ h))) (Lent 𝓤 H A at-mem run .pre to-lent)
-  goes = qed W (‵ (flft (α ∷ []) fullShare) ∷ ‵ (own-at b α δ h) ∷ []) ∵ nothing ! $ move ! (1 ∷ 0 ∷ []) $ join ! $ move ! (1 ∷ []) $ nothing ! $
-      owned ! P.the-row (Is P.the-row) (LL.makes P.the-type P′.the-plain 𝓤 H A) p (pval p ∷ []) isp $ fjoin ! $ owned ! usize (Is usize) (uint-makes 𝓤 H A W w64) i (vint w64 i ∷ []) (refl, fits) $ fjoin ! $
+  goes = qed W (‵ (flft (α ∷ []) fullShare) ∷ ‵ (own-at b α δ h) ∷ []) ∵ nothing ! $ move ! (1 ∷ 0 ∷ []) $ join ! $ move ! (1 ∷ []) $
+      nothing ! $
+      owned ! P.the-row (Is P.the-row) (LL.makes P.the-type P′.the-plain 𝓤 H A) p (pval p ∷ []) isp $ fjoin ! $
+      owned ! usize (Is usize) (uint-makes 𝓤 H A W w64) i (vint w64 i ∷ []) (refl, fits) $ fjoin ! $
       move ! (1 ∷ 0 ∷ []) $ fjoin ! $ move ! (1 ∷ 0 ∷ []) $ join ! $ frame ! $ done !
 
   abbrev pub Said : Arrival → Link → Type 0
@@ -54,6 +58,7 @@ module _ {M : Type 1} (𝓤 : URA M) (H : Heap 𝓤) (A : Atoms 𝓤) (W : Given
   Back = loans.Back 𝓤 H A W α δ N.the-row Said
 
   pub given-back : (v : Val) → ent 𝓤 (Lent 𝓤 H A at-mem run .post to-lent v) (H .⇛ (ex 𝓤 (λ (r : Arrival). ex 𝓤 (Back v r))))
-  given-back v = loans.gives 𝓤 H A W α δ N.the-row Said v _ (ensured 𝓤 H A lent.ended (lent.clauses 𝓤 H A at-mem run) (α ∷ [], tt) (to-lent .0 .3) tt) (id⊢ 𝓤 _)
+  given-back v = loans.gives 𝓤 H A W α δ N.the-row Said v _
+      (ensured 𝓤 H A lent.ended (lent.clauses 𝓤 H A at-mem run) (α ∷ [], tt) (to-lent .0 .3) tt) (id⊢ 𝓤 _)
       (loans.told 𝓤 H A W α δ N.the-row Said (λ ws. ws .0) (λ ws. sem 𝓤 H A (lasts lent.ended (α ∷ [], tt) (to-lent .0 .3) ws))
       (λ ws. qed W (‵ (lasts lent.ended (α ∷ [], tt) (to-lent .0 .3) ws) ∷ []) ∵ fsplit ! $ keep ! (0 ∷ []) $ done !))

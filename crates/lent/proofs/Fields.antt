@@ -1,8 +1,11 @@
--- The fields of a link record behind a reference, each in a cell of its own: what a walk reads, stores and lends. Every entry cites this. Demand 2.
+-- The fields of a link record behind a reference, each in a cell of its own: what a walk reads, stores and lends. Every entry cites this.
+-- Demand 2.
 --     val-at, Fits, typed     the machine value of a field's value, that it is one, and that it has the field's type
---     cell        a field's cell.        apart, together     the record's cell is its fields' cells, and back, at whatever values they then hold
+--     cell        a field's cell.        apart, together     the record's cell is its fields' cells, and back, at whatever values they
+--         then hold
 --     known-parts, of-parts    what is known of a record is what is known of each field, and back.
---     as-held     a field that is an array is handed on as `map` of the identity over its list, which is that list; accounts as their own records
+--     as-held     a field that is an array is handed on as `map` of the identity over its list, which is that list; accounts as their own
+--         records
 use Prim.Native.Nat.{ℕ, zero, _+_}
 use mathlib.Core.Path.{_≡_, refl, sym, _∙_}
 use mathlib.Core.List.{List, [], _∷_, map, map-id}
@@ -18,7 +21,8 @@ use prog.Model.{fieldsAt}
 use prog.Wp.{Heap}
 use ghost.Atoms.{Atoms, sem}
 use types.SemTy.{Body}
-use types.Kit.{Given, Item, Goal, Soaks, Seq, Step, step, ‵, raw, _⊛_, some, later, given, _$_, _∵_, !, qed, move, drop, use1, use2, use3, split, join, rewrite, pick, learn, check, await, fsplit, fjoin, fpick, fpack, done}
+use types.Kit.{Given, Item, Goal, Soaks, Seq, Step, step, ‵, raw, _⊛_, some, later, given, _$_, _∵_, !, qed, move, drop, use1, use2, use3}
+use types.Kit.{split, join, rewrite, pick, learn, check, await, fsplit, fjoin, fpick, fpack, done}
 use types.Tokens.{lft-new, lft-end, lent-back}
 use denote.RattleType.{RattleType}
 use denote.Laws.{Is, Typed, Tells, Makes, shows}
@@ -33,6 +37,8 @@ use denote.Struct.Steps.{spelt}
 use denote.Shadow.{shadow}
 use denote.Struct.At.{FieldAt, lawAt, valAt, IsAt, Are}
 use denote.Struct.Laws as LL
+use Rattle.units.specs.declared.Bytes.{Bytes}
+use Rattle.tree.specs.declared.Tree.{Tree}
 use Rattle.state.specs.declared.Account.{Account}
 use Rattle.state.specs.declared.Link.{Link}
 use Rattle.state.specs.State.{linkOf}
@@ -63,7 +69,9 @@ parts-of h is = LL.owed L.the-type L′.the-laws h (lval h ∷ []) is
 abbrev pub Accounts : RattleType
 Accounts = Array C.the-row 64
 
-each-account : (xs : List Account) (us : List Val) → shadow (each (C.the-field .row .Denot) (C.the-field .row .own) (map (C.the-field .into) xs) us) → shadow (each Account (C.the-row .own) xs us)
+each-account : (xs : List Account) (us : List Val)
+    → shadow (each (C.the-field .row .Denot) (C.the-field .row .own) (map (C.the-field .into) xs) us)
+    → shadow (each Account (C.the-row .own) xs us)
 each-account [] [] s = s
 each-account [] (u ∷ us) s = s
 each-account (x ∷ xs) [] s = s
@@ -76,8 +84,12 @@ accounts-are xs is = (is .0, ((is .1 .0 .0, sym (length-map xs _) ∙ is .1 .0 .
 abbrev pub same : List ℕ → List ℕ
 same xs = map (λ v. v) xs
 
-pub as-held : (h : Link)
-    → linkOf (h .tree) (h .size) (h .active) (h .place) (h .accounts) (same (h .start)) (same (h .held)) (same (h .lengths)) (same (h .tags)) ≡ h
+-- so a call over parts is handed this record, which is the record that is held
+abbrev pub handed : Link → Link
+handed h =
+    linkOf (h .tree) (h .size) (h .active) (h .place) (h .accounts) (same (h .start)) (same (h .held)) (same (h .lengths)) (same (h .tags))
+
+pub as-held : (h : Link) → handed h ≡ h
 as-held h = λ i. record {
   tree = h .tree;
   size = h .size;
@@ -90,6 +102,23 @@ as-held h = λ i. record {
   tags = map-id (h .tags) i;
 }
 
+-- what a call over parts takes by value before all else, a record's fields but for its waiting places; and their machine values
+abbrev pub small : {R : Type 0} → Link → R → Tree × (Bytes × (ℕ × (ℕ × (List Account × (List ℕ × (List ℕ × R))))))
+small h rest = (h .tree, (h .size, (h .active, (h .place, (h .accounts, (same (h .start), (same (h .held), rest)))))))
+
+abbrev pub small-vals : {R : Type 0} → Link → R
+    → List Val × (List Val × (List Val × (List Val × (List Val × (List Val × (List Val × R))))))
+small-vals h rest = (
+  val-at 0 (h .tree) ∷ [],
+  (
+    val-at 1 (h .size) ∷ [],
+    (
+      val-at 2 (h .active) ∷ [],
+      (val-at 3 (h .place) ∷ [], (val-at 4 (h .accounts) ∷ [], (val-at 5 (h .start) ∷ [], (val-at 6 (h .held) ∷ [], rest)))),
+    ),
+  ),
+)
+
 abbrev field-types : Tys
 field-types =
     tcons (rawTy (type-at 0)) (tcons (rawTy (type-at 1)) (tcons (rawTy (type-at 2)) (tcons (rawTy (type-at 3)) (tcons (rawTy (type-at 4))
@@ -97,11 +126,13 @@ field-types =
 
 abbrev values : Link → Vals
 values h =
-    vcons (val-at 0 (h .tree)) (vcons (val-at 1 (h .size)) (vcons (val-at 2 (h .active)) (vcons (val-at 3 (h .place)) (vcons (val-at 4 (h .accounts))
+    vcons (val-at 0 (h .tree)) (vcons (val-at 1 (h .size)) (vcons (val-at 2 (h .active)) (vcons (val-at 3 (h .place))
+    (vcons (val-at 4 (h .accounts))
     (vcons (val-at 5 (h .start)) (vcons (val-at 6 (h .held)) (vcons (val-at 7 (h .lengths)) (vcons (val-at 8 (h .tags)) vnil))))))))
 
 module _ {M : Type 1} (𝓤 : URA M) (H : Heap 𝓤) (A : Atoms 𝓤) (W : Given 𝓤 H A) where
-  pub typed : (k : ℕ) (x : FieldAt (L.the-type .parts) k .Value) → Fits k x → Typed (FieldAt (L.the-type .parts) k .row .mir) (val-at k x ∷ [])
+  pub typed : (k : ℕ) (x : FieldAt (L.the-type .parts) k .Value) → Fits k x
+      → Typed (FieldAt (L.the-type .parts) k .row .mir) (val-at k x ∷ [])
   typed k x is = lawAt (L.the-type .parts) L′.the-laws k .lawful 𝓤 H A W .typed (FieldAt (L.the-type .parts) k .into x) (val-at k x ∷ []) is
 
 abbrev pub cell : (k d b o : ℕ) → Val → Fml
@@ -110,45 +141,61 @@ cell k d b o v = fat fullShare (rawTy (type-at k)) b (o + d) v
 module _ {M : Type 1} (𝓤 : URA M) (H : Heap 𝓤) (b o : ℕ) where
   -- the way back from the fields' cells to the record's
   abbrev pub Way : SProp 𝓤
-  Way = all 𝓤 (λ (us : Vals). wand 𝓤 (fieldsAt 𝓤 H fullShare field-types zero b o us) (H .at fullShare (tyStruct [] field-types) b o (vstruct us)))
+  Way = all 𝓤 (λ (us : Vals). wand 𝓤 (fieldsAt 𝓤 H fullShare field-types zero b o us)
+      (H .at fullShare (tyStruct [] field-types) b o (vstruct us)))
 
-  way-back : (us : Vals) → ent 𝓤 (sep 𝓤 (fieldsAt 𝓤 H fullShare field-types zero b o us) Way) (H .at fullShare (tyStruct [] field-types) b o (vstruct us))
+  way-back : (us : Vals)
+      → ent 𝓤 (sep 𝓤 (fieldsAt 𝓤 H fullShare field-types zero b o us) Way) (H .at fullShare (tyStruct [] field-types) b o (vstruct us))
   way-back us =
-      via 𝓤 (sep 𝓤 (fieldsAt 𝓤 H fullShare field-types zero b o us) (wand 𝓤 (fieldsAt 𝓤 H fullShare field-types zero b o us) (H .at fullShare (tyStruct [] field-types) b o (vstruct us))))
-      (monoR 𝓤 (fieldsAt 𝓤 H fullShare field-types zero b o us) (allE 𝓤 (λ (ws : Vals). wand 𝓤 (fieldsAt 𝓤 H fullShare field-types zero b o ws) (H .at fullShare (tyStruct [] field-types) b o (vstruct ws))) us))
+      via 𝓤 (sep 𝓤 (fieldsAt 𝓤 H fullShare field-types zero b o us)
+      (wand 𝓤 (fieldsAt 𝓤 H fullShare field-types zero b o us) (H .at fullShare (tyStruct [] field-types) b o (vstruct us))))
+      (monoR 𝓤 (fieldsAt 𝓤 H fullShare field-types zero b o us)
+      (allE 𝓤 (λ (ws : Vals). wand 𝓤 (fieldsAt 𝓤 H fullShare field-types zero b o ws)
+      (H .at fullShare (tyStruct [] field-types) b o (vstruct ws))) us))
       (apply∗ 𝓤 (fieldsAt 𝓤 H fullShare field-types zero b o us) (H .at fullShare (tyStruct [] field-types) b o (vstruct us)))
 
 module _ {M : Type 1} {𝓤 : URA M} {H : Heap 𝓤} {A : Atoms 𝓤} {K : Type 0} {W : Given 𝓤 H A} {Γ : List (Item 𝓤)} {G : Goal 𝓤 H} where
   pub apart : K → (h : Link) (b o : ℕ)
       → Step K W
-      (‵ (cell 0 0 b o (val-at 0 (h .tree))) ∷ ‵ (cell 1 464 b o (val-at 1 (h .size))) ∷ ‵ (cell 2 472 b o (val-at 2 (h .active))) ∷ ‵ (cell 3 480 b o (val-at 3 (h .place))) ∷ ‵ (cell 4 488 b o (val-at 4 (h .accounts)))
-      ∷ ‵ (cell 5 1_512 b o (val-at 5 (h .start))) ∷ ‵ (cell 6 1_576 b o (val-at 6 (h .held))) ∷ ‵ (cell 7 1_640 b o (val-at 7 (h .lengths))) ∷ ‵ (cell 8 5_736 b o (val-at 8 (h .tags))) ∷ raw (Way 𝓤 H b o) ∷ Γ) G
+      (‵ (cell 0 0 b o (val-at 0 (h .tree))) ∷ ‵ (cell 1 464 b o (val-at 1 (h .size))) ∷ ‵ (cell 2 472 b o (val-at 2 (h .active)))
+      ∷ ‵ (cell 3 480 b o (val-at 3 (h .place))) ∷ ‵ (cell 4 488 b o (val-at 4 (h .accounts)))
+      ∷ ‵ (cell 5 1_512 b o (val-at 5 (h .start))) ∷ ‵ (cell 6 1_576 b o (val-at 6 (h .held)))
+      ∷ ‵ (cell 7 1_640 b o (val-at 7 (h .lengths))) ∷ ‵ (cell 8 5_736 b o (val-at 8 (h .tags))) ∷ raw (Way 𝓤 H b o) ∷ Γ) G
       (‵ (cellAt fullShare (L.the-row .mir) (lval h ∷ []) b o) ∷ Γ) G
   apart t h b o = step (λ s.
-      use1 W ((‵ (cell 0 0 b o (val-at 0 (h .tree))) ⊛ ‵ (cell 1 464 b o (val-at 1 (h .size))) ⊛ ‵ (cell 2 472 b o (val-at 2 (h .active))) ⊛ ‵ (cell 3 480 b o (val-at 3 (h .place))) ⊛ ‵ (cell 4 488 b o (val-at 4 (h .accounts)))
-      ⊛ ‵ (cell 5 1_512 b o (val-at 5 (h .start))) ⊛ ‵ (cell 6 1_576 b o (val-at 6 (h .held))) ⊛ ‵ (cell 7 1_640 b o (val-at 7 (h .lengths))) ⊛ ‵ (cell 8 5_736 b o (val-at 8 (h .tags))) ⊛ ‵ ftrue) ⊛ raw (Way 𝓤 H b o))
+      use1 W ((‵ (cell 0 0 b o (val-at 0 (h .tree))) ⊛ ‵ (cell 1 464 b o (val-at 1 (h .size))) ⊛ ‵ (cell 2 472 b o (val-at 2 (h .active)))
+      ⊛ ‵ (cell 3 480 b o (val-at 3 (h .place))) ⊛ ‵ (cell 4 488 b o (val-at 4 (h .accounts)))
+      ⊛ ‵ (cell 5 1_512 b o (val-at 5 (h .start))) ⊛ ‵ (cell 6 1_576 b o (val-at 6 (h .held)))
+      ⊛ ‵ (cell 7 1_640 b o (val-at 7 (h .lengths))) ⊛ ‵ (cell 8 5_736 b o (val-at 8 (h .tags))) ⊛ ‵ ftrue) ⊛ raw (Way 𝓤 H b o))
       (W .laws .at-fields fullShare [] field-types b o (values h)) $
-      split t $ split t $ move t (1 ∷ []) $ split t $ move t (1 ∷ []) $ split t $ move t (1 ∷ []) $ split t $ move t (1 ∷ []) $ split t $ move t (1 ∷ []) $
+      split t $ split t $ move t (1 ∷ []) $ split t $ move t (1 ∷ []) $ split t $ move t (1 ∷ []) $ split t $ move t (1 ∷ []) $ split t $
+      move t (1 ∷ []) $
       split t $ move t (1 ∷ []) $ split t $ move t (1 ∷ []) $ split t $ move t (1 ∷ []) $ split t $ move t (1 ∷ []) $ drop t $
       move t (8 ∷ 7 ∷ 6 ∷ 5 ∷ 4 ∷ 3 ∷ 2 ∷ 1 ∷ 0 ∷ []) $ s)
 
   pub together : K → (m : Link) (b o : ℕ)
       → Step K W (‵ (cellAt fullShare (L.the-row .mir) (lval m ∷ []) b o) ∷ Γ) G
-      (‵ (cell 0 0 b o (val-at 0 (m .tree))) ∷ ‵ (cell 1 464 b o (val-at 1 (m .size))) ∷ ‵ (cell 2 472 b o (val-at 2 (m .active))) ∷ ‵ (cell 3 480 b o (val-at 3 (m .place))) ∷ ‵ (cell 4 488 b o (val-at 4 (m .accounts))) ∷ ‵ (cell 5 1_512 b o (val-at 5 (m .start))) ∷ ‵ (cell 6 1_576 b o (val-at 6 (m .held))) ∷ ‵ (cell 7 1_640 b o (val-at 7 (m .lengths))) ∷ ‵ (cell 8 5_736 b o (val-at 8 (m .tags))) ∷ raw (Way 𝓤 H b o) ∷ Γ) G
+      (‵ (cell 0 0 b o (val-at 0 (m .tree))) ∷ ‵ (cell 1 464 b o (val-at 1 (m .size))) ∷ ‵ (cell 2 472 b o (val-at 2 (m .active)))
+      ∷ ‵ (cell 3 480 b o (val-at 3 (m .place))) ∷ ‵ (cell 4 488 b o (val-at 4 (m .accounts))) ∷ ‵ (cell 5 1_512 b o (val-at 5 (m .start)))
+      ∷ ‵ (cell 6 1_576 b o (val-at 6 (m .held))) ∷ ‵ (cell 7 1_640 b o (val-at 7 (m .lengths))) ∷ ‵ (cell 8 5_736 b o (val-at 8 (m .tags)))
+      ∷ raw (Way 𝓤 H b o) ∷ Γ) G
   together t m b o = step (λ s.
-      nothing t $ move t (9 ∷ 0 ∷ []) $ join t $ move t (8 ∷ 0 ∷ []) $ join t $ move t (7 ∷ 0 ∷ []) $ join t $ move t (6 ∷ 0 ∷ []) $ join t $ move t (5 ∷ 0 ∷ []) $ join t $
+      nothing t $ move t (9 ∷ 0 ∷ []) $ join t $ move t (8 ∷ 0 ∷ []) $ join t $ move t (7 ∷ 0 ∷ []) $ join t $ move t (6 ∷ 0 ∷ []) $
+      join t $ move t (5 ∷ 0 ∷ []) $ join t $
       move t (4 ∷ 0 ∷ []) $ join t $ move t (3 ∷ 0 ∷ []) $ join t $ move t (2 ∷ 0 ∷ []) $ join t $ move t (1 ∷ 0 ∷ []) $ join t $
       use2 W (‵ (cellAt fullShare (L.the-row .mir) (lval m ∷ []) b o)) (way-back 𝓤 H b o (values m)) $ s)
 
 -- a value in a cell lies there, and back
 module _ {M : Type 1} (𝓤 : URA M) (H : Heap 𝓤) (A : Atoms 𝓤) (W : Given 𝓤 H A) (R : RattleType) (x : R .Denot) (b o : ℕ) where
-  pub lies : Makes 𝓤 H A R (Is R) → (v : Val) → Is R x (v ∷ []) → ent 𝓤 (sem 𝓤 H A (cellAt fullShare (R .mir) (v ∷ []) b o)) (sem 𝓤 H A (mem R .lies x b o))
+  pub lies : Makes 𝓤 H A R (Is R) → (v : Val) → Is R x (v ∷ [])
+      → ent 𝓤 (sem 𝓤 H A (cellAt fullShare (R .mir) (v ∷ []) b o)) (sem 𝓤 H A (mem R .lies x b o))
   unfolding partOf
   lies makes v is =
       qed W (‵ (cellAt fullShare (R .mir) (v ∷ []) b o) ∷ []) ∵ owned ! R (Is R) makes x (v ∷ []) is $ move ! (1 ∷ 0 ∷ []) $ fjoin ! $
       fpack ! (List Val) (λ us. fsep (cellAt fullShare (R .mir) us b o) (R .own x us)) (v ∷ []) $ done !
 
-  pub lay : (vals : R .Denot → List Val) → Tells R (Is R) vals → ent 𝓤 (sem 𝓤 H A (mem R .lies x b o)) (guard 𝓤 (Is R x (vals x)) (sem 𝓤 H A (cellAt fullShare (R .mir) (vals x) b o)))
+  pub lay : (vals : R .Denot → List Val) → Tells R (Is R) vals
+      → ent 𝓤 (sem 𝓤 H A (mem R .lies x b o)) (guard 𝓤 (Is R x (vals x)) (sem 𝓤 H A (cellAt fullShare (R .mir) (vals x) b o)))
   unfolding partOf
   lay vals tells =
       qed W (‵ (mem R .lies x b o) ∷ []) ∵ fpick ! (λ vs. fsplit ! $ spelt ! R (Is R) (shows 𝓤 H A R) vals tells fullShare x vs b o $
@@ -192,41 +239,58 @@ mut-tags b o α γ xs = MutRef (named 0) (α ∷ []) Tags .own (to b (o + 5_736)
 module _ {M : Type 1} {𝓤 : URA M} {H : Heap 𝓤} {A : Atoms 𝓤} {K : Type 0} {W : Given 𝓤 H A} {Γ : List (Item 𝓤)} {G : Goal 𝓤 H} where
   -- both lent for one lifetime, as a law of lending has it: what the references own, and what the lender waits for
   both-lent : K → Soaks G → (xs ys : List ℕ) (b o : ℕ) → Fits 7 xs → Fits 8 ys → (Own₇ Own₈ Held₇ Held₈ : ℕ → GName → Fml)
-      → ((α : ℕ) → ent 𝓤 (sem 𝓤 H A (lengths-at b o (same xs))) (H .⇛ (ex 𝓤 (λ (γ : GName). sep 𝓤 (sem 𝓤 H A (Own₇ α γ)) (A .lent (α ∷ []) (Held₇ α γ))))))
-      → ((α : ℕ) → ent 𝓤 (sem 𝓤 H A (tags-at b o (same ys))) (H .⇛ (ex 𝓤 (λ (γ : GName). sep 𝓤 (sem 𝓤 H A (Own₈ α γ)) (A .lent (α ∷ []) (Held₈ α γ))))))
-      → ((α : ℕ) (γ δ : GName) → Seq K W (‵ (flft (α ∷ []) fullShare) ∷ ‵ (Own₇ α γ) ∷ ‵ (Own₈ α δ) ∷ ‵ (flent (α ∷ []) (Held₇ α γ)) ∷ ‵ (flent (α ∷ []) (Held₈ α δ)) ∷ Γ) G)
+      → ((α : ℕ) → ent 𝓤 (sem 𝓤 H A (lengths-at b o (same xs)))
+      (H .⇛ (ex 𝓤 (λ (γ : GName). sep 𝓤 (sem 𝓤 H A (Own₇ α γ)) (A .lent (α ∷ []) (Held₇ α γ))))))
+      → ((α : ℕ) → ent 𝓤 (sem 𝓤 H A (tags-at b o (same ys)))
+      (H .⇛ (ex 𝓤 (λ (γ : GName). sep 𝓤 (sem 𝓤 H A (Own₈ α γ)) (A .lent (α ∷ []) (Held₈ α γ))))))
+      → ((α : ℕ) (γ δ : GName)
+      → Seq K W (‵ (flft (α ∷ []) fullShare) ∷ ‵ (Own₇ α γ) ∷ ‵ (Own₈ α δ) ∷ ‵ (flent (α ∷ []) (Held₇ α γ))
+      ∷ ‵ (flent (α ∷ []) (Held₈ α δ)) ∷ Γ) G)
       → Seq K W (‵ (cell 7 1_640 b o (val-at 7 xs)) ∷ ‵ (cell 8 5_736 b o (val-at 8 ys)) ∷ Γ) G
   both-lent t z xs ys b o isx isy Own₇ Own₈ Held₇ Held₈ lends₇ lends₈ k =
-      use1 W (‵ (lengths-at b o (same xs))) (lies 𝓤 H A W Lengths (same xs) b (o + 1_640) (array-makes 𝓤 H A W u16 (uint-makes 𝓤 H A W w16) 2_048) (val-at 7 xs) isx) $
-      move t (1 ∷ []) $ use1 W (‵ (tags-at b o (same ys))) (lies 𝓤 H A W Tags (same ys) b (o + 5_736) (array-makes 𝓤 H A W u32 (uint-makes 𝓤 H A W w32) 2_048) (val-at 8 ys) isy) $
-      lft-new t z (λ α. move t (1 ∷ []) $ use1 W (later (some (λ (δ : GName). ‵ (Own₈ α δ) ⊛ ‵ (flent (α ∷ []) (Held₈ α δ))))) (lends₈ α) $ await t z $ pick t (λ δ. split t $
-      move t (3 ∷ []) $ use1 W (later (some (λ (γ : GName). ‵ (Own₇ α γ) ⊛ ‵ (flent (α ∷ []) (Held₇ α γ))))) (lends₇ α) $ await t z $ pick t (λ γ. split t $
+      use1 W (‵ (lengths-at b o (same xs)))
+      (lies 𝓤 H A W Lengths (same xs) b (o + 1_640) (array-makes 𝓤 H A W u16 (uint-makes 𝓤 H A W w16) 2_048) (val-at 7 xs) isx) $
+      move t (1 ∷ []) $ use1 W (‵ (tags-at b o (same ys)))
+      (lies 𝓤 H A W Tags (same ys) b (o + 5_736) (array-makes 𝓤 H A W u32 (uint-makes 𝓤 H A W w32) 2_048) (val-at 8 ys) isy) $
+      lft-new t z (λ α. move t (1 ∷ []) $ use1 W (later (some (λ (δ : GName). ‵ (Own₈ α δ) ⊛ ‵ (flent (α ∷ []) (Held₈ α δ))))) (lends₈ α) $
+      await t z $ pick t (λ δ. split t $
+      move t (3 ∷ []) $ use1 W (later (some (λ (γ : GName). ‵ (Own₇ α γ) ⊛ ‵ (flent (α ∷ []) (Held₇ α γ))))) (lends₇ α) $ await t z $
+      pick t (λ γ. split t $
       -- [lengths; the lender's part; tags; the lender's part; the token]
       move t (4 ∷ 0 ∷ 2 ∷ 1 ∷ 3 ∷ []) $ k α γ δ)))
 
   -- what lies there is in the cells
-  in-cells : K → (xs ys : List ℕ) (b o : ℕ) → (Fits 7 xs → Fits 8 ys → Seq K W (‵ (cell 7 1_640 b o (val-at 7 xs)) ∷ ‵ (cell 8 5_736 b o (val-at 8 ys)) ∷ Γ) G)
+  in-cells : K → (xs ys : List ℕ) (b o : ℕ)
+      → (Fits 7 xs → Fits 8 ys → Seq K W (‵ (cell 7 1_640 b o (val-at 7 xs)) ∷ ‵ (cell 8 5_736 b o (val-at 8 ys)) ∷ Γ) G)
       → Seq K W (‵ (lengths-at b o (same xs)) ∷ ‵ (tags-at b o (same ys)) ∷ Γ) G
   in-cells t xs ys b o k =
-      use1 W (given (Fits 7 xs) (‵ (cell 7 1_640 b o (val-at 7 xs)))) (lay 𝓤 H A W Lengths (same xs) b (o + 1_640) lengths-vals (lawAt (L.the-type .parts) L′.the-laws 7 .tells)) $ learn t (λ isx. move t (1 ∷ []) $
-      use1 W (given (Fits 8 ys) (‵ (cell 8 5_736 b o (val-at 8 ys)))) (lay 𝓤 H A W Tags (same ys) b (o + 5_736) tags-vals (lawAt (L.the-type .parts) L′.the-laws 8 .tells)) $ learn t (λ isy. move t (1 ∷ 0 ∷ []) $ k isx isy))
+      use1 W (given (Fits 7 xs) (‵ (cell 7 1_640 b o (val-at 7 xs))))
+      (lay 𝓤 H A W Lengths (same xs) b (o + 1_640) lengths-vals (lawAt (L.the-type .parts) L′.the-laws 7 .tells)) $
+      learn t (λ isx. move t (1 ∷ []) $
+      use1 W (given (Fits 8 ys) (‵ (cell 8 5_736 b o (val-at 8 ys))))
+      (lay 𝓤 H A W Tags (same ys) b (o + 5_736) tags-vals (lawAt (L.the-type .parts) L′.the-laws 8 .tells)) $
+      learn t (λ isy. move t (1 ∷ 0 ∷ []) $ k isx isy))
 
 module _ {M : Type 1} {𝓤 : URA M} {H : Heap 𝓤} {A : Atoms 𝓤} {K : Type 0} {W : Given 𝓤 H A} {Γ : List (Item 𝓤)} {G : Goal 𝓤 H} where
   -- lent as `&`
   pub shared : K → Soaks G → (xs ys : List ℕ) (b o : ℕ) → Fits 7 xs → Fits 8 ys
       → ((α : ℕ) (γ δ : GName) → Seq K W
-      (‵ (flft (α ∷ []) fullShare) ∷ ‵ (shr-lengths b o α γ (same xs)) ∷ ‵ (shr-tags b o α δ (same ys)) ∷ ‵ (flent (α ∷ []) (lengths-at b o (same xs))) ∷ ‵ (flent (α ∷ []) (tags-at b o (same ys))) ∷ Γ) G)
+      (‵ (flft (α ∷ []) fullShare) ∷ ‵ (shr-lengths b o α γ (same xs)) ∷ ‵ (shr-tags b o α δ (same ys))
+      ∷ ‵ (flent (α ∷ []) (lengths-at b o (same xs))) ∷ ‵ (flent (α ∷ []) (tags-at b o (same ys))) ∷ Γ) G)
       → Seq K W (‵ (cell 7 1_640 b o (val-at 7 xs)) ∷ ‵ (cell 8 5_736 b o (val-at 8 ys)) ∷ Γ) G
   shared t z xs ys b o isx isy =
-      both-lent t z xs ys b o isx isy (λ α γ. shr-lengths b o α γ (same xs)) (λ α γ. shr-tags b o α γ (same ys)) (λ α γ. lengths-at b o (same xs)) (λ α γ. tags-at b o (same ys))
-      (λ α. lends-shr 𝓤 H A W Lengths (named 0) (α ∷ []) fullShare (same xs) b (o + 1_640)) (λ α. lends-shr 𝓤 H A W Tags (named 0) (α ∷ []) fullShare (same ys) b (o + 5_736))
+      both-lent t z xs ys b o isx isy (λ α γ. shr-lengths b o α γ (same xs)) (λ α γ. shr-tags b o α γ (same ys))
+      (λ α γ. lengths-at b o (same xs)) (λ α γ. tags-at b o (same ys))
+      (λ α. lends-shr 𝓤 H A W Lengths (named 0) (α ∷ []) fullShare (same xs) b (o + 1_640))
+      (λ α. lends-shr 𝓤 H A W Tags (named 0) (α ∷ []) fullShare (same ys) b (o + 5_736))
 
   -- and taken back, as they were
   pub unshared : K → Soaks G → (xs ys : List ℕ) (b o : ℕ) {α : ℕ}
       → Step K W (‵ (cell 7 1_640 b o (val-at 7 xs)) ∷ ‵ (cell 8 5_736 b o (val-at 8 ys)) ∷ Γ) G
       (‵ (flft (α ∷ []) fullShare) ∷ ‵ (flent (α ∷ []) (lengths-at b o (same xs))) ∷ ‵ (flent (α ∷ []) (tags-at b o (same ys))) ∷ Γ) G
   unshared t z xs ys b o {α} = step (λ s.
-      lft-end t z $ use1 W (‵ (fdead (α ∷ [])) ⊛ ‵ (fdead (α ∷ []))) (W .lfts .dead-dup (α ∷ [])) $ split t $ move t (1 ∷ 3 ∷ []) $ lent-back t z $ move t (1 ∷ 2 ∷ []) $ lent-back t z $
+      lft-end t z $ use1 W (‵ (fdead (α ∷ [])) ⊛ ‵ (fdead (α ∷ []))) (W .lfts .dead-dup (α ∷ [])) $ split t $ move t (1 ∷ 3 ∷ []) $
+      lent-back t z $ move t (1 ∷ 2 ∷ []) $ lent-back t z $
       in-cells t xs ys b o (λ isx isy. s))
 
   -- lent as `&mut`
@@ -236,8 +300,10 @@ module _ {M : Type 1} {𝓤 : URA M} {H : Heap 𝓤} {A : Atoms 𝓤} {K : Type 
       ∷ ‵ (flent (α ∷ []) (Body (mem Lengths) b (o + 1_640) γ)) ∷ ‵ (flent (α ∷ []) (Body (mem Tags) b (o + 5_736) δ)) ∷ Γ) G)
       → Seq K W (‵ (cell 7 1_640 b o (val-at 7 xs)) ∷ ‵ (cell 8 5_736 b o (val-at 8 ys)) ∷ Γ) G
   lent-out t z xs ys b o isx isy =
-      both-lent t z xs ys b o isx isy (λ α γ. mut-lengths b o α γ (same xs)) (λ α γ. mut-tags b o α γ (same ys)) (λ α γ. Body (mem Lengths) b (o + 1_640) γ) (λ α γ. Body (mem Tags) b (o + 5_736) γ)
-      (λ α. lends-ref 𝓤 H A W Lengths (named 0) (α ∷ []) (same xs) b (o + 1_640)) (λ α. lends-ref 𝓤 H A W Tags (named 0) (α ∷ []) (same ys) b (o + 5_736))
+      both-lent t z xs ys b o isx isy (λ α γ. mut-lengths b o α γ (same xs)) (λ α γ. mut-tags b o α γ (same ys))
+      (λ α γ. Body (mem Lengths) b (o + 1_640) γ) (λ α γ. Body (mem Tags) b (o + 5_736) γ)
+      (λ α. lends-ref 𝓤 H A W Lengths (named 0) (α ∷ []) (same xs) b (o + 1_640))
+      (λ α. lends-ref 𝓤 H A W Tags (named 0) (α ∷ []) (same ys) b (o + 5_736))
 
   -- and taken back, at their last values
   pub come-back : K → Soaks G → (xs ys : List ℕ) (b o : ℕ) {α : ℕ} {γ δ : GName}
@@ -249,21 +315,26 @@ module _ {M : Type 1} {𝓤 : URA M} {H : Heap 𝓤} {A : Atoms 𝓤} {K : Type 
       -- [dead; dead; the last values; the lender's parts]
       move t (0 ∷ 5 ∷ 3 ∷ []) $ use3 W (later (‵ (tags-at b o ys))) (ref-back 𝓤 H A W Tags (α ∷ []) δ ys b (o + 5_736)) $ await t z $
       move t (1 ∷ 3 ∷ 2 ∷ []) $ use3 W (later (‵ (lengths-at b o xs))) (ref-back 𝓤 H A W Lengths (α ∷ []) γ xs b (o + 1_640)) $ await t z $
-      rewrite t 0 (λ (zs : List ℕ). ‵ (lengths-at b o zs)) (sym (map-id xs)) refl $ rewrite t 1 (λ (zs : List ℕ). ‵ (tags-at b o zs)) (sym (map-id ys)) refl $
+      rewrite t 0 (λ (zs : List ℕ). ‵ (lengths-at b o zs)) (sym (map-id xs)) refl $
+      rewrite t 1 (λ (zs : List ℕ). ‵ (tags-at b o zs)) (sym (map-id ys)) refl $
       in-cells t xs ys b o k
 
   -- the fields that a call takes by value, before what else it takes
   pub by-value : K → (h : Link) → Known h → {X : Fml}
       → Step K W
-      (‵ (fsep (T.the-row .own (h .tree) (val-at 0 (h .tree) ∷ [])) (fsep (B.the-row .own (h .size) (val-at 1 (h .size) ∷ [])) (fsep (u64 .own (h .active) (val-at 2 (h .active) ∷ [])) (fsep (usize .own (h .place) (val-at 3 (h .place) ∷ []))
-      (fsep (Accounts .own (h .accounts) (val-at 4 (h .accounts) ∷ [])) (fsep (Array u8 64 .own (same (h .start)) (val-at 5 (h .start) ∷ [])) (fsep (Array u8 64 .own (same (h .held)) (val-at 6 (h .held) ∷ [])) X))))))) ∷ Γ) G
+      (‵ (fsep (T.the-row .own (h .tree) (val-at 0 (h .tree) ∷ [])) (fsep (B.the-row .own (h .size) (val-at 1 (h .size) ∷ []))
+      (fsep (u64 .own (h .active) (val-at 2 (h .active) ∷ [])) (fsep (usize .own (h .place) (val-at 3 (h .place) ∷ []))
+      (fsep (Accounts .own (h .accounts) (val-at 4 (h .accounts) ∷ []))
+      (fsep (Array u8 64 .own (same (h .start)) (val-at 5 (h .start) ∷ []))
+      (fsep (Array u8 64 .own (same (h .held)) (val-at 6 (h .held) ∷ [])) X))))))) ∷ Γ) G
       (‵ X ∷ Γ) G
   by-value t h is = step (λ s.
       let ps = parts-of h is in
       let bytes = array-makes 𝓤 H A W u8 (uint-makes 𝓤 H A W w8) 64 in
       owned t (Array u8 64) (Is (Array u8 64)) bytes (same (h .held)) _ (ps .1 .1 .1 .1 .1 .1 .0) $ fjoin t $
       owned t (Array u8 64) (Is (Array u8 64)) bytes (same (h .start)) _ (ps .1 .1 .1 .1 .1 .0) $ fjoin t $
-      owned t Accounts (Is Accounts) (array-makes 𝓤 H A W C.the-row (LL.makes C.the-type C′.the-plain 𝓤 H A) 64) (h .accounts) _ (accounts-are (h .accounts) (ps .1 .1 .1 .1 .0)) $ fjoin t $
+      owned t Accounts (Is Accounts) (array-makes 𝓤 H A W C.the-row (LL.makes C.the-type C′.the-plain 𝓤 H A) 64) (h .accounts) _
+      (accounts-are (h .accounts) (ps .1 .1 .1 .1 .0)) $ fjoin t $
       owned t usize (Is usize) (uint-makes 𝓤 H A W w64) (h .place) _ (ps .1 .1 .1 .0) $ fjoin t $
       owned t u64 (Is u64) (uint-makes 𝓤 H A W w64) (h .active) _ (ps .1 .1 .0) $ fjoin t $
       owned t B.the-row (Is B.the-row) (LL.makes B.the-type B′.the-plain 𝓤 H A) (h .size) _ (ps .1 .0) $ fjoin t $

@@ -1,8 +1,8 @@
 // The box's loop keeps one link record and lends it to both calls (R164): an arrival and a send behind `&mut`. Entries for callers
 // outside: they ask nothing.
 // Serves demands 1 and 2: the answer and the record at exit are those of the calls by value, by the same definitions.
-ghost use Rattle.link.specs.Arrival.{arrivalLeaves, Arrives};
-ghost use Rattle.link.specs.Send.{sendLeaves, Sends};
+ghost use Rattle.calls.specs.Arrival.{arrivalLeaves, Arrives};
+ghost use Rattle.calls.specs.Send.{sendLeaves, Sends};
 use link::Arrival;
 use link::Departure;
 use state::Link;

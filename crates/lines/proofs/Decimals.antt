@@ -71,7 +71,10 @@ decimal-by-eight n h =
     twice 10_000 fourDigits decimal-by-four 100_000_000 n (omega arith) (omega arith) (omega arith) (omega arith) (omega arith)
 
 -- what holds of one digit, and goes on holding as a last digit is set after it, holds of all decimal digits
-module _ (P : ℕ → List ℕ → Type 0) (one : (n : ℕ) → n < 10 → P n (digit n ∷ [])) (more : (n : ℕ) (ds : List ℕ) → 10 ≤ n → P (n / 10) ds → P n (after n ds)) where
+module _
+    (P : ℕ → List ℕ → Type 0)
+    (one : (n : ℕ) → n < 10 → P n (digit n ∷ []))
+    (more : (n : ℕ) (ds : List ℕ) → 10 ≤ n → P (n / 10) ds → P n (after n ds)) where
   steps : (k n : ℕ) → n < k → P n (decimal n)
   steps zero n h = absurd (omega (arith, h))
   steps (suc k) n h = go (steps k (n / 10)) (decLt n 10)
@@ -111,11 +114,13 @@ value-last sofar (x ∷ ds) d = value-last (sofar * 10 + (x - 48)) ds d
 
 -- the digits of n stand for n
 pub decimal-value : (n : ℕ) → value 0 (decimal n) ≡ n
-decimal-value n = by-digits (λ n ds. value 0 ds ≡ n) (λ n h. omega arith) (λ n ds h e. value-last 0 ds (digit (n % 10)) ∙ omega (arith, e)) n
+decimal-value n =
+    by-digits (λ n ds. value 0 ds ≡ n) (λ n h. omega arith) (λ n ds h e. value-last 0 ds (digit (n % 10)) ∙ omega (arith, e)) n
 
 -- there is at least one
 pub decimal-some : (n : ℕ) → 1 ≤ length (decimal n)
-decimal-some n = by-digits (λ n ds. 1 ≤ length ds) (λ n h. omega arith) (λ n ds h e. omega (arith, length-append ds (digit (n % 10) ∷ []))) n
+decimal-some n =
+    by-digits (λ n ds. 1 ≤ length ds) (λ n h. omega arith) (λ n ds h e. omega (arith, length-append ds (digit (n % 10) ∷ []))) n
 
 -- no leading zero: 0 is the one digit 0, and any other number begins with another digit
 pub decimal-zero : decimal 0 ≡ 48 ∷ []
@@ -124,16 +129,20 @@ decimal-zero = decimal-small 0 (omega arith)
 pub decimal-leading : (n : ℕ) → 0 < n → (0 < length (decimal n)) × (48 < getD (decimal n) 0 0)
 decimal-leading n = by-digits (λ n ds. 0 < n → (0 < length ds) × (48 < getD ds 0 0)) (λ n h some. (omega arith, omega arith)) more n
   where
-    more : (n : ℕ) (ds : List ℕ) → 10 ≤ n → (0 < n / 10 → (0 < length ds) × (48 < getD ds 0 0)) → 0 < n → (0 < length (after n ds)) × (48 < getD (after n ds) 0 0)
+    more : (n : ℕ) (ds : List ℕ) → 10 ≤ n → (0 < n / 10 → (0 < length ds) × (48 < getD ds 0 0)) → 0 < n
+        → (0 < length (after n ds)) × (48 < getD (after n ds) 0 0)
     more n ds h rest some =
-        let was = rest (omega arith) in
-        (omega (arith, length-append ds (digit (n % 10) ∷ []), was .0), subst (λ (d : ℕ). 48 < d) (sym (List·getD-append ds (digit (n % 10) ∷ []) 0 0 (was .0))) (was .1))
+        let was = rest (omega arith) in (
+          omega (arith, length-append ds (digit (n % 10) ∷ []), was .0),
+          subst (λ (d : ℕ). 48 < d) (sym (List·getD-append ds (digit (n % 10) ∷ []) 0 0 (was .0))) (was .1),
+        )
 
 -- a number below a power of 10 has at most that many digits
 pub decimal-within : (n k : ℕ) → n < 10 ^ suc k → length (decimal n) ≤ suc k
 decimal-within n = by-digits (λ n ds. (k : ℕ) → n < 10 ^ suc k → length ds ≤ suc k) (λ n h k w. omega arith) more n
   where
-    more : (n : ℕ) (ds : List ℕ) → 10 ≤ n → ((k : ℕ) → n / 10 < 10 ^ suc k → length ds ≤ suc k) → (k : ℕ) → n < 10 ^ suc k → length (after n ds) ≤ suc k
+    more : (n : ℕ) (ds : List ℕ) → 10 ≤ n → ((k : ℕ) → n / 10 < 10 ^ suc k → length ds ≤ suc k) → (k : ℕ) → n < 10 ^ suc k
+        → length (after n ds) ≤ suc k
     more n ds h rest zero w = absurd (omega arith)
     more n ds h rest (suc k) w =
         let w′ : n < 10 ^ suc k * 10 = rw pow-suc at w in

@@ -4,7 +4,7 @@ use mathlib.Core.Path.{_≡_, refl, sym, ap, ap₂, _∙_, subst}
 use Prim.Native.Nat.{ℕ, suc, _+_, _≤_, _<_}
 use native.Mathlib.Nat.{zero-add, add-zero}
 use native.Mathlib.Omega.{arith}
-use lib.ListN.{length, take, drop, length-append, take-append-drop, set}
+use lib.ListN.{length, take, drop, length-append, length-drop, take-append-drop, set}
 use lib.Seq.{take-at, drop-at, drop-drop, length-take-le, paste, take-length, set-split, append-snoc}
 use Rattle.io.specs.Counts.{Counts}
 use Rattle.lines.specs.declared.Line.{Line}
@@ -57,6 +57,14 @@ laid-then at t u b c d m r h first next = (
   omega (arith, first .0, next .0, length-append t u),
   next .1 ∙ ap₂ (λ (k : ℕ) (x : List ℕ). over k u x) (first .0) (first .1) ∙ over-over at t u b h,
 )
+
+-- a text laid within a buffer leaves it as long as it was
+pub laid-length : (at : ℕ) (t b d : List ℕ) (r : ℕ) → r ≤ length b → LaidAt at t b r d → length d ≡ length b
+unfolding over
+laid-length at t b d r h laid =
+    let n = at + length t in
+    let within : n ≤ length b = omega (arith, h, laid .0) in
+    ap length (laid .1) ∙ length-append (take at b ++ t) (drop n b) ∙ ap₂ _+_ (front at t b within) (length-drop n b) ∙ omega arith
 
 -- the same text, by another name
 pub laid-same : (at : ℕ) (t u b d : List ℕ) (r : ℕ) → u ≡ t → LaidAt at t b r d → LaidAt at u b r d

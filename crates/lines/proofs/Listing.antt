@@ -53,7 +53,8 @@ unfolding bytesOf decimal digitsIn
 listing = refl
 
 -- a refused arrival: `no 4 11 4294967295 13`
-refused-arrival : bytesOf (No 4 11 4294967295 13) ≡ 110 ∷ 111 ∷ 32 ∷ 52 ∷ 32 ∷ 49 ∷ 49 ∷ 32 ∷ 52 ∷ 50 ∷ 57 ∷ 52 ∷ 57 ∷ 54 ∷ 55 ∷ 50 ∷ 57 ∷ 53 ∷ 32 ∷ 49 ∷ 51 ∷ 10 ∷ []
+refused-arrival : bytesOf (No 4 11 4294967295 13)
+    ≡ 110 ∷ 111 ∷ 32 ∷ 52 ∷ 32 ∷ 49 ∷ 49 ∷ 32 ∷ 52 ∷ 50 ∷ 57 ∷ 52 ∷ 57 ∷ 54 ∷ 55 ∷ 50 ∷ 57 ∷ 53 ∷ 32 ∷ 49 ∷ 51 ∷ 10 ∷ []
 unfolding bytesOf decimal digitsIn
 refused-arrival = refl
 
@@ -63,7 +64,8 @@ unfolding bytesOf decimal digitsIn
 stopped = refl
 
 -- the largest 64-bit number: `end 18446744073709551615`
-largest-number : bytesOf (End 18446744073709551615) ≡ 101 ∷ 110 ∷ 100 ∷ 32 ∷ 49 ∷ 56 ∷ 52 ∷ 52 ∷ 54 ∷ 55 ∷ 52 ∷ 52 ∷ 48 ∷ 55 ∷ 51 ∷ 55 ∷ 48 ∷ 57 ∷ 53 ∷ 53 ∷ 49 ∷ 54 ∷ 49 ∷ 53 ∷ 10 ∷ []
+largest-number : bytesOf (End 18446744073709551615)
+    ≡ 101 ∷ 110 ∷ 100 ∷ 32 ∷ 49 ∷ 56 ∷ 52 ∷ 52 ∷ 54 ∷ 55 ∷ 52 ∷ 52 ∷ 48 ∷ 55 ∷ 51 ∷ 55 ∷ 48 ∷ 57 ∷ 53 ∷ 53 ∷ 49 ∷ 54 ∷ 49 ∷ 53 ∷ 10 ∷ []
 unfolding bytesOf decimal digitsIn
 largest-number = refl
 

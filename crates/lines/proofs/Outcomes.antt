@@ -8,7 +8,8 @@ use Rattle.lines.specs.declared.Line.{Line}
 use Rattle.lines.specs.Line.{bytesOf, Lays}
 
 -- any two outcomes that the contract allows are equal
-pub lay-one-answer : (line : Line) (before after after′ : List ℕ) (r r′ : ℕ) → Lays line before r after → Lays line before r′ after′ → (r ≡ r′) × (after ≡ after′)
+pub lay-one-answer : (line : Line) (before after after′ : List ℕ) (r r′ : ℕ) → Lays line before r after → Lays line before r′ after′
+    → (r ≡ r′) × (after ≡ after′)
 lay-one-answer line before after after′ r r′ one other = (one .0 ∙ sym (other .0), one .1 ∙ sym (other .1))
 
 -- the part of the buffer that the answer counts is the line

@@ -9,6 +9,7 @@ ghost use Rattle.io.specs.Counts.{Counts};
 ghost use Rattle.lines.specs.Decimal.{digit, decimal};
 ghost use Rattle.lines.specs.Line.{spaced, bytesOf, lineRoom, Lays};
 ghost use Rattle.lines.specs.Laid.{twoDigits, fourDigits, eightDigits, endOf, LaidAt};
+ghost use Rattle.lines.specs.declared.Line.the-variants.{In, Out};
 
 // One line for each thing.
 pub enum Line {
@@ -157,13 +158,27 @@ fn put_number(n: u64, at: usize, out: &mut [u8]) -> usize
     put_large(n, at + 1, out)
 }
 
+// The same. One digit is laid here: handed to `put_number` it would cost a call, and the last number of most lines has one.
+fn put_spaced(n: u64, at: usize, out: &mut [u8]) -> usize
+    requires { ⌜ at + 21 ≤ length (now out) ⌝ }
+    ensures { λ r. ⌜ LaidAt at (spaced n) (now (out .entry)) r (now (out .exit)) ⌝ }
+    ensures { λ r. ⌜ r ≤ at + 21 ⌝ }
+{
+    if 10 <= n {
+        return put_number(n, at, out);
+    }
+    out[at] = b' ';
+    out[at + 1] = byte_of(n as u32);
+    at + 2
+}
+
 // Lays the last number of a line, and the end of the line.
 fn put_last(a: u64, at: usize, out: &mut [u8]) -> usize
     requires { ⌜ at + 22 ≤ length (now out) ⌝ }
     ensures { λ r. ⌜ LaidAt at (endOf (a ∷ [])) (now (out .entry)) r (now (out .exit)) ⌝ }
     ensures { λ r. ⌜ r ≤ at + 22 ⌝ }
 {
-    let end = put_number(a, at, out);
+    let end = put_spaced(a, at, out);
     out[end] = b'\n';
     end + 1
 }
@@ -198,6 +213,27 @@ fn put_last_four(a: u64, b: u64, c: u64, d: u64, at: usize, out: &mut [u8]) -> u
     put_last_three(b, c, d, next, out)
 }
 
+// Lays the line of an accepted arrival from a place on where the longest line has room, and answers the place after it. A run lays the
+// lines of most of its events so, and by `lay_out`: a `Line` made for `lay_at` would cost two stores and loads for each number.
+pub fn lay_in(class: u64, len: u64, tag: u64, at: usize, out: &mut [u8]) -> usize
+    requires { ⌜ at + lineRoom ≤ length (now out) ⌝ }
+    ensures { λ r. ⌜ LaidAt at (bytesOf (In class len tag)) (now (out .entry)) r (now (out .exit)) ⌝ }
+    ensures { λ r. ⌜ r ≤ at + lineRoom ⌝ }
+{
+    let next = put(b"in", at, out);
+    put_last_three(class, len, tag, next, out)
+}
+
+// Lays the line of a packet that was sent.
+pub fn lay_out(class: u64, len: u64, tag: u64, rounds: u64, at: usize, out: &mut [u8]) -> usize
+    requires { ⌜ at + lineRoom ≤ length (now out) ⌝ }
+    ensures { λ r. ⌜ LaidAt at (bytesOf (Out class len tag rounds)) (now (out .entry)) r (now (out .exit)) ⌝ }
+    ensures { λ r. ⌜ r ≤ at + lineRoom ⌝ }
+{
+    let next = put(b"out", at, out);
+    put_last_four(class, len, tag, rounds, next, out)
+}
+
 // Lays a line from a place on where the longest has room, and answers the place after it.
 pub fn lay_at(line: Line, at: usize, out: &mut [u8]) -> usize
     requires { ⌜ at + lineRoom ≤ length (now out) ⌝ }
@@ -209,18 +245,12 @@ pub fn lay_at(line: Line, at: usize, out: &mut [u8]) -> usize
             let next = put(b"link", at, out);
             put_last_two(classes, size, next, out)
         }
-        Line::In(class, length, tag) => {
-            let next = put(b"in", at, out);
-            put_last_three(class, length, tag, next, out)
-        }
-        Line::No(class, length, tag, number) => {
+        Line::In(class, len, tag) => lay_in(class, len, tag, at, out),
+        Line::No(class, len, tag, number) => {
             let next = put(b"no", at, out);
-            put_last_four(class, length, tag, number, next, out)
+            put_last_four(class, len, tag, number, next, out)
         }
-        Line::Out(class, length, tag, rounds) => {
-            let next = put(b"out", at, out);
-            put_last_four(class, length, tag, rounds, next, out)
-        }
+        Line::Out(class, len, tag, rounds) => lay_out(class, len, tag, rounds, at, out),
         Line::Nothing => put(b"none\n", at, out),
         Line::End(waiting) => {
             let next = put(b"end", at, out);

@@ -1,7 +1,3 @@
--- Laws of the calls and of runs.
-pub mod Arrivals
-pub mod Departures
+-- Laws of the calls over numbers and over the parts of a link.
+pub mod Judging
 pub mod OverParts
-pub mod FreshLinks
-pub mod Progress
-pub mod Runs

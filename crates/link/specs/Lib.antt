@@ -1,7 +1,2 @@
--- The calls of the library: a fresh link, an arrival and a send.
-pub mod Fresh
-pub mod Arrival
-pub mod Send
-pub mod Progress
-pub mod Run
+-- The calls over the parts of a link.
 pub mod Parts

@@ -9,12 +9,12 @@ use Rattle.state.specs.declared.Packet.{Packet}
 use Rattle.state.specs.Queue.{Shaped, queued}
 use Rattle.state.specs.State.{linkInRound}
 use Rattle.steps.specs.declared.Moved.{Moved}
-use Rattle.link.specs.declared.Arrival.{Arrival}
-use Rattle.link.specs.declared.Departure.{Departure}
+use Rattle.calls.specs.declared.Arrival.{Arrival}
+use Rattle.calls.specs.declared.Departure.{Departure}
 use Rattle.link.specs.declared.Placed.{Placed}
 use Rattle.link.specs.declared.Changed.{Changed}
-use Rattle.link.specs.Arrival.{Arrives, arrivalLeaves, arrivalAnswer}
-use Rattle.link.specs.Send.{Sends, sendLeaves, goes}
+use Rattle.calls.specs.Arrival.{Arrives, arrivalLeaves, arrivalAnswer}
+use Rattle.calls.specs.Send.{Sends, sendLeaves, goes}
 
 abbrev pub placedAt : Verdict → List ℕ → ℕ → Placed
 placedAt verdict held at = record { answer = arrivalAnswer verdict; held = held; at = at }

@@ -1,17 +1,22 @@
 // The calls of the library (R1): a fresh link from a plan's tree, an arrival and a send. Entries for callers outside: they ask nothing
 // (R196).
-// An arrival and a send are worked out once, over the parts of a link with its waiting places lent; the calls by value take a link apart and put
-// it together.
+// An arrival and a send are worked out once, over the parts of a link with its waiting places lent; the calls by value take a link apart
+// and put it together.
 // Serves demand 1 (numbers 11 to 15, a refused call hands the record back unaltered) and demand 2.
+pub use calls::AfterArrival;
+pub use calls::AfterSend;
+pub use calls::Answered;
+pub use calls::Arrival;
+pub use calls::Departure;
 ghost use mathlib.Core.List.{List};
 ghost use mathlib.Core.Path.{_≡_};
 ghost use Prim.Native.Nat.{ℕ, _+_, _<_};
 ghost use lib.ListN.{getD, set};
-ghost use Rattle.link.specs.Fresh.{MakesFresh};
-ghost use Rattle.link.specs.Arrival.{Arrives};
+ghost use Rattle.calls.specs.Fresh.{MakesFresh};
+ghost use Rattle.calls.specs.Arrival.{Arrives};
 ghost use Rattle.checks.specs.declared.Verdict.the-variants.{Passed, Refused};
 ghost use Rattle.state.specs.State.{linkOf};
-ghost use Rattle.link.specs.Send.{refused, Sends};
+ghost use Rattle.calls.specs.Send.{refused, Sends};
 ghost use Rattle.link.specs.Parts.{placedAt, ArrivesIn, ArrivesAt, changedTo, goesBy, SendsIn};
 use checks::Verdict;
 use state::Account;
@@ -21,39 +26,6 @@ use state::queue;
 use steps::Moved;
 use tree::Tree;
 use units::Bytes;
-
-// What a fresh link asked of a tree gives: a verdict and the link.
-pub struct Answered {
-    pub verdict: Verdict,
-    pub link: Link,
-}
-
-// What an arrival answers: its verdict.
-pub struct Arrival {
-    pub verdict: Verdict,
-}
-
-// What an arrival gives: its answer and the link after it.
-pub struct AfterArrival {
-    pub answer: Arrival,
-    pub link: Link,
-}
-
-// What a send answers: a verdict, the packet that goes with its class, and the rounds opened in the call. All numbers of a refused one
-// are 0.
-pub struct Departure {
-    pub verdict: Verdict,
-    pub class: usize,
-    pub length: u16,
-    pub tag: u32,
-    pub rounds: usize,
-}
-
-// What a send gives: its answer and the link after it.
-pub struct AfterSend {
-    pub answer: Departure,
-    pub link: Link,
-}
 
 // An arrival over the parts of a link: its answer, the packets held after it, and the waiting place where the packet goes; 2,048, which is
 // no place, where it is refused.
@@ -124,7 +96,8 @@ pub fn arrive_of(
     class: usize,
     packet: Packet,
 ) -> Placed
-    ensures { λ r. ⌜ ((tags : List ℕ) → ArrivesIn (linkOf tree size active place accounts start held (now (lengths .entry)) tags) class packet r) ⌝ }
+    ensures { λ r. ⌜ ((tags : List ℕ)
+        → ArrivesIn (linkOf tree size active place accounts start held (now (lengths .entry)) tags) class packet r) ⌝ }
 {
     let sound = sound::is_sound_of(tree, size, active, place, accounts, start, held, lengths);
     let leaf = sets::holds(tree.leaves, class);
@@ -154,8 +127,8 @@ pub fn arrive_in<'a>(
     class: usize,
     packet: Packet,
 ) -> Placed
-    ensures { λ r. ⌜ ArrivesAt (linkOf tree size active place accounts start held (now (lengths .entry)) (now (tags .entry))) class packet (r .answer)
-        (linkOf tree size active place accounts start (r .held) (now (lengths .exit)) (now (tags .exit))) ⌝ }
+    ensures { λ r. ⌜ ArrivesAt (linkOf tree size active place accounts start held (now (lengths .entry)) (now (tags .entry))) class packet
+        (r .answer) (linkOf tree size active place accounts start (r .held) (now (lengths .exit)) (now (tags .exit))) ⌝ }
 {
     let placed = arrive_of(
         tree,

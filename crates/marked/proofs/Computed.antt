@@ -10,11 +10,11 @@ use Rattle.plan.specs.Reader.{planOf}
 use Rattle.plan.proofs.Numbers.{plan-rules}
 use Rattle.state.specs.declared.Link.{Link}
 use Rattle.sound.specs.Sound.{SoundLink}
-use Rattle.link.specs.declared.Answered.{Answered}
-use Rattle.link.specs.Fresh.{freshOf, MakesFresh}
-use Rattle.link.specs.Run.{Call, runOf, madeIn}
-use Rattle.link.proofs.FreshLinks.{fresh-sound}
-use Rattle.link.proofs.Runs.{run-is}
+use Rattle.calls.specs.declared.Answered.{Answered}
+use Rattle.calls.specs.Fresh.{freshOf, MakesFresh}
+use Rattle.calls.specs.Run.{Call, runOf, madeIn}
+use Rattle.calls.proofs.FreshLinks.{fresh-sound}
+use Rattle.calls.proofs.Runs.{run-is}
 use Rattle.marked.specs.Run.{Read, Exchange, readOf, callsIn, exchangesOf, Follows, Runs, Entry, Right, AllRight, none, more}
 
 -- the exchanges as the run by the rules gives them

@@ -14,11 +14,12 @@ use Rattle.plan.specs.Reader.{recordChecks, after, treeOf, passes, inRow, passe
 use Rattle.state.specs.Queue.{table, queueOf}
 use Rattle.tree.specs.Below.{climbs, atOrBelow}
 use Rattle.rules.specs.Active.{waits, someWaits, someBelow, setOf, upward, roundActive, activeChild, activeWeight, weightSum}
-use Rattle.rules.specs.Opening.{surplusAt, hasSurplus, kindOf, quotaIn, quota, due, handsDown, openedLeaf, openedInner, openedAccount, openedAccounts, nextKind, opened}
+use Rattle.rules.specs.Opening.{surplusAt, hasSurplus, kindOf, quotaIn, quota, due, handsDown, openedLeaf, openedInner, openedAccount}
+use Rattle.rules.specs.Opening.{openedAccounts, nextKind, opened}
 use Rattle.rules.specs.Sending.{ready, firstFrom, nextLeaf, givenUp, turnsOff, paid, booksAfter, sentState, turnOf, sends, traceOf}
-use Rattle.link.specs.Arrival.{noLeaf, badLength, full, arrivalOf}
-use Rattle.link.specs.Send.{sendOf}
-use Rattle.link.specs.Run.{runOf, madeIn, closedIn, waitingIn}
+use Rattle.calls.specs.Arrival.{noLeaf, badLength, full, arrivalOf}
+use Rattle.calls.specs.Send.{sendOf}
+use Rattle.calls.specs.Run.{runOf, madeIn, closedIn, waitingIn}
 use Rattle.marked.specs.Run.{readOf, accountsOf, openingOf, classesIn, callsIn, exchangesOf, AllRight}
 use Rattle.marked.specs.Table.{markedCases}
 use Rattle.marked.proofs.Computed.{exchangesOn, found, expected, all-right}

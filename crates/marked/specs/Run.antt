@@ -1,5 +1,5 @@
 -- What a run gives: the reader's answer to some bytes, then what the library answers to each call, whatever meets the calls' contracts.
--- It is read off the one run (link/specs/Run). Demands 1 and 2.
+-- It is read off the one run (calls/specs/Run). Demands 1 and 2.
 use mathlib.Core.Bool.{true, cond}
 use mathlib.Core.List.{List, [], _∷_, _++_, map}
 use mathlib.Core.Path.{_≡_}
@@ -18,9 +18,9 @@ use Rattle.state.specs.Queue.{table}
 use Rattle.state.specs.State.{meaning}
 use Rattle.rules.specs.Opening.{Kind}
 use Rattle.rules.specs.Sending.{Turn}
-use Rattle.link.specs.declared.Answered.{Answered}
-use Rattle.link.specs.Fresh.{MakesFresh}
-use Rattle.link.specs.Run.{Call, send, Answer, Made, made, callOf, runOf, closedIn, waitingIn, Run}
+use Rattle.calls.specs.declared.Answered.{Answered}
+use Rattle.calls.specs.Fresh.{MakesFresh}
+use Rattle.calls.specs.Run.{Call, send, Answer, Made, made, callOf, runOf, closedIn, waitingIn, Run}
 
 -- what the reader says: its verdict, the bytes used, the classes, and Q
 pub record Read : Type 0 where
@@ -46,7 +46,8 @@ pub record Accounts : Type 0 where
   pub B : List ℕ
   pub R : List ℕ
 
--- a round opened in a send: the accounts when the last one closed, the kind, the quotas of class 0 and of class 1, the accounts after the opening
+-- a round opened in a send: the accounts when the last one closed, the kind, the quotas of class 0 and of class 1, the accounts after the
+-- opening
 pub record Opening : Type 0 where
   pub closed : Accounts
   pub kind : Kind

@@ -6,9 +6,9 @@ use lib.ListN.{replicate}
 use Rattle.checks.specs.declared.Verdict.the-variants.{Passed, Refused}
 use Rattle.state.specs.Queue.{table}
 use Rattle.rules.specs.Opening.{main, surplus}
-use Rattle.link.specs.declared.Arrival.{Arrival}
-use Rattle.link.specs.declared.Departure.{Departure}
-use Rattle.link.specs.Run.{arrival as arrives, send as sends}
+use Rattle.calls.specs.declared.Arrival.{Arrival}
+use Rattle.calls.specs.declared.Departure.{Departure}
+use Rattle.calls.specs.Run.{arrival as arrives, send as sends}
 use Rattle.marked.specs.Run.{Read, opening, show, end, Accounts, Opening, Shown, Ask, call, look, Exchange, _⟶_, Entry}
 
 -- the run of an entry, and more after it
@@ -23,7 +23,8 @@ arrival class length tag = call (arrives class (record { length = length; tag = 
 abbrev send : Ask
 send = call sends
 
--- answers by short names: a plan's classes, Q and bytes used, or its refusal; a packet taken or refused; a packet out with its rounds, or none
+-- answers by short names: a plan's classes, Q and bytes used, or its refusal; a packet taken or refused; a packet out with its rounds, or
+-- none
 abbrev accepted : ℕ → ℕ → ℕ → Read
 accepted classes size used = record { verdict = Passed; used = used; classes = classes; size = size }
 
@@ -122,8 +123,8 @@ abbrev m6 : Entry
 m6 = m1 then arrivals then firstSend then twoMore then fourthSend then lastSend then
     (look show ⟶ shown [] (record { B = these (253 ∷ 0 ∷ 0 ∷ 0 ∷ 0 ∷ []); R = these (9 ∷ 0 ∷ 0 ∷ 0 ∷ 0 ∷ []) }) ∷ [])
 
--- M7 an arrival (class 2, length 1, tag 5) after the first send: the next three sends give tags 1, 2, 3, the first with 1 round opened, a main round.
--- The arrival itself changes nothing that shows.
+-- M7 an arrival (class 2, length 1, tag 5) after the first send: the next three sends give tags 1, 2, 3, the first with 1 round opened, a
+-- main round. The arrival itself changes nothing that shows.
 abbrev secondOpening : Opening
 secondOpening = record {
   closed = record { B = these (87 ∷ 0 ∷ 37 ∷ 74 ∷ 0 ∷ []); R = these (64 ∷ 0 ∷ 0 ∷ 0 ∷ 0 ∷ []) };
@@ -137,8 +138,8 @@ m7 = m1 then arrivals then firstSend then
     (arrival 2 1 5 ⟶ taken ∷ look show ⟶ afterFirst ∷ look (opening 0) ⟶ (secondOpening ∷ []) ∷ [])
     then twoMore then fourthSend
 
--- Two rounds in a send: M7's run one send longer gives tag 5. Its surplus round sends nothing: class 1 quota 6, class 2 B 9; the main round after it has
--- the quotas 84 and 252.
+-- Two rounds in a send: M7's run one send longer gives tag 5. Its surplus round sends nothing: class 1 quota 6, class 2 B 9; the main
+-- round after it has the quotas 84 and 252.
 abbrev surplusOpening : Opening
 surplusOpening = record {
   closed = record { B = these (253 ∷ 0 ∷ 3 ∷ 0 ∷ 0 ∷ []); R = these (0 ∷ 6 ∷ 0 ∷ 0 ∷ 0 ∷ []) };
@@ -158,8 +159,8 @@ mainOpening = record {
 abbrev twoRounds : Entry
 twoRounds = m7 then (look (opening 0) ⟶ (surplusOpening ∷ []) ∷ look (opening 1) ⟶ (mainOpening ∷ []) ∷ send ⟶ out 2 1 5 2 ∷ [])
 
--- A leaf that turned inactive: an arrival (class 4, length 10, tag 5) after the first send leaves class 4 inactive, and waits for the next round. That one
--- opens in the next send, with class 4 in it: quotas 21 and 21, class 4 B 84.
+-- A leaf that turned inactive: an arrival (class 4, length 10, tag 5) after the first send leaves class 4 inactive, and waits for the
+-- next round. That one opens in the next send, with class 4 in it: quotas 21 and 21, class 4 B 84.
 abbrev rejoins : Opening
 rejoins = record {
   closed = record { B = these (87 ∷ 0 ∷ 37 ∷ 74 ∷ 0 ∷ []); R = these (64 ∷ 0 ∷ 0 ∷ 0 ∷ 0 ∷ []) };

@@ -1,49 +1,60 @@
-// Who is active in a round that opens, and the weight sums: one pass from the highest class down each. Named for rules/specs/Active.
+// Who is active in a round that opens, and the weight sums: one pass from the highest class down each, unless they are known. Named for
+// rules/specs/Active.
 // Serves demand 2.
 ghost use mathlib.Core.Path.{_≡_};
-ghost use mathlib.Core.Bool.{true, cond, _||_};
+ghost use mathlib.Core.Bool.{true, cond, _&&_};
 ghost use Prim.Native.Nat.{ℕ, _+_, _^_, _<_};
-ghost use mathlib.Core.List.{List};
+ghost use lib.Dec.{leb};
 ghost use lib.ListN.{getD};
 ghost use Rattle.sets.specs.Set.{has};
 ghost use Rattle.rules.specs.Steps.{holdsSome};
-ghost use Rattle.tree.specs.declared.Tree.{Tree};
 ghost use Rattle.rules.specs.Active.{upward, weightSums};
-ghost use Rattle.tree.specs.Class.{noWeight};
+ghost use Rattle.tree.specs.Class.{noWeight, isLeaf};
 ghost use Rattle.tree.specs.Rules.{PlanRules};
 ghost use Rattle.state.specs.Queue.{table};
-ghost use Rattle.opening.specs.Parts.{Kept};
+ghost use Rattle.opening.specs.Parts.{Raised, Kept};
 use tree::Tree;
 use units::Weight;
 
-// Whether class i is taken into a round, when the classes above it are: a class below it is, or it is a leaf that holds a packet.
-fn is_taken(active: u64, leaves: u64, held: u8, i: usize) -> bool
-    requires { ⌜ i < 64 ⌝ }
-    ensures { λ r. ⌜ ((t : Tree) (h : List ℕ) → t .leaves ≡ leaves → getD h i 0 ≡ held → r ≡ (has active i || holdsSome t h i)) ⌝ }
+// The leaves that hold a packet.
+fn waiting_leaves(leaves: u64, held: &[u8; 64]) -> u64
+    ensures { λ r. ⌜ ((i : ℕ) → i < 64 → has r i ≡ (has leaves i && leb 1 (getD (now (held .entry)) i 0))) ⌝ }
 {
-    if sets::has(active, i) {
-        return true;
+    let mut waiting: u64 = 0;
+    let mut i: usize = 0;
+    while i < 64 {
+        waiting = sets::with_if(waiting, i, 1 <= held[i]);
+        i += 1;
     }
-    if !sets::has(leaves, i) {
-        return false;
-    }
-    1 <= held
+    sets::both(waiting, leaves)
 }
 
-// The active classes of a round: the leaves that hold a packet, and every class above one.
-pub fn round_active(tree: Tree, held: &[u8; 64]) -> u64
-    requires { ⌜ PlanRules tree ⌝ }
-    ensures { λ r. ⌜ r ≡ upward tree (holdsSome tree (now (held .entry))) ⌝ }
+// These leaves, and every class above one.
+fn above(tree: Tree, waiting: u64) -> u64
+    requires { ⌜ PlanRules tree × ((i : ℕ) → i < 64 → has waiting i ≡ true → isLeaf tree i ≡ true) ⌝ }
+    ensures { λ r. ⌜ r ≡ upward tree (has waiting) ⌝ }
 {
-    let mut active: u64 = 0;
+    let mut active: u64 = waiting;
     let mut i: usize = tree.count;
     while 0 < i {
         let p = tree.parent[i] as usize;
-        let on = is_taken(active, tree.leaves, held[i], i);
-        active = sets::with_if(sets::with_if(active, i, on), p, on);
+        active = sets::with_if(active, p, sets::has(active, i));
         i -= 1;
     }
     active
+}
+
+// The active classes of a round: the leaves that hold a packet, and every class above one. Those that are known, where they have the
+// same leaves.
+pub fn round_active(tree: Tree, known: u64, held: &[u8; 64]) -> u64
+    requires { ⌜ PlanRules tree × Raised tree known ⌝ }
+    ensures { λ r. ⌜ r ≡ upward tree (holdsSome tree (now (held .entry))) ⌝ }
+{
+    let waiting = waiting_leaves(tree.leaves, held);
+    if waiting == sets::both(known, tree.leaves) {
+        return known;
+    }
+    above(tree, waiting)
 }
 
 // A weight sum, and with it the weight of a class where that class is active.
@@ -77,36 +88,36 @@ pub fn weight_sums(tree: Tree, active: u64) -> [Weight; Tree::CLASSES]
     sums
 }
 
-// A weight sum as a bare number.
-fn number(sum: Weight) -> u32
-    ensures { λ r. ⌜ r ≡ sum .0 ⌝ }
+// A weight as a bare number.
+fn number(weight: Weight) -> u32
+    ensures { λ r. ⌜ r ≡ weight .0 ⌝ }
 {
-    sum.0
+    weight.0
 }
 
-// Weight sums as bare numbers, to be kept and lent.
-pub fn sum_numbers(sums: [Weight; Tree::CLASSES]) -> [u32; 64]
-    ensures { λ r. ⌜ r ≡ table (λ p. getD sums p noWeight .0) 64 ⌝ }
+// Weights as bare numbers, to be kept and lent.
+pub fn weight_numbers(weights: [Weight; Tree::CLASSES]) -> [u32; 64]
+    ensures { λ r. ⌜ r ≡ table (λ p. getD weights p noWeight .0) 64 ⌝ }
 {
     let mut out = [0u32; 64];
     let mut i: usize = 0;
     while i < 64 {
-        let s = sums[i];
-        out[i] = number(s);
+        let w = weights[i];
+        out[i] = number(w);
         i += 1;
     }
     out
 }
 
-// And the weight sums of these numbers.
-fn kept_sums(kept: &[u32; 64]) -> [Weight; Tree::CLASSES]
-    ensures { λ r. ⌜ r ≡ table (λ p. record { 0 = getD (now (kept .entry)) p 0 }) 64 ⌝ }
+// And the weights of these numbers.
+pub fn weights_of(numbers: &[u32; 64]) -> [Weight; Tree::CLASSES]
+    ensures { λ r. ⌜ r ≡ table (λ p. record { 0 = getD (now (numbers .entry)) p 0 }) 64 ⌝ }
 {
     let none = Weight(0);
     let mut out = [none; Tree::CLASSES];
     let mut i: usize = 0;
     while i < 64 {
-        out[i] = Weight(kept[i]);
+        out[i] = Weight(numbers[i]);
         i += 1;
     }
     out
@@ -118,7 +129,7 @@ pub fn sums_of(tree: Tree, active: u64, known: u64, kept: &[u32; 64]) -> [Weight
     ensures { λ r. ⌜ r ≡ weightSums tree active ⌝ }
 {
     if active == known {
-        return kept_sums(kept);
+        return weights_of(kept);
     }
     weight_sums(tree, active)
 }

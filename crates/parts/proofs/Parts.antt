@@ -18,7 +18,7 @@ use Rattle.sound.specs.Sound.{SoundLink}
 use Rattle.lines.specs.declared.Line.{Line}
 use Rattle.lines.specs.Line.{bytesOf, lineRoom}
 use Rattle.lines.specs.Laid.{LaidAt}
-use Rattle.lines.proofs.Laying.{over-none, over-start, laid-then}
+use Rattle.lines.proofs.Laying.{over-none, over-start, laid-then, laid-length}
 use Rattle.parts.specs.declared.PartRun.{PartRun}
 use Rattle.run.specs.declared.Step.{Step}
 use Rattle.run.specs.Event.{stepOf, GoesOn}
@@ -26,7 +26,18 @@ use Rattle.run.specs.Run.{beginOf, linesOf, firstOf, programLines}
 use Rattle.parts.specs.Part.{Partway, onward, takesOne, takes, partOf, counted, Parts, RunOn, laidBy, printed}
 use Rattle.parts.specs.Part.RunOn.{last, then}
 use Rattle.parts.specs.Steps.{Taken}
-use Rattle.run.proofs.Lines.{step-on, next-as, next-exactly, linesFrom, following, lines-next, lines-begin, begin-sound, lines-first, first-sound}
+use Rattle.run.proofs.Lines.{
+  step-on,
+  next-as,
+  next-exactly,
+  linesFrom,
+  following,
+  lines-next,
+  lines-begin,
+  begin-sound,
+  lines-first,
+  first-sound,
+}
 
 -- a part that begins
 abbrev pub starts : Link → ℕ → Partway
@@ -35,7 +46,8 @@ starts l place = record { text = []; more = true; link = l; place = place }
 -- ---- event by event
 
 module _ (sound : Bool) (input : List ℕ) (room : ℕ) where
-  takes-suc : (n : ℕ) (p : Partway) → takes (suc n) sound input room p ≡ cond (takesOne room p) (takes n sound input room (onward sound input p)) p
+  takes-suc : (n : ℕ) (p : Partway)
+      → takes (suc n) sound input room p ≡ cond (takesOne room p) (takes n sound input room (onward sound input p)) p
   unfolding takes
   takes-suc n p = refl
 
@@ -45,11 +57,13 @@ module _ (sound : Bool) (input : List ℕ) (room : ℕ) where
   takes-done zero p e = refl
   takes-done (suc n) p e = takes-suc n p ∙ rw e refl
 
-  takes-one : (n : ℕ) (p : Partway) → takesOne room p ≡ true → takes (suc n) sound input room p ≡ takes n sound input room (onward sound input p)
+  takes-one : (n : ℕ) (p : Partway) → takesOne room p ≡ true
+      → takes (suc n) sound input room p ≡ takes n sound input room (onward sound input p)
   takes-one n p e = takes-suc n p ∙ rw e refl
 
   -- where the run goes on after an event, the place has moved on, and is within the input
-  onward-on : (p : Partway) → onward sound input p .more ≡ true → (p .place < onward sound input p .place) × (onward sound input p .place ≤ length input)
+  onward-on : (p : Partway) → onward sound input p .more ≡ true
+      → (p .place < onward sound input p .place) × (onward sound input p .place ≤ length input)
   onward-on p m = step-on (p .link) input (p .place) sound m
 
   -- what a part that has come so far still takes is all that the part takes; there are events enough left
@@ -68,7 +82,8 @@ module _ (sound : Bool) (input : List ℕ) (room : ℕ) where
   pub part-on : (l : Link) (place : ℕ) (p : Partway) → takesOne room p ≡ true → Underway l place p → Underway l place (onward sound input p)
   part-on l place p e u = go (u .left) (u .same) (u .enough (both-true (p .more) _ e .0))
     where
-      go : (n : ℕ) → partOf sound l input place room ≡ takes n sound input room p → (1 ≤ n) × (length input < p .place + n) → Underway l place (onward sound input p)
+      go : (n : ℕ) → partOf sound l input place room ≡ takes n sound input room p → (1 ≤ n) × (length input < p .place + n)
+          → Underway l place (onward sound input p)
       go zero same enough = absurd (omega (arith, enough .0))
       go (suc n) same enough = record {
         left = n;
@@ -80,16 +95,19 @@ module _ (sound : Bool) (input : List ℕ) (room : ℕ) where
   part-done l place p e u = u .same ∙ takes-done (u .left) p e
 
   -- what holds of a part underway from one event to the next holds of the part
-  takes-keep : (P : Partway → Type 0) → ((p : Partway) → takesOne room p ≡ true → P p → P (onward sound input p)) → (n : ℕ) (p : Partway) → P p → P (takes n sound input room p)
+  takes-keep : (P : Partway → Type 0) → ((p : Partway) → takesOne room p ≡ true → P p → P (onward sound input p))
+      → (n : ℕ) (p : Partway) → P p → P (takes n sound input room p)
   unfolding takes
   takes-keep P on zero p h = h
   takes-keep P on (suc n) p h = go (takesOne room p) refl (takes-keep P on n (onward sound input p))
     where
-      go : (t : Bool) → takesOne room p ≡ t → (P (onward sound input p) → P (takes n sound input room (onward sound input p))) → P (takes (suc n) sound input room p)
+      go : (t : Bool) → takesOne room p ≡ t → (P (onward sound input p) → P (takes n sound input room (onward sound input p)))
+          → P (takes (suc n) sound input room p)
       go true e rest = subst P (sym (takes-one n p e)) (rest (on p e h))
       go false e rest = subst P (sym (takes-done (suc n) p e)) h
 
-  -- a part takes at least one event where the buffer has room for one line: where the run goes on, the place has moved on, and is within the input
+  -- a part takes at least one event where the buffer has room for one line: where the run goes on, the place has moved on, and is within
+  -- the input
   pub part-moves : (l : Link) (place : ℕ) → lineRoom ≤ room → partOf sound l input place room .more ≡ true
       → (place < partOf sound l input place room .place) × (partOf sound l input place room .place ≤ length input)
   part-moves l place fits m =
@@ -136,14 +154,17 @@ module _ (input : List ℕ) where
       Same p = printed (linesFrom l input place) ≡ inAll p
 
   -- where the run ends with it, it lays them all
-  part-last : (l : Link) (place room : ℕ) → partOf true l input place room .more ≡ false → partOf true l input place room .text ≡ printed (linesFrom l input place)
+  part-last : (l : Link) (place room : ℕ) → partOf true l input place room .more ≡ false
+      → partOf true l input place room .text ≡ printed (linesFrom l input place)
   unfolding inAll following
   part-last l place room e =
       let p = partOf true l input place room in
-      sym (part-lines l place room ∙ ap (λ (b : Bool). p .text ++ printed (following (p .link) input (p .place) b)) e ∙ ap (λ (x : List ℕ). p .text ++ x) text-none ∙ append-nil (p .text))
+      sym (part-lines l place room ∙ ap (λ (b : Bool). p .text ++ printed (following (p .link) input (p .place) b)) e
+      ∙ ap (λ (x : List ℕ). p .text ++ x) text-none ∙ append-nil (p .text))
 
   part-then : (l : Link) (place room : ℕ) → partOf true l input place room .more ≡ true
-      → partOf true l input place room .text ++ printed (linesFrom (partOf true l input place room .link) input (partOf true l input place room .place))
+      → partOf true l input place room .text
+      ++ printed (linesFrom (partOf true l input place room .link) input (partOf true l input place room .place))
       ≡ printed (linesFrom l input place)
   unfolding inAll following
   part-then l place room e =
@@ -151,7 +172,9 @@ module _ (input : List ℕ) where
       sym (part-lines l place room ∙ ap (λ (b : Bool). p .text ++ printed (following (p .link) input (p .place) b)) e)
 
   -- on a sound link a part is that of a sound link, and the first bytes of its buffer are its text
-  module _ (l : Link) (place : ℕ) (before : List ℕ) (r : PartRun) (after : List ℕ) (sound : SoundLink l) (p : Parts l input place before r after) where
+  module _
+      (l : Link) (place : ℕ) (before : List ℕ) (r : PartRun) (after : List ℕ) (sound : SoundLink l)
+      (p : Parts l input place before r after) where
     part-is : r ≡ counted (partOf true l input place (length before))
     part-is = p .answer ∙ ap (λ (b : Bool). counted (partOf b l input place (length before))) (p .exactly .complete sound)
 
@@ -180,7 +203,8 @@ unfolding following
 run-lines input m run =
     let s = beginOf input in
     ap (λ (x : List ℕ). bytesOf (s .line) ++ x) (parts-lines input (s .link) (s .place) (begin-sound input m) run)
-    ∙ sym (ap printed (lines-begin input) ∙ text-more (s .line) _ ∙ ap (λ (b : Bool). bytesOf (s .line) ++ printed (following (s .link) input (s .place) b)) m)
+    ∙ sym (ap printed (lines-begin input) ∙ text-more (s .line) _
+    ∙ ap (λ (b : Bool). bytesOf (s .line) ++ printed (following (s .link) input (s .place) b)) m)
 
 -- a program's run: likewise
 pub program-lines : (input : List ℕ) → firstOf input .more ≡ true → (run : RunOn input (firstOf input .link) (firstOf input .place))
@@ -189,19 +213,21 @@ unfolding following
 program-lines input m run =
     let s = firstOf input in
     ap (λ (x : List ℕ). bytesOf (s .line) ++ x) (parts-lines input (s .link) (s .place) (first-sound input m) run)
-    ∙ sym (ap printed (lines-first input) ∙ text-more (s .line) _ ∙ ap (λ (b : Bool). bytesOf (s .line) ++ printed (following (s .link) input (s .place) b)) m)
+    ∙ sym (ap printed (lines-first input) ∙ text-more (s .line) _
+    ∙ ap (λ (b : Bool). bytesOf (s .line) ++ printed (following (s .link) input (s .place) b)) m)
 
 -- a loop over parts ends, if its buffer has room for one line
-pub parts-on : (l : Link) (input : List ℕ) (place : ℕ) (before : List ℕ) (r : PartRun) (after : List ℕ) → Parts l input place before r after → lineRoom ≤ length before
-    → r .more ≡ true → (place < r .place) × (r .place ≤ length input)
+pub parts-on : (l : Link) (input : List ℕ) (place : ℕ) (before : List ℕ) (r : PartRun) (after : List ℕ)
+    → Parts l input place before r after → lineRoom ≤ length before → r .more ≡ true
+    → (place < r .place) × (r .place ≤ length input)
 parts-on l input place before r after p fits m =
     let moves = part-moves (p .sound) input (length before) l place fits (sym (ap (λ (x : PartRun). x .more) (p .answer)) ∙ m) in
     subst (λ (x : PartRun). (place < x .place) × (x .place ≤ length input)) (sym (p .answer)) moves
 
 -- ---- what a part allows: one outcome
 
-pub part-one-answer : (l : Link) (input : List ℕ) (place : ℕ) (before : List ℕ) (r r′ : PartRun) (after after′ : List ℕ) → Parts l input place before r after
-    → Parts l input place before r′ after′ → (r ≡ r′) × (after ≡ after′)
+pub part-one-answer : (l : Link) (input : List ℕ) (place : ℕ) (before : List ℕ) (r r′ : PartRun) (after after′ : List ℕ)
+    → Parts l input place before r after → Parts l input place before r′ after′ → (r ≡ r′) × (after ≡ after′)
 part-one-answer l input place before r r′ after after′ x y =
     let same = exactly-unique (x .exactly) (y .exactly) in
     let text : Bool → List ℕ = λ b. partOf b l input place (length before) .text in (
@@ -215,7 +241,12 @@ part-one-answer l input place before r r′ after after′ x y =
 abbrev wayOf : List ℕ → PartRun → Partway
 wayOf text r = record { text = text; more = r .more; link = r .link; place = r .place }
 
--- the text so far stands at the buffer's start; on a record of which it was decided whether it is sound, the part is underway, and the link is as sound as it was
+-- the code's test for one event more
+abbrev tested : PartRun → List ℕ → Bool
+tested r now = r .more && leb (r .laid + lineRoom) (length now)
+
+-- the text so far stands at the buffer's start; on a record of which it was decided whether it is sound, the part is underway, and the link
+-- is as sound as it was
 pub record Laying (l : Link) (input : List ℕ) (place : ℕ) (before : List ℕ) (r : PartRun) (now : List ℕ) : Type 0 where
   pub text : List ℕ
   pub laid : LaidAt 0 text before (r .laid) now
@@ -236,34 +267,38 @@ module _ (l : Link) (input : List ℕ) (place : ℕ) (before : List ℕ) where
   }
 
   -- the code's test is the definition's
-  test-same : (r : PartRun) (now : List ℕ) (y : Laying l input place before r now) → (r .more && leb (r .laid + lineRoom) (length now)) ≡ takesOne (length before) (wayOf (y .text) r)
+  test-same : (r : PartRun) (now : List ℕ) (y : Laying l input place before r now)
+      → tested r now ≡ takesOne (length before) (wayOf (y .text) r)
   test-same r now y = ap₂ (λ (k n : ℕ). r .more && leb (k + lineRoom) n) (y .laid .0 ∙ zero-add (length (y .text))) (y .long)
 
   -- one event more, and its line laid
-  pub laying-on : (r : PartRun) (now : List ℕ) (s : Step) (n : ℕ) (next : List ℕ) → Laying l input place before r now → GoesOn (r .link) input (r .place) s
-      → (r .more && leb (r .laid + lineRoom) (length now)) ≡ true → LaidAt (r .laid) (bytesOf (s .line)) now n next → n ≤ length before → length next ≡ length now
+  pub laying-on : (r : PartRun) (now : List ℕ) (s : Step) (n : ℕ) (next : List ℕ) → Laying l input place before r now
+      → GoesOn (r .link) input (r .place) s → tested r now ≡ true → LaidAt (r .laid) (bytesOf (s .line)) now n next → n ≤ length before
       → Laying l input place before (record { laid = n; more = s .more; link = s .link; place = s .place }) next
-  laying-on r now s n next y g test line fits same = record {
+  laying-on r now s n next y g test line fits = record {
     text = y .text ++ bytesOf (s .line);
     laid = laid-then 0 (y .text) (bytesOf (s .line)) before now next (r .laid) n (omega (arith, y .laid .0, y .within)) (y .laid) line;
-    long = same ∙ y .long;
+    long = laid-length (r .laid) (bytesOf (s .line)) now next n (omega (arith, fits, y .long)) line ∙ y .long;
     within = fits;
     underway = λ sound x.
         let one : takesOne (length before) (wayOf (y .text) r) ≡ true = sym (test-same r now y) ∙ test in
         let is : s ≡ stepOf sound (r .link) input (r .place) = next-as (r .link) input (r .place) sound s (y .kept sound x) g in
-        subst (λ (z : Step). Underway sound input (length before) l place (record { text = y .text ++ bytesOf (z .line); more = z .more; link = z .link; place = z .place })) (sym is)
+        subst (λ (z : Step). Underway sound input (length before) l place
+        (record { text = y .text ++ bytesOf (z .line); more = z .more; link = z .link; place = z .place })) (sym is)
         (part-on sound input (length before) l place (wayOf (y .text) r) one (y .underway sound x));
     kept = λ sound x. next-exactly (r .link) input (r .place) sound s (y .kept sound x) g;
   }
 
   -- where no event more is taken it is the part
-  pub laying-ends : (r : PartRun) (now : List ℕ) → Laying l input place before r now → (r .more && leb (r .laid + lineRoom) (length now)) ≡ false → Taken l input place before r now
+  pub laying-ends : (r : PartRun) (now : List ℕ) → Laying l input place before r now → tested r now ≡ false
+      → Taken l input place before r now
   laying-ends r now y test = record {
     within = omega (arith, y .within, y .long);
     decided = λ sound x.
         let count : r .laid ≡ length (y .text) = y .laid .0 ∙ zero-add (length (y .text)) in
         let none : takesOne (length before) (wayOf (y .text) r) ≡ false = sym (test-same r now y) ∙ test in
-        let is : partOf sound l input place (length before) ≡ wayOf (y .text) r = part-done sound input (length before) l place (wayOf (y .text) r) none (y .underway sound x) in
+        let is : partOf sound l input place (length before) ≡ wayOf (y .text) r =
+        part-done sound input (length before) l place (wayOf (y .text) r) none (y .underway sound x) in
         record {
           sound = sound;
           exactly = x;

@@ -55,7 +55,8 @@ pub record Parts (l : Link) (input : List ℕ) (place : ℕ) (before : List ℕ)
 -- parts one after the other until the run ends, each from the link and the place that the last one left, each answered as its contract
 -- says (R205)
 pub data RunOn (input : List ℕ) : Link → ℕ → Type 0 where
-  last : (l : Link) (place : ℕ) (before : List ℕ) (r : PartRun) (after : List ℕ) → Parts l input place before r after → r .more ≡ false → RunOn input l place
+  last : (l : Link) (place : ℕ) (before : List ℕ) (r : PartRun) (after : List ℕ) → Parts l input place before r after → r .more ≡ false
+      → RunOn input l place
   then : (l : Link) (place : ℕ) (before : List ℕ) (r : PartRun) (after : List ℕ) → Parts l input place before r after → r .more ≡ true
       → RunOn input (r .link) (r .place) → RunOn input l place
 

@@ -1,18 +1,19 @@
 // A part of a run: the link lies in number arrays that are lent to the steps, event after event, and no event is checked for soundness.
 // It is not public: `part` decides first whether the link is sound. Serves demands 1 and 2.
-ghost use mathlib.Core.Bool.{true, cond};
+ghost use mathlib.Core.Bool.{true};
 ghost use mathlib.Core.Path.{_≡_};
-ghost use Prim.Native.Nat.{ℕ};
+ghost use Prim.Native.Nat.{_+_, _≤_};
+ghost use lib.ListN.{length};
 ghost use Rattle.checks.specs.Check.{Exactly};
 ghost use Rattle.tree.specs.Rules.{PlanRules};
-ghost use Rattle.lines.specs.declared.Line.the-variants.{Out, Nothing};
+ghost use Rattle.lines.specs.Line.{lineRoom};
 ghost use Rattle.units.specs.declared.Bytes.{Bytes};
 ghost use Rattle.state.specs.declared.Link.{Link};
 ghost use Rattle.state.specs.Queue.{Shaped, queued};
 ghost use Rattle.sound.specs.Sound.{SoundLink};
-ghost use Rattle.steps.specs.Parts.{lentLink};
+ghost use Rattle.steps.specs.Parts.{lentLink, lentTree};
 ghost use Rattle.steps.specs.Rounds.{Kept};
-ghost use Rattle.parts.specs.Steps.{Taken, ArrivesAs, Happens};
+ghost use Rattle.parts.specs.Steps.{LaysLine, wentSays, Taken, ArrivesAs, DepartsAs, Happens};
 use crate::PartRun;
 use checks::Verdict;
 use lines::Line;
@@ -24,17 +25,19 @@ use state::Packet;
 use steps::Went;
 use tree::Tree;
 
-// What an event gives beside the arrays it changes: its line, whether the run goes on and at which place of the input, who is active, the round's place.
+// What an event gives beside the arrays and the buffer: where its line ends, whether the run goes on and at which place of the input, who
+// is active, the round's place.
 pub struct Did {
-    pub line: Line,
+    pub laid: usize,
     pub more: bool,
     pub place: usize,
     pub active: u64,
     pub visit: usize,
 }
 
-// The line of an arrival that has been judged, and put where it is taken.
+// An arrival is judged, and put where it is taken; its line is laid.
 fn arrives(
+    sound: bool,
     a: Arrived,
     leaves: u64,
     longest: &[u16; 64],
@@ -42,19 +45,23 @@ fn arrives(
     held: &mut [u8; 64],
     lengths: &mut [u16; 2048],
     tags: &mut [u32; 2048],
-) -> Line
+    at: usize,
+    out: &mut [u8],
+) -> usize
+    requires { ⌜ at + lineRoom ≤ length (now out) ⌝ }
     ensures { λ r. ⌜ ((l : Link) → l .tree .leaves ≡ leaves → l .tree .longest ≡ now (longest .entry)
-        → SoundLink (queued l (now (start .entry)) (now (held .entry)) (now (lengths .entry)) (now (tags .entry)))
-        → ArrivesAs (queued l (now (start .entry)) (now (held .entry)) (now (lengths .entry)) (now (tags .entry))) a
-        r (queued l (now (start .entry)) (now (held .exit)) (now (lengths .exit)) (now (tags .exit)))) ⌝ }
+        → Exactly sound (SoundLink (queued l (now (start .entry)) (now (held .entry)) (now (lengths .entry)) (now (tags .entry))))
+        → ArrivesAs sound (queued l (now (start .entry)) (now (held .entry)) (now (lengths .entry)) (now (tags .entry))) a
+        at (now (out .entry)) r (now (out .exit))
+        (queued l (now (start .entry)) (now (held .exit)) (now (lengths .exit)) (now (tags .exit)))) ⌝ }
 {
     let class = a.class as usize;
-    let length = a.length;
+    let len = a.length;
     let tag = a.tag;
     let verdict = steps::arrive(
-        true,
+        sound,
         class,
-        Packet { length, tag },
+        Packet { length: len, tag },
         leaves,
         longest,
         start,
@@ -62,35 +69,116 @@ fn arrives(
         lengths,
         tags,
     );
-    let answer = Arrival { verdict };
-    run::arrival_line(answer, a)
-}
-
-// The line of a send on a sound link: a packet has gone, or none waits.
-fn went_line(went: Went) -> Line
-    ensures { λ r. ⌜ r ≡ cond (went .some) (Out (went .class) (went .packet .length) (went .packet .tag) (went .rounds)) Nothing ⌝ }
-{
-    if !went.some {
-        return Line::Nothing;
+    if let Verdict::Passed = verdict {
+        return lines::lay_in(a.class as u64, len as u64, tag as u64, at, out);
     }
-    let packet = went.packet;
-    Line::Out(
-        went.class as u64,
-        packet.length as u64,
-        packet.tag as u64,
-        went.rounds as u64,
-    )
+    let line = run::arrival_line(Arrival { verdict }, a);
+    lines::lay_at(line, at, out)
 }
 
-// The event at a place of the input, on a sound link.
-fn event(
-    tree: Tree,
+// A send; on a record that is not sound it is refused, and nothing changes.
+fn departs(
+    sound: bool,
+    count: usize,
+    leaves: u64,
+    parent: &[u8; 64],
+    weight: &[u32; 64],
+    longest: &[u16; 64],
     known: u64,
     kept: &[u32; 64],
     active: u64,
     visit: usize,
+    balance: &mut [u64; 64],
+    residual: &mut [u64; 64],
+    start: &mut [u8; 64],
+    held: &mut [u8; 64],
+    lengths: &[u16; 2048],
+    tags: &[u32; 2048],
+) -> Went
+    requires { ⌜ ((size : Bytes)
+        × Exactly sound (SoundLink (lentLink (lentTree count leaves (now parent) (now weight) (now longest)) size active visit (now balance)
+        (now residual) (now start) (now held) (now lengths) (now tags)))
+        × Shaped (lentLink (lentTree count leaves (now parent) (now weight) (now longest)) size active visit (now balance)
+        (now residual) (now start) (now held) (now lengths) (now tags)))
+        × (sound ≡ true → Kept (lentTree count leaves (now parent) (now weight) (now longest)) known (now kept)) ⌝ }
+    ensures { λ r. ⌜ ((size : Bytes)
+        → Exactly sound (SoundLink (lentLink
+        (lentTree count leaves (now (parent .entry)) (now (weight .entry)) (now (longest .entry))) size active visit
+        (now (balance .entry)) (now (residual .entry)) (now (start .entry)) (now (held .entry)) (now (lengths .entry)) (now (tags .entry))))
+        → Shaped (lentLink (lentTree count leaves (now (parent .entry)) (now (weight .entry)) (now (longest .entry))) size active visit
+        (now (balance .entry)) (now (residual .entry)) (now (start .entry)) (now (held .entry)) (now (lengths .entry)) (now (tags .entry)))
+        → DepartsAs sound (lentLink
+        (lentTree count leaves (now (parent .entry)) (now (weight .entry)) (now (longest .entry))) size active visit
+        (now (balance .entry)) (now (residual .entry)) (now (start .entry)) (now (held .entry)) (now (lengths .entry)) (now (tags .entry)))
+        r (lentLink (lentTree count leaves (now (parent .entry)) (now (weight .entry)) (now (longest .entry))) size (r .active) (r .place)
+        (now (balance .exit)) (now (residual .exit)) (now (start .exit)) (now (held .exit)) (now (lengths .entry)) (now (tags .entry)))) ⌝ }
+{
+    if !sound {
+        return steps::nothing(active, visit);
+    }
+    steps::send(
+        count,
+        leaves,
+        parent,
+        weight,
+        longest,
+        known,
+        kept,
+        active,
+        visit,
+        balance,
+        residual,
+        start,
+        held,
+        lengths,
+        tags,
+    )
+}
+
+// The line of a send is laid: a packet has gone, or none does.
+fn lay_went(went: Went, at: usize, out: &mut [u8]) -> usize
+    requires { ⌜ at + lineRoom ≤ length (now out) ⌝ }
+    ensures { λ r. ⌜ LaysLine at (wentSays went) (now (out .entry)) r (now (out .exit)) ⌝ }
+{
+    if !went.some {
+        return lines::lay_at(Line::Nothing, at, out);
+    }
+    let packet = went.packet;
+    lines::lay_out(
+        went.class as u64,
+        packet.length as u64,
+        packet.tag as u64,
+        went.rounds as u64,
+        at,
+        out,
+    )
+}
+
+// What an event gives, as one record.
+fn outcome(laid: usize, more: bool, place: usize, active: u64, visit: usize) -> Did
+    ensures { λ r. ⌜ r ≡ record { laid = laid; more = more; place = place; active = active; visit = visit } ⌝ }
+{
+    Did {
+        laid,
+        more,
+        place,
+        active,
+        visit,
+    }
+}
+
+// The event at a place of the input, where it is told whether the link is sound.
+fn event(
+    sound: bool,
+    count: usize,
+    leaves: u64,
     parent: &[u8; 64],
+    weight: &[u32; 64],
     longest: &[u16; 64],
+    known: u64,
+    kept: &[u32; 64],
+    active: u64,
+    visit: usize,
     balance: &mut [u64; 64],
     residual: &mut [u64; 64],
     start: &mut [u8; 64],
@@ -99,42 +187,62 @@ fn event(
     tags: &mut [u32; 2048],
     input: &[u8],
     place: usize,
+    at: usize,
+    out: &mut [u8],
 ) -> Did
-    requires { ⌜ ((size : Bytes) × SoundLink (lentLink tree size active visit (now balance) (now residual) (now start) (now held) (now lengths) (now tags))
-        × Shaped (lentLink tree size active visit (now balance) (now residual) (now start) (now held) (now lengths) (now tags)))
-        × (tree .parent ≡ now parent) × (tree .longest ≡ now longest) × Kept tree known (now kept) ⌝ }
+    requires { ⌜ ((size : Bytes)
+        × Exactly sound (SoundLink (lentLink (lentTree count leaves (now parent) (now weight) (now longest)) size active visit (now balance)
+        (now residual) (now start) (now held) (now lengths) (now tags)))
+        × Shaped (lentLink (lentTree count leaves (now parent) (now weight) (now longest)) size active visit (now balance)
+        (now residual) (now start) (now held) (now lengths) (now tags)))
+        × (sound ≡ true → Kept (lentTree count leaves (now parent) (now weight) (now longest)) known (now kept))
+        × (at + lineRoom ≤ length (now out)) ⌝ }
     ensures { λ r. ⌜ ((size : Bytes)
-        → SoundLink (lentLink tree size active visit (now (balance .entry)) (now (residual .entry)) (now (start .entry)) (now (held .entry)) (now (lengths .entry)) (now (tags .entry)))
-        → Shaped (lentLink tree size active visit (now (balance .entry)) (now (residual .entry)) (now (start .entry)) (now (held .entry)) (now (lengths .entry)) (now (tags .entry)))
-        → Happens (lentLink tree size active visit (now (balance .entry)) (now (residual .entry)) (now (start .entry)) (now (held .entry)) (now (lengths .entry)) (now (tags .entry)))
-        (now (input .entry)) place r
-        (lentLink tree size (r .active) (r .visit) (now (balance .exit)) (now (residual .exit)) (now (start .exit)) (now (held .exit)) (now (lengths .exit)) (now (tags .exit)))) ⌝ }
+        → Exactly sound (SoundLink (lentLink
+        (lentTree count leaves (now (parent .entry)) (now (weight .entry)) (now (longest .entry))) size active visit
+        (now (balance .entry)) (now (residual .entry)) (now (start .entry)) (now (held .entry)) (now (lengths .entry)) (now (tags .entry))))
+        → Shaped (lentLink (lentTree count leaves (now (parent .entry)) (now (weight .entry)) (now (longest .entry))) size active visit
+        (now (balance .entry)) (now (residual .entry)) (now (start .entry)) (now (held .entry)) (now (lengths .entry)) (now (tags .entry)))
+        → Happens (lentLink (lentTree count leaves (now (parent .entry)) (now (weight .entry)) (now (longest .entry))) size active visit
+        (now (balance .entry)) (now (residual .entry)) (now (start .entry)) (now (held .entry)) (now (lengths .entry)) (now (tags .entry)))
+        (now (input .entry)) place at (now (out .entry)) r (now (out .exit))
+        (lentLink (lentTree count leaves (now (parent .entry)) (now (weight .entry)) (now (longest .entry))) size (r .active) (r .visit)
+        (now (balance .exit)) (now (residual .exit)) (now (start .exit)) (now (held .exit)) (now (lengths .exit)) (now (tags .exit)))) ⌝ }
 {
     let rest = plan::events_after(input, place);
     let read = plan::read_event(rest, place);
     match read {
-        EventRead::NoMore => Did {
-            line: Line::End(run::waiting(held)),
-            more: false,
-            place,
-            active,
-            visit,
-        },
-        EventRead::Arrive(a) => Did {
-            line: arrives(a, tree.leaves, longest, start, held, lengths, tags),
-            more: true,
-            place: place + 8,
-            active,
-            visit,
-        },
+        EventRead::NoMore => {
+            let laid = lines::lay_at(Line::End(run::waiting(held)), at, out);
+            outcome(laid, false, place, active, visit)
+        }
+        EventRead::Arrive(a) => {
+            let laid = arrives(
+                sound,
+                a,
+                leaves,
+                longest,
+                start,
+                held,
+                lengths,
+                tags,
+                at,
+                out,
+            );
+            outcome(laid, true, place + 8, active, visit)
+        }
         EventRead::SendNext => {
-            let went = steps::send(
-                tree,
+            let went = departs(
+                sound,
+                count,
+                leaves,
+                parent,
+                weight,
+                longest,
                 known,
                 kept,
                 active,
                 visit,
-                parent,
                 balance,
                 residual,
                 start,
@@ -142,123 +250,14 @@ fn event(
                 lengths,
                 tags,
             );
-            Did {
-                line: went_line(went),
-                more: true,
-                place: place + 1,
-                active: went.active,
-                visit: went.place,
-            }
+            let laid = lay_went(went, at, out);
+            outcome(laid, true, place + 1, went.active, went.place)
         }
-        EventRead::Fault(n, p) => Did {
-            line: Line::Stop(n as u64, p as u64),
-            more: false,
-            place,
-            active,
-            visit,
-        },
+        EventRead::Fault(n, p) => {
+            let laid = lines::lay_at(Line::Stop(n as u64, p as u64), at, out);
+            outcome(laid, false, place, active, visit)
+        }
     }
-}
-
-// The event at a place of the input, on a record that is not sound: a call is refused with 11, and nothing changes.
-fn refused(active: u64, visit: usize, held: &[u8; 64], input: &[u8], place: usize) -> Did
-    ensures { λ r. ⌜ ((turn : ℕ → ℕ → Link) → turn active visit .held ≡ now (held .entry) → (SoundLink (turn active visit) → ⊥)
-        → Shaped (turn active visit)
-        → Happens (turn active visit) (now (input .entry)) place r (turn (r .active) (r .visit))) ⌝ }
-{
-    let rest = plan::events_after(input, place);
-    let read = plan::read_event(rest, place);
-    match read {
-        EventRead::NoMore => Did {
-            line: Line::End(run::waiting(held)),
-            more: false,
-            place,
-            active,
-            visit,
-        },
-        EventRead::Arrive(a) => Did {
-            line: run::arrival_line(
-                Arrival {
-                    verdict: Verdict::Refused(checks::NOT_SOUND, 0),
-                },
-                a,
-            ),
-            more: true,
-            place: place + 8,
-            active,
-            visit,
-        },
-        EventRead::SendNext => Did {
-            line: Line::Nothing,
-            more: true,
-            place: place + 1,
-            active,
-            visit,
-        },
-        EventRead::Fault(n, p) => Did {
-            line: Line::Stop(n as u64, p as u64),
-            more: false,
-            place,
-            active,
-            visit,
-        },
-    }
-}
-
-// The event at a place of the input, where it is told whether the link is sound.
-fn happens(
-    sound: bool,
-    tree: Tree,
-    known: u64,
-    kept: &[u32; 64],
-    active: u64,
-    visit: usize,
-    parent: &[u8; 64],
-    longest: &[u16; 64],
-    balance: &mut [u64; 64],
-    residual: &mut [u64; 64],
-    start: &mut [u8; 64],
-    held: &mut [u8; 64],
-    lengths: &mut [u16; 2048],
-    tags: &mut [u32; 2048],
-    input: &[u8],
-    place: usize,
-) -> Did
-    requires { ⌜ ((size : Bytes)
-        × Exactly sound (SoundLink (lentLink tree size active visit (now balance) (now residual) (now start) (now held) (now lengths)
-        (now tags)))
-        × Shaped (lentLink tree size active visit (now balance) (now residual) (now start) (now held) (now lengths) (now tags)))
-        × (tree .parent ≡ now parent) × (tree .longest ≡ now longest) × Kept tree known (now kept) ⌝ }
-    ensures { λ r. ⌜ ((size : Bytes)
-        → Exactly sound (SoundLink (lentLink tree size active visit (now (balance .entry)) (now (residual .entry)) (now (start .entry))
-        (now (held .entry)) (now (lengths .entry)) (now (tags .entry))))
-        → Shaped (lentLink tree size active visit (now (balance .entry)) (now (residual .entry)) (now (start .entry)) (now (held .entry))
-        (now (lengths .entry)) (now (tags .entry)))
-        → Happens (lentLink tree size active visit (now (balance .entry)) (now (residual .entry)) (now (start .entry)) (now (held .entry))
-        (now (lengths .entry)) (now (tags .entry))) (now (input .entry)) place r
-        (lentLink tree size (r .active) (r .visit) (now (balance .exit)) (now (residual .exit)) (now (start .exit)) (now (held .exit))
-        (now (lengths .exit)) (now (tags .exit)))) ⌝ }
-{
-    if !sound {
-        return refused(active, visit, held, input, place);
-    }
-    event(
-        tree,
-        known,
-        kept,
-        active,
-        visit,
-        parent,
-        longest,
-        balance,
-        residual,
-        start,
-        held,
-        lengths,
-        tags,
-        input,
-        place,
-    )
 }
 
 // Weight sums to be kept for a part, as bare numbers, and the active set that they are of.
@@ -270,7 +269,7 @@ pub struct Sums {
 // The weight sums of the round that would open now; none of a record that is not sound.
 fn sums_now(sound: bool, tree: Tree, held: &[u8; 64]) -> Sums
     requires { ⌜ (sound ≡ true → PlanRules tree) ⌝ }
-    ensures { λ r. ⌜ Kept tree (r .known) (r .kept) ⌝ }
+    ensures { λ r. ⌜ (sound ≡ true → Kept tree (r .known) (r .kept)) ⌝ }
 {
     if !sound {
         return Sums {
@@ -278,8 +277,8 @@ fn sums_now(sound: bool, tree: Tree, held: &[u8; 64]) -> Sums
             kept: [0u32; 64],
         };
     }
-    let known = steps::round_active(tree, held);
-    let kept = steps::sum_numbers(steps::weight_sums(tree, known));
+    let known = steps::round_active(tree, 0, held);
+    let kept = steps::weight_numbers(steps::weight_sums(tree, known));
     Sums { known, kept }
 }
 
@@ -291,6 +290,8 @@ pub fn part_of(sound: bool, link: Link, input: &[u8], place: usize, out: &mut [u
     let tree = link.tree;
     let size = link.size;
     let parent = tree.parent;
+    let weights = tree.weight;
+    let weight = steps::weight_numbers(weights);
     let longest = tree.longest;
     let before = link.accounts;
     let mut balance = steps::balances(before);
@@ -307,15 +308,17 @@ pub fn part_of(sound: bool, link: Link, input: &[u8], place: usize, out: &mut [u
     let mut more = true;
     let mut from = place;
     while crate::takes_one(more, laid, out.len()) {
-        let did = happens(
+        let did = event(
             sound,
-            tree,
+            tree.count,
+            tree.leaves,
+            &parent,
+            &weight,
+            &longest,
             sums.known,
             &kept,
             active,
             visit,
-            &parent,
-            &longest,
             &mut balance,
             &mut residual,
             &mut start,
@@ -324,9 +327,10 @@ pub fn part_of(sound: bool, link: Link, input: &[u8], place: usize, out: &mut [u
             &mut tags,
             input,
             from,
+            laid,
+            out,
         );
-        let line = did.line;
-        laid = lines::lay_at(line, laid, out);
+        laid = did.laid;
         more = did.more;
         from = did.place;
         active = did.active;

@@ -51,7 +51,8 @@ event-given rest = go (givesArrival (kindAt rest))
     go false = refl
 
 -- the number of an event record: that of the first check broken, in the order 2, 1 (R65); the end of input between events has none (R66)
-pub event-number : (rest : List ℕ) (place : ℕ) → missing rest ≡ false → verdictOf (eventAt rest place) ≡ firstBroken (eventChecks rest place)
+pub event-number : (rest : List ℕ) (place : ℕ) → missing rest ≡ false
+    → verdictOf (eventAt rest place) ≡ firstBroken (eventChecks rest place)
 unfolding eventAt
 event-number rest place e = rw e (go (firstBroken (eventChecks rest place)))
   where
@@ -69,11 +70,14 @@ event-fits rest place = go (missing rest) refl (unknown Events rest) refl (cut r
     uses : (e : EventRead) → eventAt rest place ≡ e → usedOf e ≤ length rest → usedOf (eventAt rest place) ≤ length rest
     uses e same h = rw same h
 
-    go : (a : Bool) → missing rest ≡ a → (b : Bool) → unknown Events rest ≡ b → (d : Bool) → cut rest ≡ d → (f : Bool) → givesArrival (kindAt rest) ≡ f
+    go : (a : Bool) → missing rest ≡ a → (b : Bool) → unknown Events rest ≡ b → (d : Bool) → cut rest ≡ d → (f : Bool)
+        → givesArrival (kindAt rest) ≡ f
         → usedOf (eventAt rest place) ≤ length rest
     go true m b u d k f g = uses NoMore (event-end rest place m) (omega arith)
     go false m true u d k f g = uses (Fault 2 place) (event-unknown rest place m u) (omega arith)
     go false m false u true k f g = uses (Fault 1 place) (event-cut rest place m u k) (omega arith)
     go false m false u false k true g =
-        uses (Arrive (arrivedOf (bodyOf rest))) (event-whole rest place m u k ∙ event-arrival rest g) (omega (arith, whole-length rest k, arrival-body rest g))
-    go false m false u false k false g = uses SendNext (event-whole rest place m u k ∙ event-send rest g) (omega (arith, whole-length rest k))
+        uses (Arrive (arrivedOf (bodyOf rest))) (event-whole rest place m u k ∙ event-arrival rest g)
+        (omega (arith, whole-length rest k, arrival-body rest g))
+    go false m false u false k false g =
+        uses SendNext (event-whole rest place m u k ∙ event-send rest g) (omega (arith, whole-length rest k))

@@ -11,7 +11,8 @@ use lib.ListN.{length}
 use Rattle.checks.specs.declared.Verdict.{Verdict}
 use Rattle.checks.specs.declared.Verdict.the-variants.{Passed, Refused}
 use Rattle.checks.specs.Check.{check, firstBroken}
-use Rattle.checks.proofs.Laws.{not-both, refused-or-passed, none-broken, not-true-and-false, decides, pass-over, passed-parts, after-passed, refused-before, passed-both, broken-or-later, classes-which, classes-refused}
+use Rattle.checks.proofs.Laws.{not-both, refused-or-passed, none-broken, not-true-and-false, decides, pass-over, passed-parts, after-passed}
+use Rattle.checks.proofs.Laws.{refused-before, passed-both, broken-or-later, classes-which, classes-refused}
 use Rattle.tree.specs.declared.Tree.{Tree}
 use Rattle.tree.specs.declared.Class.{Class}
 use Rattle.tree.specs.Class.{added, isLeaf, parentOf, weightOf, longestOf}
@@ -25,14 +26,18 @@ use Rattle.plan.specs.Event.{eventAt}
 use Rattle.plan.specs.declared.kind.Section.the-variants.{Plan}
 use Rattle.plan.specs.Kind.{givesClass}
 use Rattle.plan.specs.Record.{kindAt, missing, unknown, cut, classAt}
-use Rattle.plan.specs.Reader.{newClassChecks, recordChecks, after, treeOf, checksOf, passes, inRow, passedOver, decidingChecks, outcome, planOf}
-use Rattle.plan.specs.Rows.{restOf, Reached, WholeRecord, ClassRecord, EndRecord, ClosedBelow, Row, row1-before, row2, row1-inside, row3, row4, row5, row6, row7, row8, row9}
-use Rattle.plan.proofs.Reading.{tree-count, pass-yes, room-left, plan-refused, plan-ended, record-missing, record-unknown, record-cut, record-class, record-end, row-of, tree-passes, tree-grown}
+use Rattle.plan.specs.Reader.{newClassChecks, recordChecks, after, treeOf, checksOf, passes, inRow, passedOver, decidingChecks}
+use Rattle.plan.specs.Reader.{outcome, planOf}
+use Rattle.plan.specs.Rows.{restOf, Reached, WholeRecord, ClassRecord, EndRecord, ClosedBelow, Row, row1-before, row2, row1-inside}
+use Rattle.plan.specs.Rows.{row3, row4, row5, row6, row7, row8, row9}
+use Rattle.plan.proofs.Reading.{tree-count, pass-yes, room-left, plan-refused, plan-ended, record-missing, record-unknown}
+use Rattle.plan.proofs.Reading.{record-cut, record-class, record-end, row-of, tree-passes, tree-grown}
 
 -- ---- from a row to the number
 
 -- the checks of the class that a class record gives
-class-checks : (s : List ℕ) (k : ℕ) → ClassRecord s k → firstBroken (checksOf s k) ≡ firstBroken (newClassChecks (treeOf s (suc k)) (after s k))
+class-checks : (s : List ℕ) (k : ℕ) → ClassRecord s k
+    → firstBroken (checksOf s k) ≡ firstBroken (newClassChecks (treeOf s (suc k)) (after s k))
 unfolding treeOf
 class-checks s k r =
     record-class s (after s k) (treeOf s k) (r .record′ .there) (r .record′ .known) (r .record′ .whole) (r .class)
@@ -55,7 +60,8 @@ closed-at s k r =
     ∙ outcome-verdict (firstBroken (closingChecks (treeOf s k))) (treeOf s k) (after s k + 1)
 
 -- class k + 1 is the last class of its tree
-last-class : (s : List ℕ) (k : ℕ) (f : Tree → ℕ → Bool) (b : Bool) → f (treeOf s (suc k)) (suc k) ≡ b → f (treeOf s (suc k)) (treeOf s (suc k) .count) ≡ b
+last-class : (s : List ℕ) (k : ℕ) (f : Tree → ℕ → Bool) (b : Bool) → f (treeOf s (suc k)) (suc k) ≡ b
+    → f (treeOf s (suc k)) (treeOf s (suc k) .count) ≡ b
 last-class s k f b e = ap (f (treeOf s (suc k))) (tree-count s (suc k)) ∙ e
 
 closed-below : (t : Tree) (c : ℕ) → ClosedBelow t c → (i : ℕ) → 1 ≤ i → i < c → firstBroken (closingOf t i) ≡ Passed
@@ -70,7 +76,8 @@ row-gives s n p (row4 k r a b) =
     refused-at s k (r .record′ .reached) (class-checks s k r ∙ pass-over _ _ a ∙ decides _ _ (last-class s k badParent true b))
 row-gives s n p (row5 k r a b d) =
     refused-at s k (r .record′ .reached)
-    (class-checks s k r ∙ pass-over _ _ a ∙ pass-over _ _ (last-class s k badParent false b) ∙ decides _ _ (last-class s k badWeight true d))
+    (class-checks s k r ∙ pass-over _ _ a ∙ pass-over _ _ (last-class s k badParent false b)
+    ∙ decides _ _ (last-class s k badWeight true d))
 row-gives s n p (row6 k r a b d e) =
     refused-at s k (r .record′ .reached)
     (class-checks s k r
@@ -88,7 +95,8 @@ row-gives s n p (row7 k c r a is b d e) =
     let t = treeOf s k in
     closed-at s k r
     ∙ pass-over _ _ a
-    ∙ classes-refused (closingOf t) (t .count) c (class-range t c is .0) (class-range t c is .1) (closed-below t c b) (pass-over _ _ d ∙ decides _ _ e)
+    ∙ classes-refused (closingOf t) (t .count) c (class-range t c is .0) (class-range t c is .1) (closed-below t c b)
+    (pass-over _ _ d ∙ decides _ _ e)
 
 -- ---- from the number to its row
 
@@ -134,7 +142,8 @@ module _ (s : List ℕ) (k : ℕ) {n p : ℕ} where
       t = treeOf s k
 
       classes : noClass t ≡ false
-          → (c : ℕ) × (1 ≤ c) × (c ≤ t .count) × ((j : ℕ) → 1 ≤ j → j < c → firstBroken (closingOf t j) ≡ Passed) × (firstBroken (closingOf t c) ≡ Refused n p)
+          → (c : ℕ) × (1 ≤ c) × (c ≤ t .count) × ((j : ℕ) → 1 ≤ j → j < c → firstBroken (closingOf t j) ≡ Passed)
+          × (firstBroken (closingOf t c) ≡ Refused n p)
           → Row s n p
       classes a w =
           let c = w .0 in
@@ -199,7 +208,8 @@ module _ (s : List ℕ) (k : ℕ) {n p : ℕ} where
       ended : firstBroken (checksOf s k) ≡ Passed → (b : Bool) → givesClass (kindAt (restOf s k)) ≡ b → Row s n p
       ended h true g = absurd (not-true-and-false (pass-yes s k g h) off)
       ended h false g =
-          from-closing (record { record′ = whole-record s k reached h; end = g }) (sym (after-passed (checksOf s k) (closingChecks (treeOf s k)) h) ∙ e)
+          from-closing (record { record′ = whole-record s k reached h; end = g })
+          (sym (after-passed (checksOf s k) (closingChecks (treeOf s k)) h) ∙ e)
 
       go : (firstBroken (checksOf s k) ≡ Passed) ⊎ ((m : ℕ) × (q : ℕ) × (firstBroken (checksOf s k) ≡ Refused m q)) → Row s n p
       go (inl h) = ended h (givesClass (kindAt (restOf s k))) refl
@@ -209,7 +219,8 @@ pub gives-row : (s : List ℕ) {n p : ℕ} → planOf s .verdict ≡ Refused n p
 unfolding planOf
 gives-row s e =
     let d = deciding s in
-    from-record s (passedOver s) (d .0) (d .1) (sym (outcome-verdict (firstBroken (decidingChecks s (passedOver s))) (treeOf s (passedOver s)) (after s (passedOver s) + 1)) ∙ e)
+    from-record s (passedOver s) (d .0) (d .1)
+    (sym (outcome-verdict (firstBroken (decidingChecks s (passedOver s))) (treeOf s (passedOver s)) (after s (passedOver s) + 1)) ∙ e)
 
 -- number n at place p exactly when its row says so (R63)
 pub number-exactly : (s : List ℕ) (n p : ℕ) → (planOf s .verdict ≡ Refused n p) ↔ Row s n p
@@ -288,7 +299,8 @@ accepted s e =
     let parts = passed-both (checksOf s k) (closingChecks (treeOf s k)) all in
     record {
       answer = ap (λ (v : Verdict). outcome v (treeOf s k) (after s k + 1)) all;
-      ended = record { record′ = whole-record s k (d .0) (parts .0); end = no-class (givesClass (kindAt (restOf s k))) refl (parts .0) (d .1) };
+      ended =
+          record { record′ = whole-record s k (d .0) (parts .0); end = no-class (givesClass (kindAt (restOf s k))) refl (parts .0) (d .1) };
       rules = tree-rules s k (d .0) (parts .1);
     }
   where

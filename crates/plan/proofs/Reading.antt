@@ -26,7 +26,8 @@ use Rattle.plan.specs.declared.reader.Following.the-variants.{Stop, Ende
 use Rattle.plan.specs.declared.kind.Section.the-variants.{Plan}
 use Rattle.plan.specs.Kind.{givesClass, givesLeaf}
 use Rattle.plan.specs.Record.{kindAt, missing, unknown, cut, bodyOf, innerClass, leafClass, classAt}
-use Rattle.plan.specs.Reader.{newClassChecks, recordChecks, after, treeOf, checksOf, passes, inRow, passedOver, decidingChecks, outcome, planOf, recordsOf, closed}
+use Rattle.plan.specs.Reader.{newClassChecks, recordChecks, after, treeOf, checksOf, passes, inRow, passedOver, decidingChecks}
+use Rattle.plan.specs.Reader.{outcome, planOf, recordsOf, closed}
 use Rattle.plan.specs.Steps.{ClassSays, WholeSays, StepSays}
 
 -- ---- one record
@@ -41,7 +42,8 @@ module _ (s : List ℕ) (place : ℕ) (t : Tree) where
   unfolding recordChecks
   record-missing e = decides (check 1 (missing (drop place s)) (length s)) _ e
 
-  pub record-unknown : missing (drop place s) ≡ false → unknown Plan (drop place s) ≡ true → firstBroken (recordChecks s place t) ≡ Refused 2 place
+  pub record-unknown : missing (drop place s) ≡ false → unknown Plan (drop place s) ≡ true
+      → firstBroken (recordChecks s place t) ≡ Refused 2 place
   unfolding recordChecks
   record-unknown e f =
       pass-over (check 1 (missing (drop place s)) (length s)) _ e ∙ decides (check 2 (unknown Plan (drop place s)) place) _ f
@@ -80,7 +82,8 @@ module _ (s : List ℕ) (place : ℕ) (t : Tree) where
 
 -- what a class that was put to the tree says of its record
 pub class-to-whole : (rest : List ℕ) (place to : ℕ) (t t′ : Tree) (next : Following) → givesClass (kindAt rest) ≡ true
-    → to ≡ place + 1 + kindAt rest .body → to ≤ place + length rest → ClassSays t (classAt rest) place to t′ next → WholeSays rest place t t′ next
+    → to ≡ place + 1 + kindAt rest .body → to ≤ place + length rest → ClassSays t (classAt rest) place to t′ next
+    → WholeSays rest place t t′ next
 class-to-whole rest place to t t′ (Stop n p) g e u h = (g, h)
 class-to-whole rest place to t t′ Ended g e u h = absurd h
 class-to-whole rest place to t t′ (Onward next) g e u h = (g, h .0, h .1 ∙ e, omega (arith, h .1), h .2)
@@ -109,11 +112,13 @@ unfolding treeOf
 tree-count s zero = refl
 tree-count s (suc k) = omega (arith, tree-count s k)
 
-pub pass-yes : (s : List ℕ) (k : ℕ) → givesClass (kindAt (drop (after s k) s)) ≡ true → firstBroken (checksOf s k) ≡ Passed → passes s k ≡ true
+pub pass-yes : (s : List ℕ) (k : ℕ) → givesClass (kindAt (drop (after s k) s)) ≡ true → firstBroken (checksOf s k) ≡ Passed
+    → passes s k ≡ true
 unfolding passes
 pass-yes s k g e = rw (g, e)
 
-pub pass-parts : (s : List ℕ) (k : ℕ) → passes s k ≡ true → (givesClass (kindAt (drop (after s k) s)) ≡ true) × (firstBroken (checksOf s k) ≡ Passed)
+pub pass-parts : (s : List ℕ) (k : ℕ) → passes s k ≡ true → (givesClass (kindAt (drop (after s k) s)) ≡ true)
+    × (firstBroken (checksOf s k) ≡ Passed)
 unfolding passes
 pass-parts s k e =
     let h = both-true (givesClass (kindAt (drop (after s k) s))) (passed (firstBroken (checksOf s k))) e in
@@ -341,7 +346,8 @@ module _ (s : List ℕ) (t : Tree) (place : ℕ) (r : ReadTo s t place) where
   pub read-end : firstBroken (recordChecks s place t) ≡ Passed → givesClass (kindAt (drop place s)) ≡ false
       → recordsOf s ≡ outcome Passed t (place + 1)
   read-end e g =
-      records-ended s (t .count) (r .most) (r .below) (ap firstBroken (sym same-checks) ∙ e) (ap (λ (x : List ℕ). givesClass (kindAt x)) (sym same-rest) ∙ g)
+      records-ended s (t .count) (r .most) (r .below) (ap firstBroken (sym same-checks) ∙ e)
+      (ap (λ (x : List ℕ). givesClass (kindAt x)) (sym same-rest) ∙ g)
       ∙ ap (λ (x : Tree). outcome Passed x (after s (t .count) + 1)) (sym (r .tree))
       ∙ ap (λ (p : ℕ). outcome Passed t (p + 1)) (sym (r .at))
 

@@ -51,7 +51,8 @@ pub data Row (s : List ℕ) : ℕ → ℕ → Type 0 where
   -- 2: unknown kind; the record's first byte
   row2 : (k : ℕ) → Reached s k → missing (restOf s k) ≡ false → unknown Plan (restOf s k) ≡ true → Row s 2 (after s k)
   -- 1: the input ends inside a body; the record's first byte
-  row1-inside : (k : ℕ) → Reached s k → missing (restOf s k) ≡ false → unknown Plan (restOf s k) ≡ false → cut (restOf s k) ≡ true → Row s 1 (after s k)
+  row1-inside : (k : ℕ) → Reached s k → missing (restOf s k) ≡ false → unknown Plan (restOf s k) ≡ false → cut (restOf s k) ≡ true
+      → Row s 1 (after s k)
   -- 3: a 64th class record; the same place
   row3 : (k : ℕ) → ClassRecord s k → tooMany (treeOf s (suc k)) ≡ true → Row s 3 (after s k)
   -- 4: parent not lower than the class, or a leaf; the same

@@ -1,5 +1,5 @@
-// Reads a plan from standard input and prints its classes and its round size, or where it is refused; run and compared with written-down lines.
-// Serves demand 1: a crew sees the number and the place of docs/refusals.md.
+// Reads a plan from standard input and prints its classes and its round size, or where it is refused; run and compared with written-down
+// lines. Serves demand 1: a crew sees the number and the place of docs/refusals.md.
 ghost use Prim.Native.Nat.{_<_};
 use checks::Verdict;
 use libc::STDIN_FILENO;

@@ -1,5 +1,5 @@
-// Recorded runs: inputs one after the other, each after its length plus 1 in three bytes; prints for each how many lines its run has and a sum over their bytes.
-// The expected sums are those of the second program's lines (bin/record writes both files). Serves demands 1 and 2.
+// Recorded runs: inputs one after the other, each after its length plus 1 in three bytes; prints for each how many lines its run has and
+// a sum over their bytes. The expected sums are those of the second program's lines (bin/record writes both files). Serves demands 1 and 2.
 ghost use Prim.Native.Nat.{_<_};
 use libc::STDIN_FILENO;
 use libc::STDOUT_FILENO;

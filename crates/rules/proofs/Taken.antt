@@ -38,6 +38,21 @@ leaf-class t i rules u leaf = go (isClass t i) refl
 pub leaf-childless : (t : Tree) (i k : ℕ) → PlanRules t → isLeaf t i ≡ true → isClass t k ≡ true → parentOf t k ≡ i → ⊥
 leaf-childless t i k rules leaf is e = not-true-and-false leaf (subst (λ (x : ℕ). isLeaf t x ≡ false) e (parent-no-leaf t k rules is))
 
+-- so of those that w tells, and every class above one, it is one exactly where w tells it
+pub upward-leaf : (t : Tree) (w : ℕ → Bool) (i : ℕ) → PlanRules t → isClass t i ≡ true → isLeaf t i ≡ true → has (upward t w) i ≡ w i
+unfolding Parts upward
+upward-leaf t w i rules is leaf =
+    set-has (someBelow t w) (t .count) i (class-range t i is .1) ∙ go (someBelow t w i) (w i) refl refl
+  where
+    some : Parts t rules w i → w i ≡ true
+    some (inl h) = h .1
+    some (inr h) = absurd (leaf-childless t i (h .0) rules leaf (h .1) (h .2))
+
+    go : (a b : Bool) → someBelow t w i ≡ a → w i ≡ b → a ≡ b
+    go true b e f = sym (some (some-parts t rules w i e)) ∙ f
+    go false true e f = sym e ∙ some-self t rules w i is f
+    go false false e f = refl
+
 -- what is below a class is a class
 pub below-class : (t : Tree) (a i : ℕ) → Below t a i → isClass t i ≡ true
 below-class t a i (child j is e) = is
@@ -88,18 +103,8 @@ module _ (s : State) (rules : PlanRules (s .tree)) where
 
   -- a leaf is taken in exactly where it holds a packet
   pub taken-leaf : (i : ℕ) → isClass (s .tree) i ≡ true → isLeaf (s .tree) i ≡ true → has (roundActive s) i ≡ leb 1 (length (queueAt s i))
-  unfolding Parts
-  taken-leaf i is leaf =
-      taken-at i (class-range (s .tree) i is .1) ∙ go (someBelow (s .tree) (waits s) i) (leb 1 (length (queueAt s i))) refl refl
-    where
-      some : Parts (s .tree) rules (waits s) i → leb 1 (length (queueAt s i)) ≡ true
-      some (inl h) = waits-some i (h .1)
-      some (inr h) = absurd (leaf-childless (s .tree) i (h .0) rules leaf (h .1) (h .2))
-
-      go : (a b : Bool) → someBelow (s .tree) (waits s) i ≡ a → leb 1 (length (queueAt s i)) ≡ b → a ≡ b
-      go true b e f = sym (some (some-parts (s .tree) rules (waits s) i e)) ∙ f
-      go false true e f = sym e ∙ some-self (s .tree) rules (waits s) i is (waits-is i leaf f)
-      go false false e f = refl
+  unfolding roundActive waits
+  taken-leaf i is leaf = upward-leaf (s .tree) (waits s) i rules is leaf ∙ rw leaf refl
 
   -- so a leaf taken in holds one, and a leaf that holds one is taken in
   pub taken-waits : (i : ℕ) → isClass (s .tree) i ≡ true → isLeaf (s .tree) i ≡ true → has (roundActive s) i ≡ true

@@ -14,9 +14,11 @@ use Rattle.state.specs.State.{State, meaning, queueAt}
 use Rattle.sound.specs.Sound.{Sound, SoundLink}
 use Rattle.rules.specs.Active.{someWaits}
 use Rattle.rules.specs.Sending.{nextLeaf, firstOf, sentState, Trace, traceOf}
+use Rattle.rules.specs.Waits.{Waits}
+use Rattle.rules.specs.Wide.{Wide}
 use Rattle.rules.proofs.Rounds.{Goes, two-rounds}
 use Rattle.rules.proofs.Sender.{Sender, next-sender}
-use Rattle.rules.proofs.Sent.{sent-queue, sent-other}
+use Rattle.rules.proofs.Sent.{sent-wide, sent-queue, sent-other}
 use Rattle.rules.specs.After.{linkIn, sentLink, linkAfter}
 use Rattle.rules.specs.Steps.{SendsNext}
 use Rattle.rules.proofs.Meanings.{meaning-wide, meaning-in, sent-means, sent-link-sound, waits-leaf}
@@ -25,6 +27,13 @@ use Rattle.rules.proofs.Meanings.{meaning-wide, meaning-in, sent-means,
 first-and-rest : (q : List Packet) → 1 ≤ length q → q ≡ getD q 0 noPacket ∷ drop 1 q
 first-and-rest [] h = absurd (omega arith)
 first-and-rest (p ∷ q) h = refl
+
+-- every class number keeps an account through a whole send
+pub trace-wide : (s : State) → Sound s → Wide s → Waits s → length (traceOf s .state .accounts) ≡ 64
+unfolding traceOf
+trace-wide s sound wide waits =
+    let g = two-rounds s sound wide waits in
+    ap (λ (x : Trace). length (x .state .accounts)) (g .gives 62 []) ∙ sent-wide (g .after) (g .sound) (g .wide) (g .leaf) .accounts
 
 module _ (l : Link) (shape : Shaped l) (sound : SoundLink l) (waits : someWaits (meaning l) ≡ true) where
   -- how the send goes

@@ -11,7 +11,7 @@ use borrow.Author.Tests.{eqb-true}
 use Rattle.checks.specs.Check.{Exactly}
 use Rattle.checks.proofs.Laws.{not-true-and-false}
 use Rattle.sets.specs.Set.{has, with}
-use Rattle.sets.proofs.Laws.{has-with-same, has-with-other, has-empty, with-fits, set-ext}
+use Rattle.sets.proofs.Laws.{has-with-same, has-with-other, has-empty, with-fits, set-ext, set-empty}
 use Rattle.tree.specs.declared.Tree.{Tree}
 use Rattle.tree.specs.Class.{parentOf, isClass, isLeaf}
 use Rattle.tree.specs.Rules.{PlanRules}
@@ -19,7 +19,7 @@ use Rattle.tree.specs.Sum.{someTo}
 use Rattle.tree.proofs.Classes.{both-true, class-in, class-range}
 use Rattle.tree.proofs.Rules.{few-classes, parent-lower, parent-below}
 use Rattle.tree.proofs.Below.{below-root, below-step, below-self}
-use Rattle.tree.proofs.Sums.{some-found, some-which}
+use Rattle.tree.proofs.Sums.{some-found, some-which, some-never}
 use Rattle.state.specs.declared.Link.{Link}
 use Rattle.state.specs.State.{meaning}
 use Rattle.state.proofs.Meaning.{meaning-held}
@@ -80,11 +80,11 @@ set-fits f (suc n) u = go (f (suc n)) (set-fits f n (omega arith))
     go true ih = with-fits (setOf f n) (suc n) ih u
     go false ih = ih
 
--- ---- the classes above n are settled, and so are their parents
+-- ---- the parents of the classes above n are settled
 
 pub Marked : Tree → (ℕ → Bool) → ℕ → ℕ → Type 0
 Marked t w n k =
-    ((n < k) × (someBelow t w k ≡ true)) ⊎ ((c : ℕ) × (n < c) × (isClass t c ≡ true) × (parentOf t c ≡ k) × (someBelow t w c ≡ true))
+    (w k ≡ true) ⊎ ((c : ℕ) × (n < c) × (isClass t c ≡ true) × (parentOf t c ≡ k) × (someBelow t w c ≡ true))
 
 pub record Marks (t : Tree) (w : ℕ → Bool) (active n : ℕ) : Type 0 where
   pub fits : active < 2 ^ 64
@@ -213,161 +213,113 @@ module _ (t : Tree) (rules : PlanRules t) where
     above-last k h (inr x) = omega (arith, parent-lower t (x .0) rules (x .1), class-range t (x .0) (x .1) .1, x .2)
 
     -- whether class n is taken in
-    pub taken-is : (active n : ℕ) → 1 ≤ n → n ≤ t .count → Marks t w active n → (has active n || w n) ≡ someBelow t w n
+    taken-is : (active n : ℕ) → 1 ≤ n → n ≤ t .count → Marks t w active n → has active n ≡ someBelow t w n
     unfolding Marked Parts
-    taken-is active n l u m = go (has active n) (w n) (someBelow t w n) refl refl refl
+    taken-is active n l u m = go (has active n) (someBelow t w n) refl refl
       where
-        is : isClass t n ≡ true
-        is = class-in t n l u
-
         v : n < 64
         v = omega (arith, few-classes t rules)
 
         up : Marked t w n n → someBelow t w n ≡ true
-        up (inl h) = absurd (omega (arith, h .0))
+        up (inl h) = some-self n (class-in t n l u) h
         up (inr h) = ap (someBelow t w) (sym (h .3)) ∙ some-parent (h .0) (h .2) (h .4)
 
-        down : Parts n → (has active n ≡ true) ⊎ (w n ≡ true)
-        down (inl h) = inr (h .1)
-        down (inr h) =
-            inl (m .at n v .complete (inr (h .0, (rw (h .2) at (parent-lower t (h .0) rules (h .1))), h .1, h .2, h .3)))
+        down : Parts n → Marked t w n n
+        down (inl h) = inl (h .1)
+        down (inr h) = inr (h .0, (rw (h .2) at (parent-lower t (h .0) rules (h .1))), h .1, h .2, h .3)
 
-        go : (a b d : Bool) → has active n ≡ a → w n ≡ b → someBelow t w n ≡ d → (a || b) ≡ d
-        go true b d e f g = sym (sym g ∙ up (m .at n v .sound e))
-        go false true d e f g = sym (sym g ∙ some-self n is f)
-        go false false false e f g = refl
-        go false false true e f g = off (down (some-parts n g))
-          where
-            off : (has active n ≡ true) ⊎ (w n ≡ true) → false ≡ true
-            off (inl x) = absurd (not-true-and-false x e)
-            off (inr x) = absurd (not-true-and-false x f)
+        go : (a d : Bool) → has active n ≡ a → someBelow t w n ≡ d → a ≡ d
+        go true d e g = sym (sym g ∙ up (m .at n v .sound e))
+        go false true e g = sym e ∙ m .at n v .complete (down (some-parts n g))
+        go false false e g = refl
 
-    -- at first no class is settled
-    pub marks-none : Marks t w 0 (t .count)
+    -- at first the set is that of the classes that w tells
+    pub marks-start : (waiting : ℕ) → waiting < 2 ^ 64 → ((k : ℕ) → k < 64 → has waiting k ≡ w k) → Marks t w waiting (t .count)
     unfolding Marked
-    marks-none =
-        record {
-          fits = omega arith;
-          at = λ k u. record {
-            sound = λ e. absurd (not-true-and-false e (has-empty k));
-            complete = λ m. absurd
-                (none k m);
-          };
-        }
+    marks-start waiting fits same = record {
+      fits = fits;
+      at = λ k u. record { sound = λ e. inl (sym (same k u) ∙ e); complete = λ m. told k u m };
+    }
       where
-        past : (k : ℕ) → t .count < k → someBelow t w k ≡ true → ⊥
-        past k h e = above-last k h (some-parts k e)
-
-        none : (k : ℕ) → Marked t w (t .count) k → ⊥
-        none k (inl h) = past k (h .0) (h .1)
-        none k (inr h) = omega (arith, h .1, class-range t (h .0) (h .2) .1)
+        told : (k : ℕ) → k < 64 → Marked t w (t .count) k → has waiting k ≡ true
+        told k u (inl h) = same k u ∙ h
+        told k u (inr h) = absurd (omega (arith, h .1, class-range t (h .0) (h .2) .1))
 
     -- one class more
-    pub marks-step : (active n : ℕ) → 1 ≤ n → n ≤ t .count → Marks t w active n → (on : Bool) → on ≡ someBelow t w n
-        → Marks t w (cond on (with (cond on (with active n) active) (parentOf t n)) (cond on (with active n) active)) (n - 1)
+    pub marks-step : (active n : ℕ) → 1 ≤ n → n ≤ t .count → Marks t w active n → (on : Bool) → on ≡ has active n
+        → Marks t w (cond on (with active (parentOf t n)) active) (n - 1)
     unfolding Marked
-    marks-step active n l u m true on = record {
-      fits = with-fits (with active n) p (with-fits active n (m .fits) v) (omega (arith, low, v));
-      at = λ k b. record { sound = λ e. sound k b e (ℕ-discrete k p) (ℕ-discrete k n); complete = λ x. complete k b x };
-    }
+    marks-step active n l u m on is = go on (is ∙ taken-is active n l u m)
       where
         p : ℕ
         p = parentOf t n
 
-        is : isClass t n ≡ true
-        is = class-in t n l u
+        class : isClass t n ≡ true
+        class = class-in t n l u
 
         v : n < 64
         v = omega (arith, few-classes t rules)
 
-        low : p < n
-        low = parent-lower t n rules is
-
-        after : ℕ
-        after = with (with active n) p
-
         weaken : (k : ℕ) → Marked t w n k → Marked t w (n - 1) k
-        weaken k (inl h) = inl (omega (arith, h .0), h .1)
+        weaken k (inl h) = inl h
         weaken k (inr h) = inr (h .0, omega (arith, h .1), h .2, h .3, h .4)
 
-        keeps : (k : ℕ) → has active k ≡ true → has (with (with active n) p) k ≡ true
-        keeps k e = at (ℕ-discrete k p) (ℕ-discrete k n)
-          where
-            at : Dec (k ≡ p) → Dec (k ≡ n) → has (with (with active n) p) k ≡ true
-            at (yes q) d = rw q (has-with-same (with active n) p)
-            at (no q) (yes r) = has-with-other (with active n) p k q ∙ (rw r (has-with-same active n))
-            at (no q) (no r) = has-with-other (with active n) p k q ∙ has-with-other active n k r ∙ e
+        keeps : (k : ℕ) → has active k ≡ true → Dec (k ≡ p) → has (with active p) k ≡ true
+        keeps k e (yes q) = rw q (has-with-same active p)
+        keeps k e (no q) = has-with-other active p k q ∙ e
 
-        here : has (with (with active n) p) n ≡ true
-        here = has-with-other (with active n) p n (λ z. omega (arith, low)) ∙ has-with-same active n
+        sound : (k : ℕ) → k < 64 → true ≡ someBelow t w n → has (with active p) k ≡ true → Dec (k ≡ p) → Marked t w (n - 1) k
+        sound k b some e (yes q) = inr (n, omega arith, class, sym q, sym some)
+        sound k b some e (no q) = weaken k (m .at k b .sound (sym (has-with-other active p k q) ∙ e))
 
-        sound : (k : ℕ) → k < 64 → has (with (with active n) p) k ≡ true → Dec (k ≡ p) → Dec (k ≡ n) → Marked t w (n - 1) k
-        sound k b e (yes q) d = inr (n, omega arith, is, sym q, sym on)
-        sound k b e (no q) (yes r) = inl (omega arith, ap (someBelow t w) r ∙ sym on)
-        sound k b e (no q) (no r) =
-            weaken k (m .at k b .sound (sym (has-with-other active n k r) ∙ sym (has-with-other (with active n) p k q) ∙ e))
-
-        complete : (k : ℕ) → k < 64 → Marked t w (n - 1) k → has (with (with active n) p) k ≡ true
-        complete k b (inl h) = at (ℕ-discrete k n)
-          where
-            at : Dec (k ≡ n) → has (with (with active n) p) k ≡ true
-            at (yes r) = rw r here
-            at (no r) = keeps k (m .at k b .complete (inl (omega (arith, h .0), h .1)))
+        complete : (k : ℕ) → k < 64 → Marked t w (n - 1) k → has (with active p) k ≡ true
+        complete k b (inl h) = keeps k (m .at k b .complete (inl h)) (ℕ-discrete k p)
         complete k b (inr h) = at (ℕ-discrete (h .0) n)
           where
-            at : Dec (h .0 ≡ n) → has (with (with active n) p) k ≡ true
-            at (yes r) = ap (has (with (with active n) p)) (sym (h .3) ∙ ap (parentOf t) r) ∙ has-with-same (with active n) p
-            at (no r) = keeps k (m .at k b .complete (inr (h .0, omega (arith, h .1), h .2, h .3, h .4)))
-    marks-step active n l u m false on = record {
-      fits = m .fits;
-      at = λ k b. record { sound = λ e. weaken k (m .at k b .sound e); complete = λ x. m .at k b .complete (narrow k x) };
-    }
-      where
-        weaken : (k : ℕ) → Marked t w n k → Marked t w (n - 1) k
-        weaken k (inl h) = inl (omega (arith, h .0), h .1)
-        weaken k (inr h) = inr (h .0, omega (arith, h .1), h .2, h .3, h .4)
+            at : Dec (h .0 ≡ n) → has (with active p) k ≡ true
+            at (yes r) = ap (has (with active p)) (sym (h .3) ∙ ap (parentOf t) r) ∙ has-with-same active p
+            at (no r) = keeps k (m .at k b .complete (inr (h .0, omega (arith, h .1), h .2, h .3, h .4))) (ℕ-discrete k p)
 
-        narrow : (k : ℕ) → Marked t w (n - 1) k → Marked t w n k
-        narrow k (inl h) = at (ℕ-discrete k n)
-          where
-            at : Dec (k ≡ n) → Marked t w n k
-            at (yes r) = absurd (not-true-and-false (ap (someBelow t w) (sym r) ∙ h .1) (sym on))
-            at (no r) = inl (omega (arith, h .0), h .1)
-        narrow k (inr h) = at (ℕ-discrete (h .0) n)
+        narrow : (k : ℕ) → false ≡ someBelow t w n → Marked t w (n - 1) k → Marked t w n k
+        narrow k none (inl h) = inl h
+        narrow k none (inr h) = at (ℕ-discrete (h .0) n)
           where
             at : Dec (h .0 ≡ n) → Marked t w n k
-            at (yes r) = absurd (not-true-and-false (ap (someBelow t w) (sym r) ∙ h .4) (sym on))
+            at (yes r) = absurd (not-true-and-false (ap (someBelow t w) (sym r) ∙ h .4) (sym none))
             at (no r) = inr (h .0, omega (arith, h .1), h .2, h .3, h .4)
 
-    -- the root has one through a child
-    root-child : (k : ℕ) → k ≡ 0 → Parts k → Marked t w 0 k
-    unfolding Parts Marked
-    root-child k z (inl x) = absurd (omega (arith, class-range t k (x .0) .0))
-    root-child k z (inr x) = inr (x .0, omega (arith, class-range t (x .0) (x .1) .0), x .1, x .2, x .3)
+        go : (b : Bool) → b ≡ someBelow t w n → Marks t w (cond b (with active p) active) (n - 1)
+        go true some = record {
+          fits = with-fits active p (m .fits) (omega (arith, parent-lower t n rules class, v));
+          at = λ k b. record { sound = λ e. sound k b some e (ℕ-discrete k p); complete = λ x. complete k b x };
+        }
+        go false none = record {
+          fits = m .fits;
+          at = λ k b. record { sound = λ e. weaken k (m .at k b .sound e); complete = λ x. m .at k b .complete (narrow k none x) };
+        }
 
     -- when all are settled, the set is the one the rules say
-    pub marks-all : (active : ℕ) → Marks t w active 0 → active ≡ upward t w
-    unfolding Marked upward
-    marks-all active m =
+    pub marks-all : ((k : ℕ) → k < 64 → w k ≡ true → isClass t k ≡ true) → (active : ℕ) → Marks t w active 0 → active ≡ upward t w
+    unfolding Marked Parts upward
+    marks-all tells active m =
         set-ext active (setOf (someBelow t w) (t .count)) (m .fits)
         (set-fits (someBelow t w) (t .count) (omega (arith, few-classes t rules))) (λ k u. same k u)
       where
-        below : (k : ℕ) → Marked t w 0 k → someBelow t w k ≡ true
-        below k (inl h) = h .1
-        below k (inr h) = ap (someBelow t w) (sym (h .3)) ∙ some-parent (h .0) (h .2) (h .4)
+        below : (k : ℕ) → k < 64 → Marked t w 0 k → someBelow t w k ≡ true
+        below k u (inl h) = some-self k (tells k u h) h
+        below k u (inr h) = ap (someBelow t w) (sym (h .3)) ∙ some-parent (h .0) (h .2) (h .4)
 
-        marked : (k : ℕ) → someBelow t w k ≡ true → Dec (k ≡ 0) → Marked t w 0 k
-        marked k e (no z) = inl (omega arith, e)
-        marked k e (yes z) = root-child k z (some-parts k e)
+        marked : (k : ℕ) → Parts k → Marked t w 0 k
+        marked k (inl h) = inl (h .1)
+        marked k (inr h) = inr (h .0, omega (arith, class-range t (h .0) (h .1) .0), h .1, h .2, h .3)
 
         is : (k : ℕ) → k < 64 → has active k ≡ someBelow t w k
         is k u = go (has active k) (someBelow t w k) refl refl
           where
             go : (a b : Bool) → has active k ≡ a → someBelow t w k ≡ b → a ≡ b
-            go true true x y = refl
+            go true b x y = sym (sym y ∙ below k u (m .at k u .sound x))
+            go false true x y = sym x ∙ m .at k u .complete (marked k (some-parts k y))
             go false false x y = refl
-            go true false x y = absurd (not-true-and-false (below k (m .at k u .sound x)) y)
-            go false true x y = absurd (not-true-and-false (m .at k u .complete (marked k y (ℕ-discrete k 0))) x)
 
         same : (k : ℕ) → k < 64 → has active k ≡ has (setOf (someBelow t w) (t .count)) k
         same k u = at (decLe k (t .count))
@@ -379,6 +331,19 @@ module _ (t : Tree) (rules : PlanRules t) where
                 off : (b : Bool) → someBelow t w k ≡ b → b ≡ false
                 off false e = refl
                 off true e = absurd (above-last k (omega arith) (some-parts k e))
+
+    -- where it tells no class none is taken in
+    pub upward-none : ((i : ℕ) → 1 ≤ i → i ≤ t .count → w i ≡ false) → upward t w ≡ 0
+    unfolding upward someBelow
+    upward-none none =
+        set-empty (setOf (someBelow t w) (t .count)) (set-fits (someBelow t w) (t .count) (omega (arith, few-classes t rules)))
+        (λ k u. at k (decLe k (t .count)))
+      where
+        at : (k : ℕ) → Dec (k ≤ t .count) → has (setOf (someBelow t w) (t .count)) k ≡ false
+        at k (no h) = set-past (someBelow t w) (t .count) k (omega arith)
+        at k (yes h) =
+            set-has (someBelow t w) (t .count) k h
+            ∙ some-never (λ j. w j && atOrBelow t k j) (t .count) (λ j l u. rw (none j l u) refl)
 
 -- ---- what the record's counts say is what its meaning says
 
@@ -393,12 +358,15 @@ set-same f g zero h = ap (λ (b : Bool). cond b (with 0 0) 0) (h 0)
 set-same f g (suc n) h =
     ap₂ (λ (b : Bool) (s : ℕ). cond b (with s (suc n)) s) (h (suc n)) (set-same f g n h)
 
+-- who is told alike is taken in alike
+pub upward-same : (t : Tree) (v w : ℕ → Bool) → ((i : ℕ) → 1 ≤ i → i ≤ t .count → v i ≡ w i) → upward t v ≡ upward t w
+unfolding upward someBelow
+upward-same t v w same =
+    set-same _ _ (t .count) (λ i. some-same _ _ (t .count) (λ j l u. ap (λ (b : Bool). b && atOrBelow t i j) (same j l u)))
+
 pub active-meaning : (l : Link) → PlanRules (l .tree) → upward (l .tree) (holdsSome (l .tree) (l .held)) ≡ roundActive (meaning l)
-unfolding roundActive upward someBelow holdsSome waits
+unfolding roundActive holdsSome waits
 active-meaning l rules =
-    set-same _ _ (l .tree .count)
-    (λ i.
-    some-same _ _ (l .tree .count)
-    (λ j a b.
-    ap (λ (n : ℕ). isLeaf (l .tree) j && leb 1 n && atOrBelow (l .tree) i j)
-    (sym (meaning-held l j (omega (arith, few-classes (l .tree) rules))))))
+    upward-same (l .tree) _ _
+    (λ i a b.
+    ap (λ (n : ℕ). isLeaf (l .tree) i && leb 1 n) (sym (meaning-held l i (omega (arith, few-classes (l .tree) rules)))))

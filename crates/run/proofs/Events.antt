@@ -17,7 +17,7 @@ use Rattle.state.specs.State.{meaning}
 use Rattle.state.proofs.Meaning.{meaning-held}
 use Rattle.tree.proofs.Sums.{sum-same}
 use Rattle.run.specs.declared.Step.{Step}
-use Rattle.link.specs.Run.{waitingIn}
+use Rattle.calls.specs.Run.{waitingIn}
 use Rattle.run.specs.Event.{Gives, GoesOn}
 use Rattle.run.specs.Run.{planGives, beginOf, inputGives, firstOf}
 
@@ -37,7 +37,8 @@ unfolding firstOf
 first-by s w v e is = ap (λ (x : Verdict). inputGives x s) (sym is ∙ e)
 
 -- an event's step, by the event that was read
-pub gives-by : (l : Link) (input : List ℕ) (place : ℕ) (e : EventRead) (r : Step) → eventAt (drop place input) place ≡ e → Gives l place e r → GoesOn l input place r
+pub gives-by : (l : Link) (input : List ℕ) (place : ℕ) (e : EventRead) (r : Step) → eventAt (drop place input) place ≡ e → Gives l place e r
+    → GoesOn l input place r
 gives-by l input place e r same g = subst (λ (x : EventRead). Gives l place x r) (sym same) g
 
 -- what an event uses is within the rest of the input

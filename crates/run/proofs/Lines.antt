@@ -16,11 +16,11 @@ use Rattle.plan.proofs.Numbers.{plan-rules}
 use Rattle.plan.specs.Event.{eventAt}
 use Rattle.state.specs.declared.Link.{Link}
 use Rattle.sound.specs.Sound.{SoundLink}
-use Rattle.link.specs.Arrival.{arrivalOf}
-use Rattle.link.specs.Send.{sendOf}
-use Rattle.link.specs.Run.{Call, arrival, send, Made, made, linkLeft, makes, runOf, madeIn, lastLink}
-use Rattle.link.proofs.FreshLinks.{fresh-sound}
-use Rattle.link.proofs.Runs.{meets-by, meets-keeps, made-next}
+use Rattle.calls.specs.Arrival.{arrivalOf}
+use Rattle.calls.specs.Send.{sendOf}
+use Rattle.calls.specs.Run.{Call, arrival, send, Made, made, linkLeft, makes, runOf, madeIn, lastLink}
+use Rattle.calls.proofs.FreshLinks.{fresh-sound}
+use Rattle.calls.proofs.Runs.{meets-by, meets-keeps, made-next}
 use Rattle.lines.specs.declared.Line.{Line}
 use Rattle.run.specs.declared.Step.{Step}
 use Rattle.run.specs.Event.{packetIn, callLine, lastLine, stepBy, eventGives, stepOf, Calls, Gives, GoesOn}
@@ -64,7 +64,8 @@ module _ (l : Link) (input : List ℕ) (place : ℕ) where
   gives-keeps SendNext r sound g = calls-keeps send (place + 1) r sound g
   gives-keeps (Fault n p) r sound g = subst (λ (s : Step). SoundLink (s .link)) (sym g) sound
 
-  gives-on : (e : EventRead) (r : Step) → eventAt (drop place input) place ≡ e → Gives l place e r → r .more ≡ true → (place < r .place) × (r .place ≤ length input)
+  gives-on : (e : EventRead) (r : Step) → eventAt (drop place input) place ≡ e → Gives l place e r → r .more ≡ true → (place < r .place)
+      × (r .place ≤ length input)
   gives-on NoMore r same g m = absurd (not-true-and-false m (ap (λ (s : Step). s .more) g))
   gives-on (Arrive a) r same g m =
       subst (λ (s : Step). (place < s .place) × (s .place ≤ length input)) (sym (g .step)) (on-by true (Arrive a) same refl)
@@ -177,7 +178,8 @@ following l input place true = linesFrom l input place
 following l input place false = []
 
 pub lines-next : (l : Link) (input : List ℕ) (place : ℕ)
-    → linesFrom l input place ≡ stepOf true l input place .line ∷ following (stepOf true l input place .link) input (stepOf true l input place .place) (stepOf true l input place .more)
+    → linesFrom l input place ≡ stepOf true l input place .line ∷ following (stepOf true l input place .link) input
+    (stepOf true l input place .place) (stepOf true l input place .more)
 unfolding stepOf linesFrom following
 lines-next l input place =
     ap (eventLines l) (events-suc (length input) input place ∙ first-same input place (eventAt (drop place input) place) _ _ refl left)
@@ -197,7 +199,8 @@ lines-next l input place =
     go SendNext = lines-call l send (eventsFrom (suc (length input)) input (place + 1))
     go (Fault n p) = lines-last l (Fault n p)
 
-pub lines-begin : (input : List ℕ) → linesOf input ≡ beginOf input .line ∷ following (beginOf input .link) input (beginOf input .place) (beginOf input .more)
+pub lines-begin : (input : List ℕ) → linesOf input ≡ beginOf input .line ∷ following (beginOf input .link) input (beginOf input .place)
+    (beginOf input .more)
 unfolding linesOf linesFrom following
 lines-begin input = ap (λ (rest : List Line). beginOf input .line ∷ rest) (go (beginOf input .more))
   where
@@ -209,11 +212,13 @@ lines-begin input = ap (λ (rest : List Line). beginOf input .line ∷ rest) (go
     go false = refl
 
 -- what a program prints is the line of its first step and, where the run goes on, the lines from there
-pub lines-first : (input : List ℕ) → programLines input ≡ firstOf input .line ∷ following (firstOf input .link) input (firstOf input .place) (firstOf input .more)
+pub lines-first : (input : List ℕ) → programLines input ≡ firstOf input .line ∷ following (firstOf input .link) input (firstOf input .place)
+    (firstOf input .more)
 unfolding programLines firstOf following
 lines-first input = go (firstBroken (inputChecks (length input)))
   where
-    go : (v : Verdict) → linesAfter v input ≡ inputGives v input .line ∷ following (inputGives v input .link) input (inputGives v input .place) (inputGives v input .more)
+    go : (v : Verdict) → linesAfter v input ≡ inputGives v input .line ∷ following (inputGives v input .link) input
+        (inputGives v input .place) (inputGives v input .more)
     go Passed = lines-begin input
     go (Refused n p) = refl
 
@@ -230,7 +235,8 @@ first-sound input m = go (firstBroken (inputChecks (length input))) m
 pub stepsLeft : List ℕ → Bool → ℕ → ℕ
 stepsLeft input more place = cond more (suc (length input - place)) 0
 
-pub steps-less : (input : List ℕ) (more : Bool) (place : ℕ) (was : Bool) (from : ℕ) → was ≡ true → (more ≡ true → (from < place) × (place ≤ length input))
+pub steps-less : (input : List ℕ) (more : Bool) (place : ℕ) (was : Bool) (from : ℕ) → was ≡ true
+    → (more ≡ true → (from < place) × (place ≤ length input))
     → stepsLeft input more place < stepsLeft input was from
 unfolding stepsLeft
 steps-less input more place was from m on = rw m (go more refl)

@@ -13,9 +13,9 @@ use Rattle.plan.specs.Event.{usedOf, eventAt}
 use Rattle.state.specs.declared.Link.{Link}
 use Rattle.state.specs.declared.Packet.{Packet}
 use Rattle.state.specs.State.{meaning}
-use Rattle.link.specs.declared.Arrival.{Arrival}
-use Rattle.link.specs.declared.Departure.{Departure}
-use Rattle.link.specs.Run.{Call, arrival, send, Answer, Made, made, linkLeft, makes, waitingIn, Meets}
+use Rattle.calls.specs.declared.Arrival.{Arrival}
+use Rattle.calls.specs.declared.Departure.{Departure}
+use Rattle.calls.specs.Run.{Call, arrival, send, Answer, Made, made, linkLeft, makes, waitingIn, Meets}
 use Rattle.lines.specs.declared.Line.{Line}
 use Rattle.lines.specs.declared.Line.the-variants.{In, No, Out, Nothing, End, Stop}
 use Rattle.run.specs.declared.Step.{Step}

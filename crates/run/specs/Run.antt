@@ -14,8 +14,8 @@ use Rattle.plan.specs.Reader.{planOf}
 use Rattle.state.specs.declared.Link.{Link}
 use Rattle.state.specs.State.{noLink}
 use Rattle.tree.specs.Size.{roundSize}
-use Rattle.link.specs.Fresh.{freshOf}
-use Rattle.link.specs.Run.{Call, arrival, send, runOf, madeIn, lastLink}
+use Rattle.calls.specs.Fresh.{freshOf}
+use Rattle.calls.specs.Run.{Call, arrival, send, runOf, madeIn, lastLink}
 use Rattle.lines.specs.declared.Line.{Line}
 use Rattle.lines.specs.declared.Line.the-variants.{Link as LinkLine, Stop}
 use Rattle.run.specs.declared.Step.{Step}

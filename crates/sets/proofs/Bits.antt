@@ -1,7 +1,8 @@
 -- The binary digits of a number, and what the machine's operations do to them: what the laws of sets stand on.
 use mathlib.Core.Path.{_≡_, refl, sym, ap, _∙_}
 use Prim.Native.Nat.{ℕ, zero, suc, _+_, _-_, _*_, _/_, _%_, _^_, _≤_, _<_, min, max}
-use native.Mathlib.Nat.{pow-suc, one-mul, div-self, div-eq-of-lt, div-mul-le-self, mod-eq-of-lt, div-div-eq-div-mul, mul-comm, add-comm, add-div-right}
+use native.Mathlib.Nat.{pow-suc, one-mul, div-self, div-eq-of-lt, div-mul-le-self, mod-eq-of-lt, div-div-eq-div-mul, mul-comm, add-comm}
+use native.Mathlib.Nat.{add-div-right}
 use native.Mathlib.Decide.{decLt}
 use native.Mathlib.Numerals.{add-one}
 use native.Mathlib.Omega.{arith}

@@ -1,4 +1,5 @@
--- The laws of sets of classes, which other crates cite and never the digits: what is in a set, that it fits 64 bits, and that it is the only one.
+-- The laws of sets of classes, which other crates cite and never the digits: what is in a set, that it fits 64 bits, and that it is the
+-- only one.
 use mathlib.Core.Path.{_≡_, refl, sym, ap, _∙_}
 use mathlib.Core.Bool.{Bool, true, false, cond, not, _&&_, true≢false}
 use Prim.Native.Nat.{ℕ, zero, suc, _+_, _-_, _*_, _/_, _%_, _^_, _≤_, _<_, min}
@@ -10,7 +11,9 @@ use lib.Count.{trailingZeros, trailing-le}
 use lib.Dec.{eqb}
 use lib.Pow.{pow-pos, pow-lt}
 use Rattle.sets.specs.Set.{has, with, without, Both, Next}
-use Rattle.sets.proofs.Bits.{bit, bit-small, bit-past, bit-of-zero, bit-ext, bit-and, bit-shl-below, or-one-there, or-one-lacks, bit-or-one-same, bit-or-one-other, sub-one-same, sub-one-other, bit-and-not-same, bit-and-not-other, bit-not, mask-fits, bit-mask, trailing-below, trailing-there}
+use Rattle.sets.proofs.Bits.{bit, bit-small, bit-past, bit-of-zero, bit-ext, bit-and, bit-shl-below, or-one-there, or-one-lacks}
+use Rattle.sets.proofs.Bits.{bit-or-one-same, bit-or-one-other, sub-one-same, sub-one-other, bit-and-not-same, bit-and-not-other}
+use Rattle.sets.proofs.Bits.{bit-not, mask-fits, bit-mask, trailing-below, trailing-there}
 
 -- class k is in a set where digit k is 1, and only there
 there : (s k : ℕ) → bit s k ≡ 1 → has s k ≡ true

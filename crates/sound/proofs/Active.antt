@@ -59,7 +59,8 @@ module _ (t : Tree) (active : ℕ) (rules : PlanRules t) where
       absurd (omega (arith, parent-lower t (c .child′) rules (c .class), class-range t (c .child′) (c .class) .1, c .parent))
   leaf-down by (suc n) i u ab a = go (by .has-child i ab a) (λ k v abk ak. leaf-down by n k v abk ak)
     where
-      go : ActiveChild t active i → ((k : ℕ) → t .count ≤ k + n → Above t k → has active k ≡ true → ActiveLeafBelow t active k) → ActiveLeafBelow t active i
+      go : ActiveChild t active i → ((k : ℕ) → t .count ≤ k + n → Above t k → has active k ≡ true → ActiveLeafBelow t active k)
+          → ActiveLeafBelow t active i
       go c ih = at (isLeaf t (c .child′)) refl
         where
           low : i < c .child′
@@ -68,7 +69,8 @@ module _ (t : Tree) (active : ℕ) (rules : PlanRules t) where
           at : (b : Bool) → isLeaf t (c .child′) ≡ b → ActiveLeafBelow t active i
           at true l = record { leaf = c .child′; is-leaf = l; is-active = c .is-active; below = child (c .child′) (c .class) (c .parent) }
           at false l =
-              let r = ih (c .child′) (omega (arith, low)) (record { class = class-range t (c .child′) (c .class) .1; inner = l }) (c .is-active) in
+              let r = ih (c .child′) (omega (arith, low)) (record { class = class-range t (c .child′) (c .class) .1; inner = l })
+              (c .is-active) in
               record {
                 leaf = r .leaf;
                 is-leaf = r .is-leaf;
@@ -98,7 +100,8 @@ module _ (t : Tree) (active : ℕ) (rules : PlanRules t) where
           leaf-no-child a k (child x is e) q = not-true-and-false q (subst (λ (y : ℕ). isLeaf t y ≡ false) e (parent-no-leaf t x rules is))
           leaf-no-child a k (under x is b) q = leaf-no-child a (parentOf t x) b q
       active-at (inr d) false l =
-          by .from-leaf j (record { class = class-range t j is .1; inner = l }) (record { leaf = w .0; is-leaf = w .1; is-active = w .2; below = d })
+          by .from-leaf j (record { class = class-range t j is .1; inner = l })
+          (record { leaf = w .0; is-leaf = w .1; is-active = w .2; below = d })
   find-child by i m (under j is b) w = find-child by i (parentOf t j) b (w .0, w .1, w .2, inr (up (w .3)))
     where
       up : (w .0 ≡ j) ⊎ Below t j (w .0) → Below t (parentOf t j) (w .0)
@@ -115,7 +118,8 @@ module _ (t : Tree) (active : ℕ) (rules : PlanRules t) where
   }
     where
       leaf-of : {i : ℕ} → (c : ActiveChild t active i) → (b : Bool) → isLeaf t (c .child′) ≡ b → ActiveLeafBelow t active i
-      leaf-of c true l = record { leaf = c .child′; is-leaf = l; is-active = c .is-active; below = child (c .child′) (c .class) (c .parent) }
+      leaf-of c true l =
+          record { leaf = c .child′; is-leaf = l; is-active = c .is-active; below = child (c .child′) (c .class) (c .parent) }
       leaf-of {i} c false l =
           let r = by .has-leaf (c .child′) (record { class = class-range t (c .child′) (c .class) .1; inner = l }) (c .is-active) in
           record {

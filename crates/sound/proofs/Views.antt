@@ -134,7 +134,8 @@ module _ (l : Link) (rules : PlanRules (l .tree)) where
                     range =
                         λ f j h.
                         let h′ : j < heldOf l i = rw (meaning-held l i u) at h in
-                        rw (packet-is i j u h′) (record { low = right .at i u .packets .low j h′; high = right .at i u .packets .high j h′ });
+                        rw (packet-is i j u h′)
+                        (record { low = right .at i u .packets .low j h′; high = right .at i u .packets .high j h′ });
                     other = λ f. rw (meaning-held l i u) (view i u .other f .none);
                   };
               waiting = λ i u. record { waits = λ f a. omega (arith, meaning-held l i u, view i u .leaf f .waits a) };

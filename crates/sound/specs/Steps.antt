@@ -5,9 +5,11 @@ use mathlib.Core.Path.{_≡_}
 use Prim.Native.Nat.{ℕ, zero, suc, _+_, _-_, _%_, _≤_, _<_}
 use lib.ListN.{getD}
 use Rattle.sets.specs.Set.{has, with}
+use Rattle.units.specs.declared.Bytes.{Bytes}
 use Rattle.units.specs.Cost.{costOf}
 use Rattle.tree.specs.declared.Tree.{Tree}
 use Rattle.tree.specs.Class.{parentOf, longestOf, isLeaf}
+use Rattle.state.specs.declared.Account.{Account}
 use Rattle.state.specs.declared.Link.{Link}
 use Rattle.state.specs.Account.{accountOf}
 use Rattle.state.specs.Queue.{startOf, heldOf, slot}
@@ -36,6 +38,21 @@ viewOf l i = record {
   held = heldOf l i;
   first = getD (l .lengths) (slot i (startOf l i % 32)) 0;
   account = accountOf (l .accounts) i;
+}
+
+-- the numbers of a class, which is in no set yet
+abbrev pub numbersOf : ℕ → ℕ → Bytes → ℕ → ℕ → Account → List ℕ → View
+numbersOf i place size start held account lengths = record {
+  class = i;
+  place = place;
+  size = size;
+  leaf = false;
+  active = false;
+  child = false;
+  start = start;
+  held = held;
+  first = getD lengths (slot i (start % 32)) 0;
+  account = account;
 }
 
 -- the clauses of soundness at a leaf, in its numbers

@@ -8,7 +8,8 @@ ghost use Rattle.checks.specs.Check.{Exactly};
 ghost use Rattle.tree.specs.Rules.{PlanRules};
 ghost use Rattle.state.specs.State.{linkOf};
 ghost use Rattle.sound.specs.Sound.{SoundLink};
-ghost use Rattle.sound.specs.Steps.{LeafRight, OtherRight, ViewRight, PlaceInRange, LengthsRight, ClassRight, ClassesRight};
+ghost use Rattle.sound.specs.Steps.{LeafRight, OtherRight, ViewRight, PlaceInRange, LengthsRight, ClassRight};
+ghost use Rattle.sound.specs.Steps.{numbersOf, ClassesRight};
 use state::Account;
 use state::Link;
 use state::queue::slot;
@@ -140,6 +141,34 @@ fn class_right(v: View, lengths: &[u16; 2048], longest: u16) -> bool
     lengths_right(lengths, v.class, v.start, v.held, longest)
 }
 
+// The numbers of a class, which is in no set yet.
+fn numbers_of(
+    class: usize,
+    place: usize,
+    size: Bytes,
+    start: u8,
+    held: u8,
+    account: Account,
+    lengths: &[u16; 2048],
+) -> View
+    requires { ⌜ class < 64 ⌝ }
+    ensures { λ r. ⌜ r ≡ numbersOf class place size start held account (now (lengths .entry)) ⌝ }
+{
+    let first = lengths[slot(class, wide(start) % Link::PLACES)];
+    View {
+        class,
+        place,
+        size,
+        leaf: false,
+        active: false,
+        child: false,
+        start,
+        held,
+        first,
+        account,
+    }
+}
+
 // Every class right, from the highest down, and all B and R add to the size. Each active class puts its parent into a set.
 fn classes_right(
     tree: Tree,
@@ -162,27 +191,15 @@ fn classes_right(
     let mut n = Link::CLASSES;
     while 0 < n {
         let i = n - 1;
-        let s = start[i];
-        let account = accounts[i];
-        let first = lengths[slot(i, wide(s) % Link::PLACES)];
-        let is_active = sets::has(active, i);
-        let v = View {
-            class: i,
-            place,
-            size,
-            leaf: sets::has(tree.leaves, i),
-            active: is_active,
-            child: sets::has(parents, i),
-            start: s,
-            held: held[i],
-            first,
-            account,
-        };
+        let mut v = numbers_of(i, place, size, start[i], held[i], accounts[i], lengths);
+        v.leaf = sets::has(tree.leaves, i);
+        v.active = sets::has(active, i);
+        v.child = sets::has(parents, i);
         if !class_right(v, lengths, longest[i]) {
             return false;
         }
-        sum = sum.plus(account.funds());
-        parents = sets::with_if(parents, wide(parent[i]), is_active);
+        sum = sum.plus(v.account.funds());
+        parents = sets::with_if(parents, wide(parent[i]), v.active);
         n -= 1;
     }
     sum.0 == size.0
@@ -199,7 +216,8 @@ pub fn is_sound_of(
     held: [u8; Link::CLASSES],
     lengths: &[u16; 2048],
 ) -> bool
-    ensures { λ r. ⌜ ((tags : List ℕ) → Exactly r (SoundLink (linkOf tree size active place accounts start held (now (lengths .entry)) tags))) ⌝ }
+    ensures { λ r. ⌜ ((tags : List ℕ)
+        → Exactly r (SoundLink (linkOf tree size active place accounts start held (now (lengths .entry)) tags))) ⌝ }
 {
     let plan = tree::plan_size(tree);
     if !plan.right {

@@ -20,9 +20,9 @@ use Rattle.sound.specs.Sound.{SoundLink}
 use Rattle.rules.specs.Opening.{openedAccounts, opened}
 use Rattle.rules.specs.After.{openedLink}
 use Rattle.rules.proofs.Meanings.{meaning-wide, opened-link-sound}
-use Rattle.link.specs.declared.AfterArrival.{AfterArrival}
-use Rattle.link.specs.Arrival.{Arrives, arrivalOf}
-use Rattle.link.proofs.Arrivals.{arrives-as}
+use Rattle.calls.specs.declared.AfterArrival.{AfterArrival}
+use Rattle.calls.specs.Arrival.{Arrives, arrivalOf}
+use Rattle.calls.proofs.Arrivals.{arrives-as}
 use Rattle.speed.specs.Openings.{onePacket, offeredTo, openedTimes}
 
 pub offered-none : (l : Link) → l ≡ offeredTo 0 l
@@ -44,11 +44,13 @@ pub record Opened (l₀ : Link) (n : ℕ) (l : Link) : Type 0 where
   pub same : l ≡ openedTimes n l₀
 
 -- its accounts taken apart
-pub opened-apart : (l : Link) → SoundLink l → length (l .accounts) ≡ 64 → (b r : List ℕ) → b ≡ table (balanceOf (l .accounts)) 64 → r ≡ table (residualOf (l .accounts)) 64
+pub opened-apart : (l : Link) → SoundLink l → length (l .accounts) ≡ 64 → (b r : List ℕ) → b ≡ table (balanceOf (l .accounts)) 64
+    → r ≡ table (residualOf (l .accounts)) 64
     → Opened l 0 (lentLink (l .tree) (l .size) (l .active) (l .place) b r (l .start) (l .held) (l .lengths) (l .tags))
 unfolding openedTimes
 opened-apart l sound many b r x y =
-    let same = ap (λ (xs : List Account). linkOf (l .tree) (l .size) (l .active) (l .place) xs (l .start) (l .held) (l .lengths) (l .tags)) (in-lists (l .accounts) many b r x y) in
+    let same = ap (λ (xs : List Account). linkOf (l .tree) (l .size) (l .active) (l .place) xs (l .start) (l .held) (l .lengths) (l .tags))
+    (in-lists (l .accounts) many b r x y) in
     record { sound = subst SoundLink (sym same) sound; many = ap (λ (k : Link). length (k .accounts)) same ∙ many; same = same }
 
 pub opened-parts : (l₀ : Link) (b r : List ℕ) {n : ℕ} {t : Tree} {size : Bytes} {active place : ℕ} {start held lengths tags : List ℕ}

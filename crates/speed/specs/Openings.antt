@@ -7,7 +7,7 @@ use Rattle.state.specs.declared.Link.{Link}
 use Rattle.state.specs.declared.Packet.{Packet}
 use Rattle.state.specs.Account.{balanceOf}
 use Rattle.rules.specs.After.{openedLink}
-use Rattle.link.specs.Arrival.{arrivalOf}
+use Rattle.calls.specs.Arrival.{arrivalOf}
 
 -- the packet that is offered
 abbrev pub onePacket : Packet

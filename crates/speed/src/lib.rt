@@ -6,7 +6,7 @@ pub mod opening;
 ghost use mathlib.Core.Path.{_≡_};
 ghost use Prim.Native.Nat.{suc, _<_};
 ghost use lib.ListN.{length};
-ghost use Rattle.speed.specs.Turns.{plainEvent, callsLeft};
+ghost use Rattle.speed.specs.Turns.{plainTimed, callsLeft};
 use checks::Verdict;
 use link::Arrival;
 use link::Departure;
@@ -167,9 +167,9 @@ pub extern "C" fn speed_events(input: &[u8], events: usize) -> usize {
     sends
 }
 
-// An event as the loop of the lent entries takes it: whether it is a call, and which; the class and the packet of an arrival; the place
-// after it, and how many more events are asked for.
-pub struct Event {
+// An event of a timed run, as the loop of the lent entries takes it: whether it is a call, and which; the class and the packet of an
+// arrival; the place after it, and how many more events are asked for.
+pub struct TimedEvent {
     pub call: bool,
     pub arrives: bool,
     pub class: usize,
@@ -179,10 +179,10 @@ pub struct Event {
 }
 
 // An event that is no arrival.
-fn plain(call: bool, place: usize, more: usize) -> Event
-    ensures { λ r. ⌜ r ≡ plainEvent call place more ⌝ }
+fn plain(call: bool, place: usize, more: usize) -> TimedEvent
+    ensures { λ r. ⌜ r ≡ plainTimed call place more ⌝ }
 {
-    Event {
+    TimedEvent {
         call,
         arrives: false,
         class: 0,
@@ -193,7 +193,7 @@ fn plain(call: bool, place: usize, more: usize) -> Event
 }
 
 // The event at a place, one of so many that are asked for.
-fn event_at(input: &[u8], place: usize, asked: usize) -> Event
+fn event_at(input: &[u8], place: usize, asked: usize) -> TimedEvent
     ensures { λ r. ⌜ callsLeft r < suc asked ⌝ }
 {
     if asked == 0 {
@@ -204,7 +204,7 @@ fn event_at(input: &[u8], place: usize, asked: usize) -> Event
     let read = plan::read_event(rest, place);
     match read {
         EventRead::NoMore => plain(false, place, 0),
-        EventRead::Arrive(a) => Event {
+        EventRead::Arrive(a) => TimedEvent {
             call: true,
             arrives: true,
             class: a.class as usize,
@@ -237,7 +237,7 @@ fn after_send(tally: u64, d: Departure) -> u64 {
 }
 
 // The loop of the lent entries: one record, lent to each call.
-fn serve(first: Link, input: &[u8], start: Event) -> u64 {
+fn serve(first: Link, input: &[u8], start: TimedEvent) -> u64 {
     let mut link = first;
     let mut event = start;
     let mut tally: u64 = 0;

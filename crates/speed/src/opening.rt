@@ -32,12 +32,16 @@ fn open_next(
     balance: &mut [u64; Link::CLASSES],
     residual: &mut [u64; Link::CLASSES],
 ) -> u64
-    requires { ⌜ ((k : Rest) × InParts tree (k .size) (k .active) (k .place) (now balance) (now residual) (k .start) (now held) (k .lengths) (k .tags)) ⌝ }
-    ensures { λ r. ⌜ ((k : Rest) → InParts tree (k .size) (k .active) (k .place) (now (balance .entry)) (now (residual .entry)) (k .start) (now (held .entry)) (k .lengths) (k .tags)
+    requires { ⌜ ((k : Rest)
+        × InParts tree (k .size) (k .active) (k .place) (now balance) (now residual) (k .start) (now held) (k .lengths) (k .tags)) ⌝ }
+    ensures { λ r. ⌜ ((k : Rest)
+        → InParts tree (k .size) (k .active) (k .place) (now (balance .entry)) (now (residual .entry)) (k .start) (now (held .entry))
+        (k .lengths) (k .tags)
         → lentLink tree (k .size) r 1 (now (balance .exit)) (now (residual .exit)) (k .start) (now (held .entry)) (k .lengths) (k .tags)
-        ≡ openedLink (lentLink tree (k .size) (k .active) (k .place) (now (balance .entry)) (now (residual .entry)) (k .start) (now (held .entry)) (k .lengths) (k .tags))) ⌝ }
+        ≡ openedLink (lentLink tree (k .size) (k .active) (k .place) (now (balance .entry)) (now (residual .entry)) (k .start)
+        (now (held .entry)) (k .lengths) (k .tags))) ⌝ }
 {
-    let active = steps::round_active(tree, held);
+    let active = steps::round_active(tree, 0, held);
     let sums = steps::weight_sums(tree, active);
     steps::open_round(tree, active, sums, balance, residual);
     active

@@ -1,10 +1,13 @@
--- The lists of a link that the code holds have the lengths of its arrays. Demands 1 and 2.
+-- The lists of a tree and of a link that the code holds have the lengths of their arrays. Demands 1 and 2.
 use mathlib.Core.List.{List}
-use mathlib.Core.Path.{sym, _∙_}
-use lib.ListN.{length-map}
+use mathlib.Core.Path.{_≡_, sym, _∙_}
+use lib.ListN.{length, length-map}
 use mir.Val.{Val}
 use denote.Laws.{Is}
 use denote.Struct.Laws as LL
+use Rattle.tree.specs.declared.Tree.{Tree}
+use Rattle.tree.proofs.Tree as T
+use Rattle.tree.proofs.Tree.Laws as T′
 use Rattle.state.specs.declared.Link.{Link}
 use Rattle.state.specs.Queue.{Shaped}
 use Rattle.state.proofs.Link as L
@@ -21,3 +24,10 @@ shaped l values is =
       lengths = sym (length-map (l .lengths) _) ∙ o .1 .1 .1 .0 .1 .0 .1;
       tags = sym (length-map (l .tags) _) ∙ o .1 .1 .1 .1 .0 .1 .0 .1;
     }
+
+-- a tree has as many weights as class numbers, and so has the tree of a link
+pub tree-weights : (t : Tree) (values : List Val) → Is T.the-row t values → length (t .weight) ≡ 64
+tree-weights t values is = sym (length-map (t .weight) _) ∙ LL.owed T.the-type T′.the-laws t values is .1 .1 .1 .0 .1 .0 .1
+
+pub link-weights : (l : Link) (values : List Val) → Is L.the-row l values → length (l .tree .weight) ≡ 64
+link-weights l values is = tree-weights (l .tree) _ (LL.owed L.the-type L′.the-laws l values is .0)

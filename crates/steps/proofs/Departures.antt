@@ -112,15 +112,15 @@ module _
   found-in = lentLink t size before from balance residual start held lengths tags
 
   -- its packet goes
-  module _ {parent : List ℕ} (p : t .parent ≡ parent) (here : f .class < 64) where
+  module _ (here : f .class < 64) where
     abbrev at-turn : Link
     at-turn = lentLink t size (f .active) (q .place) b r start held lengths tags
 
     its-turn : SendsNext at-turn (f .class)
     its-turn = way-found found-in (f .class) at-turn (f .rounds) (q .way here) (λ z. omega (arith, here, z))
 
-    pub then-goes : GoesNext t size (q .place) (f .class) (f .active) (t .count) parent b r start held lengths tags
-    then-goes = record { many = refl; parents = p; wide = q .way here .many; next = its-turn }
+    pub then-goes : GoesNext t size (q .place) (f .class) (f .active) (t .count) (t .parent) b r start held lengths tags
+    then-goes = record { many = refl; parents = refl; wide = q .way here .many; next = its-turn }
 
     pub then-departs : (gone : Gone) (after : Link) → gone .packet ≡ packetAt at-turn (f .class) 0 → after ≡ sentLink at-turn (f .class)
         → Departs found-in (wentBy (f .class) (f .rounds) gone) after

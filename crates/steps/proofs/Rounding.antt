@@ -25,6 +25,7 @@ use Rattle.rules.proofs.Meanings.{meaning-wide, opened-means, opened-link-sound
 use Rattle.opening.specs.Parts.{zipAccounts}
 use Rattle.steps.specs.Parts.{lentLink, Searched}
 use Rattle.opening.proofs.Zips.{zip-at}
+pub use Rattle.opening.proofs.Raised.{raised-none, raised-round}
 use Rattle.steps.specs.Rounds.{InParts, Unseen, Opens, closedLink, openLink}
 
 -- what the search and the sender ask of parts
@@ -90,7 +91,9 @@ pub under-starts : (t : Tree) (k : Unseen) (active : ℕ) (balance residual star
 under-starts t k active balance residual start lengths o = record {
   on = k .active;
   place = k .place;
-  way = way-starts (closedLink t k balance residual start lengths) 64 (o .shut .parts .wide) (o .shut .parts .sound) (o .waits) (sym (o .shut .closed));
+  way =
+      let p = o .shut .parts in
+      way-starts (closedLink t k balance residual start lengths) 64 (p .wide) (p .sound) (o .waits) (sym (o .shut .closed));
   taken = o .taken;
 }
 

@@ -1,38 +1,31 @@
 -- The parts of a link taken apart, lent, and put together again.
 use mathlib.Core.Bool.{Bool, true, false}
-use mathlib.Core.List.{List, []}
+use mathlib.Core.List.{List}
 use mathlib.Core.Path.{_≡_, sym, ap, ap₂, subst, _∙_}
 use Prim.Native.Nat.{ℕ}
-use lib.ListN.{length}
+use lib.ListN.{length, getD}
 use Rattle.units.specs.declared.Bytes.{Bytes}
+use Rattle.units.specs.declared.Weight.{Weight}
 use Rattle.tree.specs.declared.Tree.{Tree}
+use Rattle.tree.specs.Class.{noWeight, weightOf}
 use Rattle.state.specs.declared.Account.{Account}
 use Rattle.state.specs.declared.Link.{Link}
 use Rattle.state.specs.Account.{balanceOf, residualOf}
 use Rattle.state.specs.Queue.{table}
-use Rattle.state.specs.State.{State, meaning, linkOf}
-use Rattle.sound.specs.Sound.{Sound, SoundLink}
+use Rattle.state.specs.State.{meaning, linkOf}
+use Rattle.state.proofs.Tables.{table-same, table-at}
+use Rattle.sound.specs.Sound.{SoundLink}
 use Rattle.rules.specs.Active.{someWaits}
-use Rattle.rules.specs.Sending.{Trace, traceOf}
-use Rattle.rules.specs.Waits.{Waits}
-use Rattle.rules.specs.Wide.{Wide}
-use Rattle.rules.proofs.Rounds.{two-rounds}
-use Rattle.rules.proofs.Sent.{sent-wide}
+use Rattle.rules.proofs.Traces.{trace-wide}
 use Rattle.rules.specs.After.{Sent}
 use Rattle.rules.proofs.Meanings.{meaning-wide, waits-leaf}
 use Rattle.steps.specs.declared.Went.{Went}
 use Rattle.opening.specs.Parts.{zipAccounts}
-use Rattle.steps.specs.Parts.{lentLink}
+use Rattle.steps.specs.Parts.{lentLink, lentTree}
 use Rattle.steps.specs.Rounds.{InParts, sentWhere, Departs, Moves}
-use Rattle.opening.proofs.Zips.{zip-parts}
+use Rattle.opening.proofs.Zips.{zip-parts, list-table}
 
--- every class number keeps an account through a whole send
-trace-wide : (s : State) → Sound s → Wide s → Waits s → length (traceOf s .state .accounts) ≡ 64
-unfolding traceOf
-trace-wide s sound wide waits =
-    let g = two-rounds s sound wide waits in
-    ap (λ (x : Trace). length (x .state .accounts)) (g .gives 62 []) ∙ sent-wide (g .after) (g .sound) (g .wide) (g .leaf) .accounts
-
+-- every class number keeps an account
 sent-many : (l : Link) (some : Bool) → length (l .accounts) ≡ 64 → SoundLink l → some ≡ someWaits (meaning l)
     → length (sentWhere some l .link .accounts) ≡ 64
 sent-many l false many sound e = many
@@ -49,25 +42,41 @@ pub in-lists : (accounts : List Account) → length accounts ≡ 64 → (b r : L
     → zipAccounts b r ≡ accounts
 in-lists accounts many b r x y = ap₂ zipAccounts x y ∙ zip-parts accounts many
 
+-- a tree taken apart and put together again is the same
+pub tree-parts : (t : Tree) → length (t .weight) ≡ 64 → (weight : List ℕ) → weight ≡ table (weightOf t) 64
+    → lentTree (t .count) (t .leaves) (t .parent) weight (t .longest) ≡ t
+tree-parts t many weight is =
+    ap (λ (ws : List Weight). record {
+      count = t .count;
+      leaves = t .leaves;
+      parent = t .parent;
+      weight = ws;
+      longest = t .longest;
+    })
+    (table-same (λ i. record { 0 = getD weight i 0 }) (λ i. getD (t .weight) i noWeight) 64
+    (λ i u. ap (λ (n : ℕ). record { 0 = n }) (ap (λ (ns : List ℕ). getD ns i 0) is ∙ table-at (weightOf t) 0 64 i u))
+    ∙ list-table noWeight (t .weight) 64 many)
+
 module _
-    {t : Tree} {size : Bytes} {active place : ℕ} {accounts : List Account} {start held lengths tags : List ℕ}
+    {t : Tree} (lent : Tree) (same : lent ≡ t) {size : Bytes} {active place : ℕ} {accounts : List Account}
+    {start held lengths tags : List ℕ}
     (many : length accounts ≡ 64) (sound : SoundLink (linkOf t size active place accounts start held lengths tags))
     (b r : List ℕ) (x : b ≡ table (balanceOf accounts) 64) (y : r ≡ table (residualOf accounts) 64) where
   apart : zipAccounts b r ≡ accounts
   apart = in-lists accounts many b r x y
 
-  whole-is : lentLink t size active place b r start held lengths tags ≡ linkOf t size active place accounts start held lengths tags
-  whole-is = ap (λ (xs : List Account). linkOf t size active place xs start held lengths tags) apart
+  whole-is : lentLink lent size active place b r start held lengths tags ≡ linkOf t size active place accounts start held lengths tags
+  whole-is = ap₂ (λ (x : Tree) (xs : List Account). linkOf x size active place xs start held lengths tags) same apart
 
-  pub values-parts : InParts t size active place b r start held lengths tags
+  pub values-parts : InParts lent size active place b r start held lengths tags
   values-parts = record { sound = subst SoundLink (sym whole-is) sound; wide = ap length apart ∙ many }
 
   -- after the send
-  module _ {w : Went} (after : Link) (d : Departs (lentLink t size active place b r start held lengths tags) w after) where
+  module _ {w : Went} (after : Link) (d : Departs (lentLink lent size active place b r start held lengths tags) w after) where
     pub values-wide : length (after .accounts) ≡ 64
     values-wide = departs-wide after (values-parts .wide) (values-parts .sound) d
 
-    pub values-moves : {xs : List Account} {s h : List ℕ} → after ≡ linkOf t size (w .active) (w .place) xs s h lengths tags
+    pub values-moves : {xs : List Account} {s h : List ℕ} → after ≡ linkOf lent size (w .active) (w .place) xs s h lengths tags
         → Moves (linkOf t size active place accounts start held lengths tags)
         (record {
           some = w .some;
@@ -80,9 +89,10 @@ module _
           start = s;
           held = h;
         })
-    values-moves e = record {
+    values-moves {xs} {s} {h} e = record {
       some = d .some ∙ ap (λ (l : Link). someWaits (meaning l)) whole-is;
       sent =
-          ap (λ (l : Link). record { class = w .class; packet = w .packet; rounds = w .rounds; link = l }) (sym e)
+          ap (λ (l : Link). record { class = w .class; packet = w .packet; rounds = w .rounds; link = l })
+          (sym (e ∙ ap (λ (x : Tree). linkOf x size (w .active) (w .place) xs s h lengths tags) same))
           ∙ d .sent ∙ ap (sentWhere (w .some)) whole-is;
     }

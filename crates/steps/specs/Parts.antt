@@ -10,11 +10,22 @@ use Rattle.state.specs.declared.Link.{Link}
 use Rattle.tree.specs.Rules.{PlanRules}
 use Rattle.state.specs.Account.{balanceOf}
 use Rattle.state.specs.State.{linkOf}
+use Rattle.state.specs.Queue.{table}
 pub use Rattle.state.specs.Queue.{queued}
 use Rattle.sound.specs.Sound.{SoundLink}
 use Rattle.rules.specs.Sending.{Books}
 use Rattle.rules.specs.Steps.{SendsNext}
 use Rattle.opening.specs.Parts.{zipAccounts}
+
+-- the tree with these parts, its weights as bare numbers
+abbrev pub lentTree : ℕ → ℕ → List ℕ → List ℕ → List ℕ → Tree
+lentTree count leaves parent weight longest = record {
+  count = count;
+  leaves = leaves;
+  parent = parent;
+  weight = table (λ i. record { 0 = getD weight i 0 }) 64;
+  longest = longest;
+}
 
 -- the link with these parts
 abbrev pub lentLink : Tree → Bytes → ℕ → ℕ → List ℕ → List ℕ → List ℕ → List ℕ → List ℕ → List ℕ → Link

@@ -12,7 +12,7 @@ pub use opening::balances;
 pub use opening::open_round;
 pub use opening::residuals;
 pub use opening::round_active;
-pub use opening::sum_numbers;
+pub use opening::weight_numbers;
 pub use opening::weight_sums;
 pub use opening::zipped;
 ghost use mathlib.Core.Path.{_≡_};
@@ -21,7 +21,7 @@ ghost use Prim.Native.Nat.{ℕ};
 ghost use Rattle.state.specs.State.{linkOf};
 ghost use Rattle.sound.specs.Sound.{SoundLink};
 ghost use Rattle.steps.specs.Rounds.{InParts, Kept, Finds, Departs, wentBy, nothingGoes, Moves};
-ghost use Rattle.steps.specs.Parts.{lentLink};
+ghost use Rattle.steps.specs.Parts.{lentLink, lentTree};
 ghost use Rattle.units.specs.declared.Bytes.{Bytes};
 use leaf::Gone;
 use leaf::goes;
@@ -60,7 +60,7 @@ fn has_gone(class: usize, rounds: usize, gone: Gone) -> Went
 }
 
 // No packet waits: nothing changes.
-fn nothing(active: u64, place: usize) -> Went
+pub fn nothing(active: u64, place: usize) -> Went
     ensures { λ r. ⌜ r ≡ nothingGoes active place ⌝ }
 {
     Went {
@@ -75,7 +75,11 @@ fn nothing(active: u64, place: usize) -> Went
 
 // The leaf that sends next: found at once, or in a round that is opened; 64 where no packet waits.
 fn next_sender(
-    tree: Tree,
+    count: usize,
+    leaves: u64,
+    parent: &[u8; 64],
+    weight: &[u32; 64],
+    longest: &[u16; 64],
     known: u64,
     kept: &[u32; 64],
     before: u64,
@@ -87,23 +91,18 @@ fn next_sender(
     lengths: &[u16; 2048],
 ) -> Found
     requires { ⌜ ((size : Bytes) × (tags : List ℕ)
-        × InParts tree size before from (now balance) (now residual) (now start) (now held) (now lengths) tags)
-        × Kept tree known (now kept) ⌝ }
+        × InParts (lentTree count leaves (now parent) (now weight) (now longest)) size before from
+        (now balance) (now residual) (now start) (now held) (now lengths) tags)
+        × Kept (lentTree count leaves (now parent) (now weight) (now longest)) known (now kept) ⌝ }
     ensures { λ r. ⌜ ((size : Bytes) (tags : List ℕ)
-        → InParts tree size before from (now (balance .entry)) (now (residual .entry)) (now (start .entry)) (now (held .entry))
-        (now (lengths .entry)) tags
-        → Finds (lentLink tree size before from (now (balance .entry)) (now (residual .entry)) (now (start .entry)) (now (held .entry))
-        (now (lengths .entry)) tags) r
-        (λ active place. lentLink tree size active place (now (balance .exit)) (now (residual .exit)) (now (start .entry))
-        (now (held .entry)) (now (lengths .entry)) tags)) ⌝ }
+        → InParts (lentTree count leaves (now (parent .entry)) (now (weight .entry)) (now (longest .entry))) size before from
+        (now (balance .entry)) (now (residual .entry)) (now (start .entry)) (now (held .entry)) (now (lengths .entry)) tags
+        → Finds (lentLink (lentTree count leaves (now (parent .entry)) (now (weight .entry)) (now (longest .entry))) size before from
+        (now (balance .entry)) (now (residual .entry)) (now (start .entry)) (now (held .entry)) (now (lengths .entry)) tags) r
+        (λ active place. lentLink (lentTree count leaves (now (parent .entry)) (now (weight .entry)) (now (longest .entry))) size active
+        place (now (balance .exit)) (now (residual .exit)) (now (start .entry)) (now (held .entry)) (now (lengths .entry)) tags)) ⌝ }
 {
-    let i = next_leaf(
-        sets::both(before, tree.leaves),
-        from,
-        balance,
-        start,
-        lengths,
-    );
+    let i = next_leaf(sets::both(before, leaves), from, balance, start, lengths);
     if i < Link::CLASSES {
         return Found {
             class: i,
@@ -111,17 +110,33 @@ fn next_sender(
             active: before,
         };
     }
-    reopened(tree, known, kept, balance, residual, start, held, lengths)
+    reopened(
+        count,
+        leaves,
+        parent,
+        weight,
+        longest,
+        known,
+        kept,
+        balance,
+        residual,
+        start,
+        held,
+        lengths,
+    )
 }
 
 // A whole send on a sound link: the next leaf sends; where the round has closed rounds are opened until one does, unless no packet waits.
 pub fn send(
-    tree: Tree,
+    count: usize,
+    leaves: u64,
+    parent: &[u8; 64],
+    weight: &[u32; 64],
+    longest: &[u16; 64],
     known: u64,
     kept: &[u32; 64],
     before: u64,
     from: usize,
-    parent: &[u8; 64],
     balance: &mut [u64; 64],
     residual: &mut [u64; 64],
     start: &mut [u8; 64],
@@ -129,18 +144,23 @@ pub fn send(
     lengths: &[u16; 2048],
     tags: &[u32; 2048],
 ) -> Went
-    requires { ⌜ ((size : Bytes) × InParts tree size before from (now balance) (now residual) (now start) (now held) (now lengths)
-        (now tags)) × (tree .parent ≡ now parent) × Kept tree known (now kept) ⌝ }
+    requires { ⌜ ((size : Bytes) × InParts (lentTree count leaves (now parent) (now weight) (now longest)) size before from
+        (now balance) (now residual) (now start) (now held) (now lengths) (now tags))
+        × Kept (lentTree count leaves (now parent) (now weight) (now longest)) known (now kept) ⌝ }
     ensures { λ r. ⌜ ((size : Bytes)
-        → InParts tree size before from (now (balance .entry)) (now (residual .entry)) (now (start .entry)) (now (held .entry))
-        (now (lengths .entry)) (now (tags .entry))
-        → Departs (lentLink tree size before from (now (balance .entry)) (now (residual .entry)) (now (start .entry)) (now (held .entry))
-        (now (lengths .entry)) (now (tags .entry)))
-        r (lentLink tree size (r .active) (r .place) (now (balance .exit)) (now (residual .exit)) (now (start .exit)) (now (held .exit))
-        (now (lengths .entry)) (now (tags .entry)))) ⌝ }
+        → InParts (lentTree count leaves (now (parent .entry)) (now (weight .entry)) (now (longest .entry))) size before from
+        (now (balance .entry)) (now (residual .entry)) (now (start .entry)) (now (held .entry)) (now (lengths .entry)) (now (tags .entry))
+        → Departs (lentLink (lentTree count leaves (now (parent .entry)) (now (weight .entry)) (now (longest .entry))) size before from
+        (now (balance .entry)) (now (residual .entry)) (now (start .entry)) (now (held .entry)) (now (lengths .entry)) (now (tags .entry)))
+        r (lentLink (lentTree count leaves (now (parent .entry)) (now (weight .entry)) (now (longest .entry))) size (r .active) (r .place)
+        (now (balance .exit)) (now (residual .exit)) (now (start .exit)) (now (held .exit)) (now (lengths .entry)) (now (tags .entry)))) ⌝ }
 {
     let next = next_sender(
-        tree,
+        count,
+        leaves,
+        parent,
+        weight,
+        longest,
         known,
         kept,
         before,
@@ -157,7 +177,7 @@ pub fn send(
     let gone = goes(
         next.class,
         next.active,
-        tree.count,
+        count,
         parent,
         balance,
         residual,
@@ -183,7 +203,7 @@ pub struct Moved {
     pub held: [u8; Link::CLASSES],
 }
 
-// A whole send on values: the accounts are taken apart, lent to the steps and put together again.
+// A whole send on values: the tree and the accounts are taken apart and lent to the steps, the accounts put together again.
 pub fn send_values(
     tree: Tree,
     active: u64,
@@ -200,18 +220,24 @@ pub fn send_values(
         → Moves (linkOf tree size active place accounts start held (now (lengths .entry)) (now (tags .entry))) r) ⌝ }
 {
     let parent = tree.parent;
+    let weights = tree.weight;
+    let weight = weight_numbers(weights);
+    let longest = tree.longest;
     let mut balance = balances(accounts);
     let mut residual = residuals(accounts);
     let mut first = start;
     let mut many = held;
     let none = [0u32; 64];
     let went = send(
-        tree,
+        tree.count,
+        tree.leaves,
+        &parent,
+        &weight,
+        &longest,
         0,
         &none,
         active,
         place,
-        &parent,
         &mut balance,
         &mut residual,
         &mut first,

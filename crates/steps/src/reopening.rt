@@ -5,11 +5,12 @@ ghost use Prim.Native.Nat.{_<_};
 ghost use Rattle.rules.specs.Steps.{OnTheWay};
 ghost use Rattle.rules.specs.Active.{weightSums};
 ghost use Rattle.steps.specs.Rounds.{Unseen, Closed, Opens, Kept, Finds, closedLink, openLink};
-ghost use Rattle.steps.specs.Parts.{lentLink};
+ghost use Rattle.steps.specs.Parts.{lentLink, lentTree};
 use crate::leaf::next_leaf;
 use opening::open_round;
 use opening::round_active;
 use opening::sums_of;
+use opening::weights_of;
 use state::Link;
 use tree::Tree;
 use units::Weight;
@@ -22,7 +23,7 @@ pub struct Found {
 }
 
 // Rounds are opened until a leaf sends; who is active, and so the weight sums, is the same in each.
-fn opened(
+fn open_until_sent(
     tree: Tree,
     active: u64,
     sums: [Weight; Link::CLASSES],
@@ -55,9 +56,13 @@ fn opened(
     }
 }
 
-// The round has closed: rounds are opened until a leaf sends, unless no packet waits.
+// The round has closed: the tree is put together, and rounds are opened until a leaf sends, unless no packet waits.
 pub(crate) fn reopened(
-    tree: Tree,
+    count: usize,
+    leaves: u64,
+    parent: &[u8; 64],
+    weight: &[u32; 64],
+    longest: &[u16; 64],
     known: u64,
     kept: &[u32; 64],
     balance: &mut [u64; 64],
@@ -66,15 +71,28 @@ pub(crate) fn reopened(
     held: &[u8; 64],
     lengths: &[u16; 2048],
 ) -> Found
-    requires { ⌜ ((k : Unseen) × (k .held ≡ now held) × Closed tree k (now balance) (now residual) (now start) (now lengths))
-        × Kept tree known (now kept) ⌝ }
+    requires { ⌜ ((k : Unseen) × (k .held ≡ now held)
+        × Closed (lentTree count leaves (now parent) (now weight) (now longest)) k (now balance) (now residual) (now start) (now lengths))
+        × Kept (lentTree count leaves (now parent) (now weight) (now longest)) known (now kept) ⌝ }
     ensures { λ r. ⌜ ((k : Unseen) → k .held ≡ now (held .entry)
-        → Closed tree k (now (balance .entry)) (now (residual .entry)) (now (start .entry)) (now (lengths .entry))
-        → Finds (closedLink tree k (now (balance .entry)) (now (residual .entry)) (now (start .entry)) (now (lengths .entry))) r
-        (λ active place. lentLink tree (k .size) active place (now (balance .exit)) (now (residual .exit)) (now (start .entry))
-        (k .held) (now (lengths .entry)) (k .tags))) ⌝ }
+        → Closed (lentTree count leaves (now (parent .entry)) (now (weight .entry)) (now (longest .entry))) k
+        (now (balance .entry)) (now (residual .entry)) (now (start .entry)) (now (lengths .entry))
+        → Finds (closedLink (lentTree count leaves (now (parent .entry)) (now (weight .entry)) (now (longest .entry))) k
+        (now (balance .entry)) (now (residual .entry)) (now (start .entry)) (now (lengths .entry))) r
+        (λ active place. lentLink (lentTree count leaves (now (parent .entry)) (now (weight .entry)) (now (longest .entry))) (k .size)
+        active place (now (balance .exit)) (now (residual .exit)) (now (start .entry)) (k .held) (now (lengths .entry)) (k .tags))) ⌝ }
 {
-    let active = round_active(tree, held);
+    let p = *parent;
+    let w = weights_of(weight);
+    let g = *longest;
+    let tree = Tree {
+        count,
+        leaves,
+        parent: p,
+        weight: w,
+        longest: g,
+    };
+    let active = round_active(tree, known, held);
     if !sets::has(active, 0) {
         return Found {
             class: Link::CLASSES,
@@ -83,5 +101,5 @@ pub(crate) fn reopened(
         };
     }
     let sums = sums_of(tree, active, known, kept);
-    opened(tree, active, sums, balance, residual, start, lengths)
+    open_until_sent(tree, active, sums, balance, residual, start, lengths)
 }

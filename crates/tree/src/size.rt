@@ -38,7 +38,8 @@ pub struct PlanSize {
 
 // Whether nothing is set of a class number.
 fn number_unset(leaf: bool, parent: u8, weight: Weight, longest: u16) -> bool
-    ensures { λ r. ⌜ ((t : Tree) (i : ℕ) → isLeaf t i ≡ leaf → parentOf t i ≡ parent → weightOf t i ≡ weight .0 → longestOf t i ≡ longest → Exactly r (NumberUnset t i)) ⌝ }
+    ensures { λ r. ⌜ ((t : Tree) (i : ℕ) → isLeaf t i ≡ leaf → parentOf t i ≡ parent → weightOf t i ≡ weight .0 → longestOf t i ≡ longest
+        → Exactly r (NumberUnset t i)) ⌝ }
 {
     if leaf {
         return false;
@@ -134,7 +135,8 @@ fn class_right(
 // The classes from the highest down, each adding its weight to its parent's sum: whether all are right, and what goes into the round size.
 fn walk(tree: Tree) -> Walked
     requires { ⌜ tree .count ≤ 63 ⌝ }
-    ensures { λ r. ⌜ Exactly (r .right) (ClassesRight tree) × (r .right ≡ true → (r .weights .0 ≡ allWeights tree) × (r .packets .0 ≡ allLongest tree)) ⌝ }
+    ensures { λ r. ⌜ Exactly (r .right) (ClassesRight tree)
+        × (r .right ≡ true → (r .weights .0 ≡ allWeights tree) × (r .packets .0 ≡ allLongest tree)) ⌝ }
 {
     let parent = tree.parent;
     let weight = tree.weight;

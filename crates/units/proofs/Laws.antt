@@ -1,5 +1,5 @@
 -- All that other proofs use of a packet's cost: it is at least 1, grows with the length, and is bounded over the lengths of a plan (R18).
-use Prim.Native.Nat.{ℕ, _+_, _≤_, max}
+use Prim.Native.Nat.{ℕ, _≤_}
 use native.Mathlib.Omega.{arith}
 use Rattle.units.specs.Cost.{costOf, mostCost}
 

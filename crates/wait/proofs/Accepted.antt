@@ -23,8 +23,8 @@ use Rattle.state.proofs.Bytes.{bytes-most}
 use Rattle.sound.specs.Sound.{Sound}
 use Rattle.rules.specs.Wide.{Wide}
 use Rattle.rules.proofs.Taken.{leaf-class}
-use Rattle.link.specs.Arrival.{arrivalChecks, arrived}
-use Rattle.link.proofs.Arrivals.{taken, length-arrived, arrival-keeps}
+use Rattle.calls.specs.Arrival.{arrivalChecks, arrived}
+use Rattle.calls.proofs.Arrivals.{taken, length-arrived, arrival-keeps}
 use Rattle.wait.specs.Wait.{overRoundedUp, bound}
 use Rattle.wait.proofs.Credit.{Holds, bytesUpTo, lacking, mains, falling, credit-most, holds-weight}
 use Rattle.wait.proofs.RoundedUp.{up-grows, up-most}
@@ -48,7 +48,8 @@ leaf-bound-small s i sound u leaf =
     omega (arith, up-most (bytesIn (queueAt s i)) w, weight, each, sound .holds i u .few leaf) in
     omega (arith, mul-le-mul over size)
 
-module _ (s : State) (i : ℕ) (p : Packet) (sound : Sound s) (wide : Wide s) (u : i < 64) (accepted : firstBroken (arrivalChecks true s i p) ≡ Passed) where
+module _ (s : State) (i : ℕ) (p : Packet) (sound : Sound s) (wide : Wide s) (u : i < 64)
+    (accepted : firstBroken (arrivalChecks true s i p) ≡ Passed) where
   inside : i < length (s .queues)
   inside = omega (arith, wide .queues)
 
@@ -72,7 +73,8 @@ module _ (s : State) (i : ℕ) (p : Packet) (sound : Sound s) (wide : Wide s) (u
       ap bytesIn (take-all (suc (length (queueAt s i))) (queueAt (arrived s i p) i) (omega (arith, length-arrived s i p inside)))
 
   -- and the number that falls starts within the bound
-  pub starts-within : falling (arrived s i p) i (length (queueAt s i)) ≤ bound (bytesIn (queueAt (arrived s i p) i)) (weightOf (s .tree) i) (s .size)
+  pub starts-within : falling (arrived s i p) i (length (queueAt s i)) ≤ bound (bytesIn (queueAt (arrived s i p) i)) (weightOf (s .tree) i)
+      (s .size)
   unfolding falling mains lacking
   starts-within =
       let d = bytesIn (queueAt (arrived s i p) i) in

@@ -15,13 +15,13 @@ use Rattle.state.specs.declared.Packet.{Packet}
 use Rattle.state.specs.State.{State, meaning}
 use Rattle.sound.specs.Sound.{SoundLink}
 use Rattle.rules.specs.Sending.{Trace, traceOf}
-use Rattle.link.specs.declared.Departure.{Departure}
-use Rattle.link.specs.declared.AfterSend.{AfterSend}
-use Rattle.link.specs.Progress.{packetOf}
-use Rattle.link.specs.Arrival.{arrivalLeaves}
-use Rattle.link.specs.Send.{sendLeaves, Sends}
-use Rattle.link.specs.Run.{arrival, send, Made, made, Run}
-use Rattle.link.proofs.Runs.{sent-is, sent-means}
+use Rattle.calls.specs.declared.Departure.{Departure}
+use Rattle.calls.specs.declared.AfterSend.{AfterSend}
+use Rattle.calls.specs.Progress.{packetOf}
+use Rattle.calls.specs.Arrival.{arrivalLeaves}
+use Rattle.calls.specs.Send.{sendLeaves, Sends}
+use Rattle.calls.specs.Run.{arrival, send, Made, made, Run}
+use Rattle.calls.proofs.Runs.{sent-is, sent-means}
 use Rattle.wait.specs.Wait.{Followed, more, oneSend, followed, sendsIn}
 use Rattle.wait.proofs.Credit.{Holds, falling, falling-some}
 use Rattle.wait.proofs.InOrder.{packetBehind, send-in-order}
@@ -69,7 +69,8 @@ module _
   unfolding followed
   goes-by k h own e =
       ap
-      (λ (d : AfterSend). oneSend (passed (d .answer .verdict)) (eqb (d .answer .class) i) (packetOf (d .answer)) k (λ m. followed i m rest))
+      (λ (d : AfterSend). oneSend (passed (d .answer .verdict)) (eqb (d .answer .class) i) (packetOf (d .answer)) k
+      (λ m. followed i m rest))
       (sent-is l (sendLeaves answer after) sound x (holds-waits before i k h))
       ∙ ap (λ (b : Bool). oneSend true b (trace .packet) k (λ m. followed i m rest)) e
 

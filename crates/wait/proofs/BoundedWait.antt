@@ -1,8 +1,8 @@
--- The bounded wait (R202). From the acceptance of a packet, with D bytes then in its class's queue and a class of weight w, the whole link sends at most
--- (D / w rounded up, plus 1) times Q bytes until it has gone, in whatever order later arrivals and sends come. Demand 3.
--- It speaks of the library: from any answer by which the contract accepts a packet, through any run of calls from there. Nothing is asked
--- of the caller: that the link is sound, that the class is a class number and that the record's lists have the lengths of its arrays
--- follow from the acceptance and the contract.
+-- The bounded wait (R202). From the acceptance of a packet, with D bytes then in its class's queue and a class of weight w, the whole
+-- link sends at most (D / w rounded up, plus 1) times Q bytes until it has gone, in whatever order later arrivals and sends come. Demand
+-- 3. It speaks of the library: from any answer by which the contract accepts a packet, through any run of calls from there. Nothing is
+-- asked of the caller: that the link is sound, that the class is a class number and that the record's lists have the lengths of its
+-- arrays follow from the acceptance and the contract.
 use mathlib.Core.Bool.{Bool, true, false}
 use mathlib.Core.List.{List}
 use mathlib.Core.Path.{_≡_, refl, sym, ap, ap₂, subst, _∙_}
@@ -19,11 +19,11 @@ use Rattle.state.proofs.Meaning.{meaning-queue, meaning-held}
 use Rattle.sound.specs.Sound.{SoundLink}
 use Rattle.rules.specs.Wide.{Wide}
 use Rattle.rules.proofs.Meanings.{meaning-wide}
-use Rattle.link.specs.declared.AfterArrival.{AfterArrival}
-use Rattle.link.specs.Arrival.{arrivalChecks, arrived, Arrives}
-use Rattle.link.specs.Run.{Made, Run}
-use Rattle.link.proofs.Arrivals.{taken-number, arrives-as, arrival-verdict, accepted-sound}
-use Rattle.link.proofs.Runs.{left-taken}
+use Rattle.calls.specs.declared.AfterArrival.{AfterArrival}
+use Rattle.calls.specs.Arrival.{arrivalChecks, arrived, Arrives}
+use Rattle.calls.specs.Run.{Made, Run}
+use Rattle.calls.proofs.Arrivals.{taken-number, arrives-as, arrival-verdict, accepted-sound}
+use Rattle.calls.proofs.Runs.{left-taken}
 use Rattle.wait.specs.Wait.{followed, sendsIn, bound}
 use Rattle.wait.proofs.Credit.{Holds, falling}
 use Rattle.wait.proofs.InOrder.{packetBehind, accepted-last}

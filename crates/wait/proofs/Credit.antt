@@ -1,4 +1,5 @@
--- The number that falls while a packet waits: what the classes other than the root hold, and Q for each main round that may still be needed. Demand 3.
+-- The number that falls while a packet waits: what the classes other than the root hold, and Q for each main round that may still be
+-- needed. Demand 3.
 use mathlib.Core.Bool.{true}
 use mathlib.Core.Path.{_≡_, refl}
 use Prim.Native.Nat.{ℕ, suc, _+_, _-_, _*_, _≤_, _<_}

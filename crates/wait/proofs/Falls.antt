@@ -98,7 +98,8 @@ module _ (s : State) (i k : ℕ) (h : Holds s i k) (closed : nextLeaf s ≡ 64) 
       let root = ap fundsOf (opened-root-stays s (h .sound) (h .wide) kind) in
       let fall = credit-change s (opened s) 0 (opened-total s (h .sound) (h .wide)) (omega (arith, root)) in
       let less =
-      up-grows (bytesIn (take (suc k) (queueAt s i)) - balanceOf (opened s .accounts) i) (bytesIn (take (suc k) (queueAt s i)) - balanceOf (s .accounts) i)
+      up-grows (bytesIn (take (suc k) (queueAt s i)) - balanceOf (opened s .accounts) i)
+      (bytesIn (take (suc k) (queueAt s i)) - balanceOf (s .accounts) i)
       (weightOf (s .tree) i) (holds-weight s i k h) (omega (arith, gain))
       in
       omega (arith, credit-falls s (opened s) i k k 0 refl less fall)
@@ -128,7 +129,8 @@ module _ (s : State) (i k : ℕ) (h : Holds s i k) (closed : nextLeaf s ≡ 64) 
 sent-credit : (s : State) (i k j : ℕ) → Holds s i k → Sender s j → credit (sentState s j) + costOf (firstOf s j .length) ≤ credit s
 unfolding sentState
 sent-credit s i k j h is =
-    credit-change s (sentState s j) (costOf (firstOf s j .length)) (books-total s j (h .sound .fits .tree) (h .wide) (is .high) (is .covers) .0)
+    credit-change s (sentState s j) (costOf (firstOf s j .length))
+    (books-total s j (h .sound .fits .tree) (h .wide) (is .high) (is .covers) .0)
     (books-root s j (h .wide) (is .low))
 
 -- another leaf sends: the class's packets and its balance are as they were

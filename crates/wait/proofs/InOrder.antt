@@ -1,4 +1,5 @@
--- The packet that is followed stays the same packet: arrivals wait behind it, a send takes the first of its class's queue, and what goes is that packet. Demand 3.
+-- The packet that is followed stays the same packet: arrivals wait behind it, a send takes the first of its class's queue, and what goes
+-- is that packet. Demand 3.
 use mathlib.Core.List.{List, [], _∷_, _++_}
 use mathlib.Core.Path.{_≡_, refl, sym, ap, subst, _∙_}
 use Prim.Native.Nat.{ℕ, suc, _+_, _<_}
@@ -13,8 +14,8 @@ use Rattle.rules.specs.Sending.{firstOf, nextLeaf, sentState, Turn, Trace, trac
 use Rattle.rules.specs.Wide.{Wide}
 use Rattle.rules.proofs.Rounds.{two-rounds}
 use Rattle.rules.proofs.Sent.{sent-queue, sent-other}
-use Rattle.link.specs.Arrival.{arrived}
-use Rattle.link.proofs.Arrivals.{queue-arrived, queue-other}
+use Rattle.calls.specs.Arrival.{arrived}
+use Rattle.calls.proofs.Arrivals.{queue-arrived, queue-other}
 use Rattle.wait.proofs.Credit.{Holds, holds-some}
 
 -- the packet of class i with k packets before it

@@ -1,4 +1,5 @@
--- One call while a packet waits, an arrival or a send: what is sent and the number that falls are together no more than the number was. Demand 3.
+-- One call while a packet waits, an arrival or a send: what is sent and the number that falls are together no more than the number was.
+-- Demand 3.
 use mathlib.Core.Bool.{true}
 use mathlib.Core.List.{List, [], _∷_, _++_}
 use mathlib.Core.Logic.{_⊎_, inl, inr}
@@ -28,10 +29,10 @@ use Rattle.rules.specs.Opening.{opened}
 use Rattle.rules.specs.Sending.{firstOf, nextLeaf, sentState, Turn, Trace, turnOf, sends, traceOf}
 use Rattle.rules.proofs.Rounds.{leaf-most, main-sends, next-main, opened-waits, sends-now, sends-closed}
 use Rattle.rules.proofs.Sender.{Sender, next-sender}
-use Rattle.link.specs.declared.AfterArrival.{AfterArrival}
-use Rattle.link.specs.Arrival.{arrivalChecks, arrived, Arrives}
-use Rattle.link.proofs.Arrivals.{Taken, taken, taken-number, queue-arrived, queue-other, length-arrived, arrival-keeps}
-use Rattle.link.proofs.Runs.{left-refused, left-taken}
+use Rattle.calls.specs.declared.AfterArrival.{AfterArrival}
+use Rattle.calls.specs.Arrival.{arrivalChecks, arrived, Arrives}
+use Rattle.calls.proofs.Arrivals.{Taken, taken, taken-number, queue-arrived, queue-other, length-arrived, arrival-keeps}
+use Rattle.calls.proofs.Runs.{left-refused, left-taken}
 use Rattle.wait.specs.Wait.{overRoundedUp}
 use Rattle.wait.proofs.Credit.{Holds, credit, bytesUpTo, lacking, mains, falling, holds-class, holds-some}
 use Rattle.wait.proofs.InOrder.{packetBehind, arrived-packet}
@@ -72,7 +73,8 @@ module _ (s : State) (i k j : ℕ) (p : Packet) (h : Holds s i k) (u : j < 64) w
   arrived-same : falling (arrived s j p) i k ≡ falling s i k
   unfolding falling credit mains lacking bytesUpTo
   arrived-same =
-      ap (λ (q : List Packet). credit s + s .size * overRoundedUp (bytesIn q - balanceOf (s .accounts) i) (weightOf (s .tree) i)) arrived-upto
+      ap (λ (q : List Packet). credit s + s .size * overRoundedUp (bytesIn q - balanceOf (s .accounts) i) (weightOf (s .tree) i))
+      arrived-upto
 
 -- what an arrival leaves
 pub record ArrivalKeeps (s : State) (i k : ℕ) (after : State) : Type 0 where
@@ -162,7 +164,8 @@ sends-fall n turns s i k h found = subst (SendFalls s i k) (sym (sends-now n tur
 sends-fall-opened : (n : ℕ) (turns : List Turn) (s : State) (i k : ℕ) → Holds s i k → nextLeaf s ≡ 64
     → SendFalls (opened s) i k (sends n (turns ++ (turnOf s ∷ [])) (opened s)) → SendFalls s i k (sends (suc n) turns s)
 sends-fall-opened n turns s i k h closed f =
-    subst (SendFalls s i k) (sym (sends-closed n turns s closed)) (opened-first s i k (sends n (turns ++ (turnOf s ∷ [])) (opened s)) h closed f)
+    subst (SendFalls s i k) (sym (sends-closed n turns s closed))
+    (opened-first s i k (sends n (turns ++ (turnOf s ∷ [])) (opened s)) h closed f)
 
 pub send-falls : (s : State) (i k : ℕ) → Holds s i k → SendFalls s i k (traceOf s)
 unfolding traceOf

@@ -7,7 +7,7 @@ use native.Mathlib.Omega.{arith}
 use lib.ListN.{length}
 use Rattle.checks.specs.declared.Verdict.the-variants.{Passed, Refused}
 use Rattle.checks.specs.Check.{firstBroken}
-use Rattle.checks.proofs.Laws.{not-both, not-true-and-false}
+use Rattle.checks.proofs.Laws.{not-both, not-true-and-false, exactly-yes}
 use Rattle.state.specs.declared.Link.{Link}
 use Rattle.state.specs.declared.Packet.{Packet}
 use Rattle.state.specs.Queue.{Shaped}
@@ -16,16 +16,17 @@ use Rattle.state.proofs.Meaning.{shaped-fresh}
 use Rattle.sound.specs.Sound.{SoundLink}
 use Rattle.rules.specs.Active.{waits, someWaits}
 use Rattle.rules.specs.Sending.{traceOf}
-use Rattle.link.specs.declared.AfterArrival.{AfterArrival}
-use Rattle.link.specs.declared.AfterSend.{AfterSend}
-use Rattle.link.specs.Arrival.{arrivalChecks, arrived, arrivalOf, Arrives}
-use Rattle.link.specs.Send.{departs, sendOf, Sends}
-use Rattle.link.specs.Run.{arrival, send}
-use Rattle.link.proofs.Arrivals.{arrival-verdict, arrival-shaped, arrives-as}
-use Rattle.link.proofs.Departures.{send-shaped, sends-as}
-use Rattle.link.proofs.Runs.{left-taken, sent-is, sent-means, rules-meet}
-use Rattle.link.proofs.FreshLinks.{fresh-sound}
-use Rattle.wait.proofs.TwoLeaves.{tree, rules, fresh, first, second, withFirst, withBoth, sentOnce, arrivals-pass, arrivals-wait, two-sends}
+use Rattle.calls.specs.declared.AfterArrival.{AfterArrival}
+use Rattle.calls.specs.declared.AfterSend.{AfterSend}
+use Rattle.calls.specs.Arrival.{arrivalChecks, arrived, arrivalOf, Arrives}
+use Rattle.calls.specs.Send.{departs, sendOf, Sends}
+use Rattle.calls.specs.Run.{arrival, send}
+use Rattle.calls.proofs.Arrivals.{arrival-verdict, arrival-shaped, arrives-as}
+use Rattle.calls.proofs.Departures.{send-shaped, sends-as}
+use Rattle.calls.proofs.Runs.{left-taken, sent-is, sent-means, rules-meet}
+use Rattle.calls.proofs.FreshLinks.{fresh-sound}
+use Rattle.wait.proofs.TwoLeaves.{tree, rules, fresh, first, second, withFirst, withBoth, sentOnce, arrivals-pass, arrivals-wait}
+use Rattle.wait.proofs.TwoLeaves.{two-sends}
 
 -- an arrival and a send that meet their contracts on every sound link whose lists have the lengths of its arrays
 pub record Obey (arrive : Link → ℕ → Packet → AfterArrival) (send : Link → AfterSend) : Type 0 where
@@ -35,8 +36,8 @@ pub record Obey (arrive : Link → ℕ → Packet → AfterArrival) (send : Link
 -- the rules' own calls do
 pub rules-obey : Obey (arrivalOf true) (sendOf true)
 rules-obey = record {
-  arrivals = λ l i p shape sound. rules-meet l (arrival i p) shape sound;
-  sends = λ l shape sound. rules-meet l send shape sound;
+  arrivals = λ l i p shape sound. rules-meet l (arrival i p) true (exactly-yes sound) shape;
+  sends = λ l shape sound. rules-meet l send true (exactly-yes sound) shape;
 }
 
 -- a sound link whose lists have the lengths of its arrays and that means this state
@@ -167,8 +168,10 @@ module _ (arrive : Link → ℕ → Packet → AfterArrival) (send : Link → Af
       (ap someWaits (sym e ∙ send-after gone sentOnce gone-gives (two-sends .1 .waits) .means) ∙ two-sends .2)
 
   -- one with an invented round count: it is that of the openings, and no fixed one
-  pub counts-openings : (l : Link) → Shaped l → SoundLink l → someWaits (meaning l) ≡ true → send l .answer .rounds ≡ length (traceOf (meaning l) .turns)
-  counts-openings l shape sound w = ap (λ (d : AfterSend). d .answer .rounds) (send-is l (meaning l) (record { shape = shape; sound = sound; means = refl }) w)
+  pub counts-openings : (l : Link) → Shaped l → SoundLink l → someWaits (meaning l) ≡ true
+      → send l .answer .rounds ≡ length (traceOf (meaning l) .turns)
+  counts-openings l shape sound w =
+      ap (λ (d : AfterSend). d .answer .rounds) (send-is l (meaning l) (record { shape = shape; sound = sound; means = refl }) w)
 
   pub fixed-count : send gone .answer .rounds ≡ send two .answer .rounds → ⊥
   fixed-count e =

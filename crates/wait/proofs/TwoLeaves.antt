@@ -1,4 +1,5 @@
--- A tree of two leaves obeys the plan rules; what two arrivals and two sends on its fresh link give, computed from the definitions. Demand 2.
+-- A tree of two leaves obeys the plan rules; what two arrivals and two sends on its fresh link give, computed from the definitions.
+-- Demand 2.
 use mathlib.Core.Bool.{true, false}
 use mathlib.Core.Path.{_≡_, refl}
 use Prim.Native.Nat.{ℕ}
@@ -23,9 +24,10 @@ use Rattle.state.specs.Queue.{table, queueOf}
 use Rattle.state.specs.State.{State, meaning, freshLink}
 use Rattle.tree.specs.Below.{climbs, atOrBelow}
 use Rattle.rules.specs.Active.{waits, someWaits, someBelow, setOf, upward, roundActive, activeChild, activeWeight, weightSum}
-use Rattle.rules.specs.Opening.{surplusAt, hasSurplus, kindOf, quotaIn, quota, due, handsDown, openedLeaf, openedInner, openedAccount, openedAccounts, nextKind, opened}
+use Rattle.rules.specs.Opening.{surplusAt, hasSurplus, kindOf, quotaIn, quota, due, handsDown, openedLeaf, openedInner, openedAccount}
+use Rattle.rules.specs.Opening.{openedAccounts, nextKind, opened}
 use Rattle.rules.specs.Sending.{ready, firstFrom, nextLeaf, givenUp, turnsOff, paid, booksAfter, sentState, turnOf, sends, traceOf}
-use Rattle.link.specs.Arrival.{noLeaf, badLength, full, arrivalChecks, arrived}
+use Rattle.calls.specs.Arrival.{noLeaf, badLength, full, arrivalChecks, arrived}
 
 -- ---- the tree
 
@@ -41,7 +43,8 @@ tree = added one (leaf 1 10)
 grown : Grown tree
 unfolding leaf one tree
 grown =
-    added-grown one (leaf 1 10) (added-grown noTree (leaf 1 10) none-grown (omega arith) (λ f. absurd (not-true-and-false refl f))) (omega arith)
+    added-grown one (leaf 1 10) (added-grown noTree (leaf 1 10) none-grown (omega arith) (λ f. absurd (not-true-and-false refl f)))
+    (omega arith)
     (λ f. absurd (not-true-and-false refl f))
 
 passes : ClassesPass tree
@@ -49,7 +52,8 @@ unfolding leaf one tree badParent badWeight badLongest isLeaf has with
 passes = classes-kept one (leaf 1 10) (classes-kept noTree (leaf 1 10) none-pass refl refl refl) refl refl refl
 
 closes : firstBroken (closingChecks tree) ≡ Passed
-unfolding leaf one tree firstBroken classByClass tooHeavy childless noClass isInner isClass isLeaf isChild childWeight childrenWeight hasChild sumTo someTo has with
+unfolding leaf one tree firstBroken classByClass tooHeavy childless noClass isInner isClass isLeaf isChild childWeight childrenWeight
+    hasChild sumTo someTo has with
 closes = refl
 
 few : tooMany tree ≡ false
@@ -89,7 +93,8 @@ unfolding leaf one tree fresh first second withFirst firstBroken noLeaf badLengt
 arrivals-pass = (refl, refl, refl)
 
 -- a packet waits only once it has arrived
-pub arrivals-wait : (someWaits (meaning fresh) ≡ false) × (someWaits withFirst ≡ true) × (waits withFirst 2 ≡ false) × (waits withBoth 2 ≡ true)
+pub arrivals-wait : (someWaits (meaning fresh) ≡ false) × (someWaits withFirst ≡ true) × (waits withFirst 2 ≡ false)
+    × (waits withBoth 2 ≡ true)
 unfolding leaf one tree fresh first second withFirst withBoth isLeaf has with table queueOf waits someWaits someTo
 arrivals-wait = (refl, refl, refl, refl)
 
@@ -101,5 +106,8 @@ pub record SendsAs (s : State) (mark many : ℕ) : Type 0 where
 
 -- the first packet goes in a new round, the second in the same round, and then none waits
 pub two-sends : SendsAs withBoth 1 1 × SendsAs sentOnce 4 0 × (someWaits (traceOf sentOnce .state) ≡ false)
-unfolding leaf one tree fresh first second withFirst withBoth sentOnce roundSize allWeights allLongest longestCost sumTo someTo isClass isLeaf isInner isChild has with without costOf table queueOf climbs atOrBelow waits someWaits someBelow setOf upward roundActive activeChild activeWeight weightSum surplusAt hasSurplus kindOf quotaIn quota due handsDown openedLeaf openedInner openedAccount openedAccounts nextKind opened ready firstFrom nextLeaf givenUp turnsOff paid booksAfter sentState turnOf sends traceOf
+unfolding leaf one tree fresh first second withFirst withBoth sentOnce roundSize allWeights allLongest longestCost sumTo someTo isClass
+    isLeaf isInner isChild has with without costOf table queueOf climbs atOrBelow waits someWaits someBelow setOf upward roundActive
+    activeChild activeWeight weightSum surplusAt hasSurplus kindOf quotaIn quota due handsDown openedLeaf openedInner openedAccount
+    openedAccounts nextKind opened ready firstFrom nextLeaf givenUp turnsOff paid booksAfter sentState turnOf sends traceOf
 two-sends = (record { waits = refl; tag = refl; rounds = refl }, record { waits = refl; tag = refl; rounds = refl }, refl)

@@ -7,8 +7,8 @@ use Rattle.checks.specs.Check.{passed}
 use Rattle.units.specs.Cost.{costOf}
 use Rattle.state.specs.declared.Packet.{Packet}
 use Rattle.state.specs.Queue.{noPacket}
-use Rattle.link.specs.Progress.{packetOf}
-use Rattle.link.specs.Run.{arrival, send, Made, made}
+use Rattle.calls.specs.Progress.{packetOf}
+use Rattle.calls.specs.Run.{arrival, send, Made, made}
 
 -- what was sent from some moment on, up to and including the packet that is followed, whether it has gone, and the packet that went as it
 pub record Followed : Type 0 where

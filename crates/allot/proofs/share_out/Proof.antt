@@ -28,8 +28,7 @@ loop-holds c =
       few-classes (a .t1) (c .before .pre .0 .rules),
       omega arith,
       omega arith,
-      settled-root (a .t1) (a .t2) (a .has)
-          (c .settled .result) (c .settled .ensures),
+      settled-root (a .t1) (a .t2) (a .has) (c .settled .result) (c .settled .ensures),
     )
 
 -- the parent of the class at hand has a lower number
@@ -94,8 +93,12 @@ settled-requires-2 c κs =
     let s = h .loop .shares in
     let asks = entry (st .args .t2) in
     let most = gets-within (entry (s .gets) p) (asks p) (asks (h .loop .i)) (weightOf t (h .loop .i)) (entry (s .fair) p) in
-    let small = st .pre .0 .small (h .loop .i) in
-    (st .pre .0, omega (arith, k .loop-test .taken, h .loop .inv .0), k .loop-test .taken, omega (arith, c .child-gets .ensures, most, small))
+    let small = st .pre .0 .small (h .loop .i) in (
+      st .pre .0,
+      omega (arith, k .loop-test .taken, h .loop .inv .0),
+      k .loop-test .taken,
+      omega (arith, c .child-gets .ensures, most, small),
+    )
 
 add-i : tie.Need-add-i Inv-loop μ-loop
 add-i c = search needs

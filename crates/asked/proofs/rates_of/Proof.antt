@@ -33,7 +33,8 @@ returns c =
     let long = told .before .before in
     let a = long .before .before .args in
     let r = c .of-plan .result in
-    let plan = subst (λ (p : PlanRead). OfPlan (p .verdict) p (a .capacity) (a .requests) r) (read .read-plan .ensures) (c .of-plan .ensures) in
+    let plan = subst (λ (p : PlanRead). OfPlan (p .verdict) p (a .capacity) (a .requests) r) (read .read-plan .ensures)
+    (c .of-plan .ensures) in
     let passed = sym (told .enum-told .given .1) ∙ long .input-length .ensures in
     subst (λ (v : Verdict). OfInput v (now (a .input)) (a .capacity) (a .requests) r) passed plan
 

@@ -18,11 +18,13 @@ use Rattle.box_loop.proofs.event_at.Tie as tie
 
 -- what an event uses stands in the input, and the place after it is one
 within : (c : tie.After-read-event) (e : EventRead) → c .read-event .result ≡ e
-    → (usedOf e ≤ length (now (c .before .before .before .args .input)) - c .before .before .before .args .place) × (c .before .before .before .args .place + usedOf e < 2 ^ 64)
+    → (usedOf e ≤ length (now (c .before .before .before .args .input)) - c .before .before .before .args .place)
+    × (c .before .before .before .args .place + usedOf e < 2 ^ 64)
 within c e told =
     let a = c .before .before .before .args in
     let r = c .before .events-after in
-    let f = used-fits (now (a .input)) (a .place) e (ap (λ (s : List ℕ). eventAt s (a .place)) (sym (r .ensures .0)) ∙ sym (c .read-event .ensures) ∙ told) in
+    let f = used-fits (now (a .input)) (a .place) e (ap (λ (s : List ℕ). eventAt s (a .place)) (sym (r .ensures .0))
+    ∙ sym (c .read-event .ensures) ∙ told) in
     let d = length-drop (a .place) (now (a .input)) in
     (omega (arith, f, d), omega (arith, f, ap length (r .ensures .0), r .ensures .1))
 
@@ -64,7 +66,8 @@ plain-requires-3 c κs = search needs
 
 -- the event that was read at the place
 read-is : (c : tie.After-read-event) (e : EventRead) → c .read-event .result ≡ e
-    → eventAt (drop (c .before .before .before .args .place) (now (c .before .before .before .args .input))) (c .before .before .before .args .place) ≡ e
+    → eventAt (drop (c .before .before .before .args .place) (now (c .before .before .before .args .input)))
+    (c .before .before .before .args .place) ≡ e
 read-is c e told =
     let a = c .before .before .before .args in
     ap (λ (s : List ℕ). eventAt s (a .place)) (sym (c .before .events-after .ensures .0)) ∙ sym (c .read-event .ensures) ∙ told
@@ -90,7 +93,8 @@ returns-4 : tie.Need-returns-4
 returns-4 c =
     let v = c .before in
     let told = v .enum-told3 .given in
-    comes _ _ (Fault (told .0 .0) (told .0 .1 .0)) _ (read-is (v .before .before) _ (told .1)) (c .plain3 .ensures ∙ ap (plainEvent false _) (told .1))
+    comes _ _ (Fault (told .0 .0) (told .0 .1 .0)) _ (read-is (v .before .before) _ (told .1))
+    (c .plain3 .ensures ∙ ap (plainEvent false _) (told .1))
 
 pub event-at-spec : {M : Type 1} → statement M
 event-at-spec =

@@ -31,13 +31,16 @@ cast-t6 : tie.Need-cast-t6
 cast-t6 c = search needs
 
 returns : tie.Need-returns
-returns c = c .end-line .ensures ∙ ap (λ (e : EventRead). lastLine e (c .before .before .before .args .link)) (sym (c .before .enum-told .given .1))
+returns c =
+    c .end-line .ensures ∙ ap (λ (e : EventRead). lastLine e (c .before .before .before .args .link)) (sym (c .before .enum-told .given .1))
 
 returns-2 : tie.Need-returns-2
-returns-2 c = c .end-line2 .ensures ∙ ap (λ (e : EventRead). lastLine e (c .before .before .before .args .link)) (sym (c .before .enum-told2 .given .1))
+returns-2 c = c .end-line2 .ensures
+    ∙ ap (λ (e : EventRead). lastLine e (c .before .before .before .args .link)) (sym (c .before .enum-told2 .given .1))
 
 returns-3 : tie.Need-returns-3
-returns-3 c = c .end-line3 .ensures ∙ ap (λ (e : EventRead). lastLine e (c .before .before .before .args .link)) (sym (c .before .enum-told3 .given .1))
+returns-3 c = c .end-line3 .ensures
+    ∙ ap (λ (e : EventRead). lastLine e (c .before .before .before .args .link)) (sym (c .before .enum-told3 .given .1))
 
 returns-4 : tie.Need-returns-4
 returns-4 c = ap (λ (e : EventRead). lastLine e (c .before .before .before .args .link)) (sym (c .before .read .given .1))

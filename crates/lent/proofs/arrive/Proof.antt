@@ -1,5 +1,6 @@
--- `arrive` behind `&mut` meets its contract: a walk of its code. The borrow is opened and the record's fields stand apart, the small ones are copied out, the waiting places' lengths and tags are lent to the call over parts,
--- the packets held that it gives are stored, and the borrow is closed at the record that the fields then make up. All that it knows of the call over parts is its contract.
+-- `arrive` behind `&mut` meets its contract: a walk of its code. The borrow is opened and the record's fields stand apart, the small ones
+-- are copied out, the waiting places' lengths and tags are lent to the call over parts, the packets held that it gives are stored, and
+-- the borrow is closed at the record that the fields then make up. All that it knows of the call over parts is its contract.
 use mathlib.Core.Path.{refl, subst}
 use Prim.Native.Nat.{ℕ, zero, _+_, _<_, _^_}
 use mathlib.Core.List.{[], _∷_, List}
@@ -16,8 +17,10 @@ use prog.Wp.{Heap, Calls, Loops, WpFn, Tables}
 use ghost.Atoms.{Atoms, sem}
 use contract.Monad.{Fun, fact, fact-use}
 use contract.Running.{givenOf, tables, tablesOf}
-use types.Kit.{Given, ‵, raw, _⊛_, _$_, _∵_, !, qed, by, move, keep, drop, use1, use3, split, join, fsplit, fsplit3, fjoin, fjoin3, feqI, rewrite, suffices, frame, some, given, show, check, done}
-use types.Run.{look, look-raw, init, store-raw, forget, stop, hop, fld, from, load, and-then, no-more, of-opd, addr, assigns, land, returns, enter, alloc1, alloc0, params1, pass1, pass0, free1, free0}
+use types.Kit.{Given, ‵, raw, _⊛_, _$_, _∵_, !, qed, by, move, keep, drop, use3, split, join, fsplit, fsplit3, fjoin, fjoin3, feqI, rewrite}
+use types.Kit.{suffices, frame, show, check, done}
+use types.Run.{look, look-raw, init, store-raw, forget, stop, hop, fld, from, load, and-then, no-more, of-opd, addr, assigns, land, returns}
+use types.Run.{enter, alloc1, alloc0, params1, pass1, pass0, free1, free0}
 use types.Part.{whole, sub, look-in}
 use types.SemTy.{Body}
 use sound.WpLaws.{FmC, fmOf, WpFn-mono}
@@ -39,23 +42,24 @@ use denote.Triple.Table.{entered, cited}
 use denote.Triple.Walked.{says, Stays, stay-ref, stay-none, walkOf, AllGo, goes-ref, goes-none, Walks, ends-at, walked, walk-meets}
 use denote.Triple.Clauses.{ensured, lasts}
 use denote.Exit.{yes}
-use Rattle.link.specs.Arrival.{arrivalLeaves, Arrives}
+use Rattle.calls.specs.Arrival.{arrivalLeaves, Arrives}
 use Rattle.link.specs.Parts.{ArrivesAt}
 use Rattle.state.specs.declared.Link.{Link}
 use Rattle.state.specs.declared.Packet.{Packet}
 use Rattle.state.specs.State.{linkOf}
-use Rattle.link.specs.declared.Arrival.{Arrival}
+use Rattle.calls.specs.declared.Arrival.{Arrival}
 use Rattle.link.specs.declared.Placed.{Placed}
 use Rattle.lent.proofs.Returns.{returned-with}
 use Rattle.lent.proofs.Lends.{pval, Known, opened, closed}
 use Rattle.state.proofs.Shapes.{shaped}
-use Rattle.lent.proofs.Fields.{type-at, Fits, val-at, typed, parts-of, same, as-held, to, Lengths, Tags, mut-lengths, mut-tags, apart, together, lent-out, come-back, by-value}
+use Rattle.lent.proofs.Fields.{type-at, Fits, typed, parts-of, same, handed, as-held, small, small-vals, to, Lengths, Tags}
+use Rattle.lent.proofs.Fields.{mut-lengths, mut-tags, apart, together, lent-out, come-back, by-value}
 use Rattle.state.proofs.Link as L
 use Rattle.state.proofs.Link.Laws as L′
 use Rattle.state.proofs.Packet as P
 use Rattle.state.proofs.Packet.Laws as P′
-use Rattle.link.proofs.Arrival as N
-use Rattle.link.proofs.Arrival.Laws as N′
+use Rattle.calls.proofs.Arrival as N
+use Rattle.calls.proofs.Arrival.Laws as N′
 use Rattle.link.proofs.Placed as S
 use Rattle.link.proofs.Placed.Laws as S′
 use Rattle.link.proofs.arrive_in as core
@@ -75,14 +79,16 @@ abbrev nval : Arrival → Val
 nval a = LL.val N.the-type N′.the-laws a
 
 -- what is known of what the call gives
-abbrev placed-of : (r : Placed) → Is S.the-row r (LL.val S.the-type S′.the-laws r ∷ []) → Are (S.the-type .parts) S′.the-laws (S.struct .as-values r)
+abbrev placed-of : (r : Placed) → Is S.the-row r (LL.val S.the-type S′.the-laws r ∷ [])
+    → Are (S.the-type .parts) S′.the-laws (S.struct .as-values r)
 placed-of r is = LL.owed S.the-type S′.the-laws r (LL.val S.the-type S′.the-laws r ∷ []) is
 
 module _ {M : Type 1} (𝓤 : URA M) (H : Heap 𝓤) (A : Atoms 𝓤) (W : Given 𝓤 H A) (at-mem : Memory → SProp 𝓤) (run : Routine → Fun 𝓤) where
   abbrev Core : Contract 𝓤
   Core = tripleOf 𝓤 H A core.signature (core.spec 𝓤 H A at-mem run)
 
-module _ {M : Type 1} (𝓤 : URA M) (H : Heap 𝓤) (A : Atoms 𝓤) (W : Given 𝓤 H A) (at-mem : Memory → SProp 𝓤) (run : Routine → Fun 𝓤) (κ : Lft) (q : Share) (b o : ℕ) (γ : GName) (h : Link) (i : ℕ) (p : Packet)
+module _ {M : Type 1} (𝓤 : URA M) (H : Heap 𝓤) (A : Atoms 𝓤) (W : Given 𝓤 H A) (at-mem : Memory → SProp 𝓤) (run : Routine → Fun 𝓤) (κ : Lft)
+    (q : Share) (b o : ℕ) (γ : GName) (h : Link) (i : ℕ) (p : Packet)
     (fits : i < 2 ^ 64) (isp : Is P.the-row p (pval p ∷ [])) where
   abbrev x : RefT Link × (ℕ × (Packet × Unit {0}))
   x = (record { ptr = (b, o); name = γ; now = h }, (i, (p, tt)))
@@ -100,11 +106,14 @@ module _ {M : Type 1} (𝓤 : URA M) (H : Heap 𝓤) (A : Atoms 𝓤) (W : Given
   abbrev after : Placed → List ℕ × List ℕ → Link
   after r w = linkOf (h .tree) (h .size) (h .active) (h .place) (h .accounts) (h .start) (r .held) (w .0) (w .1)
 
-  exits : (r : Placed) (w : List ℕ × List ℕ) → Arrives h i p (arrivalLeaves (r .answer) (after r w)) → Is N.the-row (r .answer) (nval (r .answer) ∷ [])
-      → ent 𝓤 (sep 𝓤 (A .obs γ (L.the-row .coded .code (after r w))) (sep 𝓤 (A .bor κ (Body (mem L.the-row) b o γ)) (A .lft κ q))) (Post (nval (r .answer)))
+  exits : (r : Placed) (w : List ℕ × List ℕ) → Arrives h i p (arrivalLeaves (r .answer) (after r w))
+      → Is N.the-row (r .answer) (nval (r .answer) ∷ [])
+      → ent 𝓤 (sep 𝓤 (A .obs γ (L.the-row .coded .code (after r w))) (sep 𝓤 (A .bor κ (Body (mem L.the-row) b o γ)) (A .lft κ q)))
+      (Post (nval (r .answer)))
   exits r w e is =
       qed W (‵ (fobs γ (L.the-row .coded .code (after r w))) ∷ ‵ (fbor κ (Body (mem L.the-row) b o γ)) ∷ ‵ (flft κ q) ∷ []) ∵
-      suffices ! _ (ends-at 𝓤 H A lent.ended stayed (lent.clauses 𝓤 H A at-mem run) W (((κ, tt), (q, tt), tt, x, at), tt) (nval (r .answer)) (r .answer) (after r w, (tt, (tt, tt))) (tt, (tt, (tt, tt)))) $ says ! e $
+      suffices ! _ (ends-at 𝓤 H A lent.ended stayed (lent.clauses 𝓤 H A at-mem run) W (((κ, tt), (q, tt), tt, x, at), tt) (nval (r .answer))
+      (r .answer) (after r w, (tt, (tt, tt))) (tt, (tt, (tt, tt)))) $ says ! e $
       nothing ! $ move ! (3 ∷ 0 ∷ []) $ join ! $ frame ! $ feqI ! (List Val) (vptr b o ∷ []) (vptr b o ∷ []) refl $ fjoin3 ! $ nothing ! $
       owned ! P.the-row (Is P.the-row) (LL.makes P.the-type P′.the-plain 𝓤 H A) p (pval p ∷ []) isp $ fjoin ! $
       owned ! usize (Is usize) (uint-makes 𝓤 H A W w64) i (vint w64 i ∷ []) (refl, fits) $ fjoin ! $ move ! (1 ∷ 0 ∷ []) $ fjoin ! $
@@ -112,18 +121,22 @@ module _ {M : Type 1} (𝓤 : URA M) (H : Heap 𝓤) (A : Atoms 𝓤) (W : Given
 
   -- what the call over parts says of its result and of the last values, of a link with other words for its lists
   abbrev SaidOf : Link → Placed → List ℕ × List ℕ → Type 0
-  SaidOf l r w = ArrivesAt l i p (r .answer) (linkOf (l .tree) (l .size) (l .active) (l .place) (l .accounts) (l .start) (r .held) (w .0) (w .1))
+  SaidOf l r w =
+      ArrivesAt l i p (r .answer) (linkOf (l .tree) (l .size) (l .active) (l .place) (l .accounts) (l .start) (r .held) (w .0) (w .1))
 
   abbrev Said : Placed → List ℕ × List ℕ → Type 0
-  Said = SaidOf (linkOf (h .tree) (h .size) (h .active) (h .place) (h .accounts) (same (h .start)) (same (h .held)) (same (h .lengths)) (same (h .tags)))
+  Said = SaidOf (handed h)
 
   arrived : Known h → (r : Placed) (w : List ℕ × List ℕ) → Said r w → Arrives h i p (arrivalLeaves (r .answer) (after r w))
   arrived is r w e = subst (λ (l : Link). SaidOf l r w) (as-held h) e (shaped h _ is)
 
-  known-after : Known h → (r : Placed) (w : List ℕ × List ℕ) → Is S.the-row r (LL.val S.the-type S′.the-laws r ∷ []) → Fits 7 (w .0) → Fits 8 (w .1) → Known (after r w)
+  known-after : Known h → (r : Placed) (w : List ℕ × List ℕ) → Is S.the-row r (LL.val S.the-type S′.the-laws r ∷ []) → Fits 7 (w .0)
+      → Fits 8 (w .1) → Known (after r w)
   known-after is r w isr isx isy =
       let ps = parts-of h is in
-      LL.owes L.the-type L′.the-laws (after r w) (ps .0, (ps .1 .0, (ps .1 .1 .0, (ps .1 .1 .1 .0, (ps .1 .1 .1 .1 .0, (ps .1 .1 .1 .1 .1 .0, (placed-of r isr .1 .0, (isx, (isy, tt)))))))))
+      let held = placed-of r isr .1 .0 in
+      LL.owes L.the-type L′.the-laws (after r w)
+      (ps .0, (ps .1 .0, (ps .1 .1 .0, (ps .1 .1 .1 .0, (ps .1 .1 .1 .1 .0, (ps .1 .1 .1 .1 .1 .0, (held, (isx, (isy, tt)))))))))
 
   abbrev to-core : ℕ → GName → GName → Core 𝓤 H A W at-mem run .Ghost
   to-core α γ₇ γ₈ = (
@@ -131,40 +144,23 @@ module _ {M : Type 1} (𝓤 : URA M) (H : Heap 𝓤) (A : Atoms 𝓤) (W : Given
       (α ∷ [], tt),
       (fullShare, tt),
       tt,
-      (h .tree, (h .size, (h .active, (h .place, (h .accounts, (same (h .start), (same (h .held), (to b (o + 1_640) γ₇ (same (h .lengths)), (to b (o + 5_736) γ₈ (same (h .tags)), (i, (p, tt))))))))))),
-      (
-        val-at 0 (h .tree) ∷ [],
-        (
-          val-at 1 (h .size) ∷ [],
-          (
-            val-at 2 (h .active) ∷ [],
-            (
-              val-at 3 (h .place) ∷ [],
-              (
-                val-at 4 (h .accounts) ∷ [],
-                (
-                  val-at 5 (h .start) ∷ [],
-                  (
-                    val-at 6 (h .held) ∷ [],
-                    (vptr b (o + 1_640) ∷ [], (vptr b (o + 5_736) ∷ [], (vint w64 i ∷ [], (pval p ∷ [], tt)))),
-                  ),
-                ),
-              ),
-            ),
-          ),
-        ),
-      ),
+      small h (to b (o + 1_640) γ₇ (same (h .lengths)), (to b (o + 5_736) γ₈ (same (h .tags)), (i, (p, tt)))),
+      small-vals h (vptr b (o + 1_640) ∷ [], (vptr b (o + 5_736) ∷ [], (vint w64 i ∷ [], (pval p ∷ [], tt)))),
     ),
     tt,
   )
 
   -- what the call requires: the token, what is lent, and plain facts
   goes-core : Known h → (α : ℕ) (γ₇ γ₈ : GName)
-      → ent 𝓤 (sep 𝓤 (A .lft (α ∷ []) fullShare) (sep 𝓤 (sem 𝓤 H A (mut-lengths b o α γ₇ (same (h .lengths)))) (sem 𝓤 H A (mut-tags b o α γ₈ (same (h .tags)))))) (Core 𝓤 H A W at-mem run .pre (to-core α γ₇ γ₈))
+      → ent 𝓤 (sep 𝓤 (A .lft (α ∷ []) fullShare)
+      (sep 𝓤 (sem 𝓤 H A (mut-lengths b o α γ₇ (same (h .lengths)))) (sem 𝓤 H A (mut-tags b o α γ₈ (same (h .tags))))))
+      (Core 𝓤 H A W at-mem run .pre (to-core α γ₇ γ₈))
   goes-core is α γ₇ γ₈ =
       qed W (‵ (flft (α ∷ []) fullShare) ∷ ‵ (mut-lengths b o α γ₇ (same (h .lengths))) ∷ ‵ (mut-tags b o α γ₈ (same (h .tags))) ∷ []) ∵
-      nothing ! $ move ! (1 ∷ 0 ∷ []) $ join ! $ nothing ! $ owned ! P.the-row (Is P.the-row) (LL.makes P.the-type P′.the-plain 𝓤 H A) p (pval p ∷ []) isp $ fjoin ! $
-      owned ! usize (Is usize) (uint-makes 𝓤 H A W w64) i (vint w64 i ∷ []) (refl, fits) $ fjoin ! $ move ! (3 ∷ 0 ∷ []) $ fjoin ! $ move ! (2 ∷ 0 ∷ []) $ fjoin ! $ by-value ! h is $
+      nothing ! $ move ! (1 ∷ 0 ∷ []) $ join ! $ nothing ! $
+      owned ! P.the-row (Is P.the-row) (LL.makes P.the-type P′.the-plain 𝓤 H A) p (pval p ∷ []) isp $ fjoin ! $
+      owned ! usize (Is usize) (uint-makes 𝓤 H A W w64) i (vint w64 i ∷ []) (refl, fits) $ fjoin ! $ move ! (3 ∷ 0 ∷ []) $ fjoin ! $
+      move ! (2 ∷ 0 ∷ []) $ fjoin ! $ by-value ! h is $
       move ! (1 ∷ 0 ∷ []) $ join ! $ frame ! $ done !
 
   -- what is left of the call: the last values, where the contract holds of them
@@ -178,33 +174,65 @@ module _ {M : Type 1} (𝓤 : URA M) (H : Heap 𝓤) (A : Atoms 𝓤) (W : Given
       let Q : SProp 𝓤 = sem 𝓤 H A (lasts core.ended (α ∷ [], tt) (to-core α γ₇ γ₈ .0 .3) ws) in
       let E : SProp 𝓤 = fact 𝓤 (Said r w) in
       fact-use 𝓤 (Said r w) (snd∗ 𝓤 Q E) (λ e.
-      qed W ((‵ (lasts core.ended (α ∷ [], tt) (to-core α γ₇ γ₈ .0 .3) ws) ⊛ raw E) ∷ []) ∵ show ! (Left γ₇ γ₈ r) w $ check ! e $ split ! $ keep ! (0 ∷ []) $
-      fsplit ! $ move ! (1 ∷ []) $ fsplit ! $ move ! (1 ∷ []) $ fsplit ! $ move ! (1 ∷ []) $ fsplit ! $ move ! (1 ∷ []) $ fsplit ! $ move ! (1 ∷ []) $ fsplit ! $ move ! (1 ∷ []) $ fsplit ! $ move ! (1 ∷ []) $ fsplit ! $ move ! (1 ∷ []) $ fsplit ! $ keep ! (2 ∷ 0 ∷ []) $ done !))
+      qed W ((‵ (lasts core.ended (α ∷ [], tt) (to-core α γ₇ γ₈ .0 .3) ws) ⊛ raw E) ∷ []) ∵ show ! (Left γ₇ γ₈ r) w $ check ! e $ split ! $
+      keep ! (0 ∷ []) $
+      fsplit ! $ move ! (1 ∷ []) $ fsplit ! $ move ! (1 ∷ []) $ fsplit ! $ move ! (1 ∷ []) $ fsplit ! $ move ! (1 ∷ []) $ fsplit ! $
+      move ! (1 ∷ []) $ fsplit ! $ move ! (1 ∷ []) $ fsplit ! $ move ! (1 ∷ []) $ fsplit ! $ move ! (1 ∷ []) $ fsplit ! $
+      keep ! (2 ∷ 0 ∷ []) $ done !))
 
   module _ (C : Calls 𝓤 H) (Λ : Loops 𝓤 H) (fm : FmC 𝓤 H (W .laws) C) (known : Triple 𝓤 (C #core) (Core 𝓤 H A W at-mem run)) where
-    walk : Holds (hasTy P′.mir (pval p)) × WT (pval p) → ent 𝓤 (onEntry 𝓤 H A lent.signature (κ, tt) (q, tt) x at) (WpFn 𝓤 H C Λ code.function args Post)
+    walk : Holds (hasTy P′.mir (pval p)) × WT (pval p)
+        → ent 𝓤 (onEntry 𝓤 H A lent.signature (κ, tt) (q, tt) x at) (WpFn 𝓤 H C Λ code.function args Post)
     walk wt =
-        qed W ((‵ (flft κ q) ⊛ ‵ ftrue) ∷ ‵ (owns (MutRef (named 0) κ L.the-row ∷ usize ∷ P.the-row ∷ []) x at) ∷ []) ∵ split ! $ move ! (2 ∷ []) $ fsplit ! $ keep ! (0 ∷ 2 ∷ []) $ fsplit3 ! $ drop ! $
+        qed W ((‵ (flft κ q) ⊛ ‵ ftrue) ∷ ‵ (owns (MutRef (named 0) κ L.the-row ∷ usize ∷ P.the-row ∷ []) x at) ∷ []) ∵ split ! $
+        move ! (2 ∷ []) $ fsplit ! $ keep ! (0 ∷ 2 ∷ []) $ fsplit3 ! $ drop ! $
         -- [obs; the borrow; the token]
-        enter ! C Λ code.function args _ $ alloc1 ! (λ l₀. alloc1 ! (λ l₁. alloc1 ! (λ l₂. alloc1 ! (λ l₃. alloc1 ! (λ l₄. alloc1 ! (λ l₅. alloc1 ! (λ l₆. alloc1 ! (λ l₇. alloc1 ! (λ l₈. alloc1 ! (λ l₉. alloc1 ! (λ l₁₀. alloc1 ! (λ l₁₁. alloc1 ! (λ l₁₂. alloc1 ! (λ l₁₃. alloc0 ! $ params1 ! $
+        enter ! C Λ code.function args _ $ alloc1 ! (λ l₀. alloc1 ! (λ l₁. alloc1 ! (λ l₂. alloc1 ! (λ l₃. alloc1 ! (λ l₄. alloc1 ! (λ l₅.
+        alloc1 ! (λ l₆. alloc1 ! (λ l₇. alloc1 ! (λ l₈. alloc1 ! (λ l₉. alloc1 ! (λ l₁₀. alloc1 ! (λ l₁₁. alloc1 ! (λ l₁₂. alloc1 ! (λ l₁₃.
+        alloc0 ! $ params1 ! $
         pass1 ! (init ! 24 refl (tt, tt)) $ pass1 ! (init ! 22 refl (tt, record { fits = fits })) $ pass1 ! (init ! 20 refl wt) $ pass0 ! $
         move ! (28 ∷ 29 ∷ 30 ∷ []) $ opened ! tt h b o (λ is. let ps = parts-of h is in apart ! h b o $
         -- [the nine cells; the way back; the open borrow; obs; auth; _13; …; _12; …; _0; …]
-        assigns ! (of-opd ! (load ! (from ! (hop ! (look ! 37 refl) (fld ! {τ = type-at 0} {d = 0} refl (stop !)))) (look-raw ! 0 {τ = type-at 0} refl))) (from ! (stop !)) (init ! 29 refl (typed 𝓤 H A W 0 (h .tree) (ps .0) .0)) $
-        assigns ! (of-opd ! (load ! (from ! (hop ! (look ! 37 refl) (fld ! {τ = type-at 1} {d = 464} refl (stop !)))) (look-raw ! 1 {τ = type-at 1} refl))) (from ! (stop !)) (init ! 27 refl (typed 𝓤 H A W 1 (h .size) (ps .1 .0) .0)) $
-        assigns ! (of-opd ! (load ! (from ! (hop ! (look ! 37 refl) (fld ! {τ = type-at 2} {d = 472} refl (stop !)))) (look-raw ! 2 {τ = type-at 2} refl))) (from ! (stop !)) (init ! 25 refl (typed 𝓤 H A W 2 (h .active) (ps .1 .1 .0) .0)) $
-        assigns ! (of-opd ! (load ! (from ! (hop ! (look ! 37 refl) (fld ! {τ = type-at 3} {d = 480} refl (stop !)))) (look-raw ! 3 {τ = type-at 3} refl))) (from ! (stop !)) (init ! 23 refl (typed 𝓤 H A W 3 (h .place) (ps .1 .1 .1 .0) .0)) $
-        assigns ! (of-opd ! (load ! (from ! (hop ! (look ! 37 refl) (fld ! {τ = type-at 4} {d = 488} refl (stop !)))) (look-raw ! 4 {τ = type-at 4} refl))) (from ! (stop !)) (init ! 21 refl (typed 𝓤 H A W 4 (h .accounts) (ps .1 .1 .1 .1 .0) .0)) $
-        assigns ! (of-opd ! (load ! (from ! (hop ! (look ! 37 refl) (fld ! {τ = type-at 5} {d = 1_512} refl (stop !)))) (look-raw ! 5 {τ = type-at 5} refl))) (from ! (stop !)) (init ! 19 refl (typed 𝓤 H A W 5 (h .start) (ps .1 .1 .1 .1 .1 .0) .0)) $
-        assigns ! (of-opd ! (load ! (from ! (hop ! (look ! 37 refl) (fld ! {τ = type-at 6} {d = 1_576} refl (stop !)))) (look-raw ! 6 {τ = type-at 6} refl))) (from ! (stop !)) (init ! 17 refl (typed 𝓤 H A W 6 (h .held) (ps .1 .1 .1 .1 .1 .1 .0) .0)) $
-        assigns ! (addr ! (from ! (hop ! (look ! 37 refl) (fld ! {τ = type-at 7} {d = 1_640} refl (stop !))))) (from ! (stop !)) (init ! 15 refl (tt, tt)) $
-        assigns ! (addr ! (from ! (hop ! (look ! 37 refl) (fld ! {τ = type-at 8} {d = 5_736} refl (stop !))))) (from ! (stop !)) (init ! 13 refl (tt, tt)) $
-        move ! (7 ∷ 8 ∷ []) $ lent-out ! tt (h .lengths) (h .tags) b o (ps .1 .1 .1 .1 .1 .1 .1 .0) (ps .1 .1 .1 .1 .1 .1 .1 .1 .0) (λ α γ₇ γ₈.
+        assigns ! (of-opd ! (load ! (from ! (hop ! (look ! 37 refl) (fld ! {τ = type-at 0} {d = 0} refl (stop !))))
+        (look-raw ! 0 {τ = type-at 0} refl))) (from ! (stop !)) (init ! 29 refl (typed 𝓤 H A W 0 (h .tree) (ps .0) .0)) $
+        assigns ! (of-opd ! (load ! (from ! (hop ! (look ! 37 refl) (fld ! {τ = type-at 1} {d = 464} refl (stop !))))
+        (look-raw ! 1 {τ = type-at 1} refl))) (from ! (stop !)) (init ! 27 refl (typed 𝓤 H A W 1 (h .size) (ps .1 .0) .0)) $
+        assigns ! (of-opd ! (load ! (from ! (hop ! (look ! 37 refl) (fld ! {τ = type-at 2} {d = 472} refl (stop !))))
+        (look-raw ! 2 {τ = type-at 2} refl))) (from ! (stop !)) (init ! 25 refl (typed 𝓤 H A W 2 (h .active) (ps .1 .1 .0) .0)) $
+        assigns ! (of-opd ! (load ! (from ! (hop ! (look ! 37 refl) (fld ! {τ = type-at 3} {d = 480} refl (stop !))))
+        (look-raw ! 3 {τ = type-at 3} refl))) (from ! (stop !)) (init ! 23 refl (typed 𝓤 H A W 3 (h .place) (ps .1 .1 .1 .0) .0)) $
+        assigns ! (of-opd ! (load ! (from ! (hop ! (look ! 37 refl) (fld ! {τ = type-at 4} {d = 488} refl (stop !))))
+        (look-raw ! 4 {τ = type-at 4} refl))) (from ! (stop !))
+        (init ! 21 refl (typed 𝓤 H A W 4 (h .accounts) (ps .1 .1 .1 .1 .0) .0)) $
+        assigns ! (of-opd ! (load ! (from ! (hop ! (look ! 37 refl) (fld ! {τ = type-at 5} {d = 1_512} refl (stop !))))
+        (look-raw ! 5 {τ = type-at 5} refl))) (from ! (stop !))
+        (init ! 19 refl (typed 𝓤 H A W 5 (h .start) (ps .1 .1 .1 .1 .1 .0) .0)) $
+        assigns ! (of-opd ! (load ! (from ! (hop ! (look ! 37 refl) (fld ! {τ = type-at 6} {d = 1_576} refl (stop !))))
+        (look-raw ! 6 {τ = type-at 6} refl))) (from ! (stop !))
+        (init ! 17 refl (typed 𝓤 H A W 6 (h .held) (ps .1 .1 .1 .1 .1 .1 .0) .0)) $
+        assigns ! (addr ! (from ! (hop ! (look ! 37 refl) (fld ! {τ = type-at 7} {d = 1_640} refl (stop !))))) (from ! (stop !))
+        (init ! 15 refl (tt, tt)) $
+        assigns ! (addr ! (from ! (hop ! (look ! 37 refl) (fld ! {τ = type-at 8} {d = 5_736} refl (stop !))))) (from ! (stop !))
+        (init ! 13 refl (tt, tt)) $
+        move ! (7 ∷ 8 ∷ []) $
+        lent-out ! tt (h .lengths) (h .tags) b o (ps .1 .1 .1 .1 .1 .1 .1 .0) (ps .1 .1 .1 .1 .1 .1 .1 .1 .0) (λ α γ₇ γ₈.
         use3 W (raw (Core 𝓤 H A W at-mem run .pre (to-core α γ₇ γ₈))) (goes-core is α γ₇ γ₈) $
         calls-at ! fm (Core 𝓤 H A W at-mem run) known (to-core α γ₇ γ₈)
-        (and-then ! (load ! (from ! (stop !)) (look ! 30 refl)) (and-then ! (load ! (from ! (stop !)) (look ! 28 refl)) (and-then ! (load ! (from ! (stop !)) (look ! 26 refl)) (and-then ! (load ! (from ! (stop !)) (look ! 24 refl)) (and-then ! (load ! (from ! (stop !)) (look ! 22 refl)) (and-then ! (load ! (from ! (stop !)) (look ! 20 refl)) (and-then ! (load ! (from ! (stop !)) (look ! 18 refl)) (and-then ! (load ! (from ! (stop !)) (look ! 16 refl)) (and-then ! (load ! (from ! (stop !)) (look ! 14 refl)) (and-then ! (load ! (from ! (stop !)) (look ! 36 refl)) (and-then ! (load ! (from ! (stop !)) (look ! 34 refl)) (no-more !)))))))))))) (λ v.
-        returned-with ! tt S.the-row (λ r w. Said r w) (λ w. ‵ (fres γ₇ (Lengths .coded .code (w .0))) ⊛ ‵ (fres γ₈ (Tags .coded .code (w .1)))) (‵ (flft (α ∷ []) fullShare) ⊛ ‵ ftrue) v _
-        (ensured 𝓤 H A core.ended (core.clauses 𝓤 H A at-mem run) (α ∷ [], tt) (to-core α γ₇ γ₈ .0 .3) tt) (id⊢ 𝓤 _) (told α γ₇ γ₈) (λ r w e is₁.
+        (and-then ! (load ! (from ! (stop !)) (look ! 30 refl))
+        (and-then ! (load ! (from ! (stop !)) (look ! 28 refl))
+        (and-then ! (load ! (from ! (stop !)) (look ! 26 refl))
+        (and-then ! (load ! (from ! (stop !)) (look ! 24 refl))
+        (and-then ! (load ! (from ! (stop !)) (look ! 22 refl))
+        (and-then ! (load ! (from ! (stop !)) (look ! 20 refl))
+        (and-then ! (load ! (from ! (stop !)) (look ! 18 refl))
+        (and-then ! (load ! (from ! (stop !)) (look ! 16 refl))
+        (and-then ! (load ! (from ! (stop !)) (look ! 14 refl))
+        (and-then ! (load ! (from ! (stop !)) (look ! 36 refl))
+        (and-then ! (load ! (from ! (stop !)) (look ! 34 refl)) (no-more !)))))))))))) (λ v.
+        returned-with ! tt S.the-row (λ r w. Said r w) (λ w. ‵ (fres γ₇ (Lengths .coded .code (w .0)))
+        ⊛ ‵ (fres γ₈ (Tags .coded .code (w .1)))) (‵ (flft (α ∷ []) fullShare) ⊛ ‵ ftrue) v _
+        (ensured 𝓤 H A core.ended (core.clauses 𝓤 H A at-mem run) (α ∷ [], tt) (to-core α γ₇ γ₈ .0 .3) tt) (id⊢ 𝓤 _) (told α γ₇ γ₈)
+        (λ r w e is₁.
         let isr = subst (Is S.the-row r) (LL.tells S.the-type S′.the-laws r (v ∷ []) is₁) is₁ in
         let ws = placed-of r isr in
         split ! $ move ! (1 ∷ []) $ drop ! $ move ! (1 ∷ []) $ split ! $ move ! (2 ∷ []) $
@@ -212,27 +240,49 @@ module _ {M : Type 1} (𝓤 : URA M) (H : Heap 𝓤) (A : Atoms 𝓤) (W : Given
         land ! (from ! (stop !)) (init ! 34 refl (LL.lawful S.the-type S′.the-laws 𝓤 H A W .typed r _ is₁ .0)) $
         rewrite ! 34 (λ (us : List Val). ‵ (fat fullShare S′.mir l₄ zero (only us))) (LL.tells S.the-type S′.the-laws r (v ∷ []) is₁) refl $
         come-back ! tt (w .0) (w .1) b o (λ isx isy. move ! (2 ∷ 3 ∷ 4 ∷ 5 ∷ 6 ∷ 7 ∷ 8 ∷ 0 ∷ 1 ∷ []) $
-        assigns ! (of-opd ! (load ! (from ! (fld ! {τ = type-at 6} {d = 16} refl (stop !))) (look-in ! 31 {τ = type-at 6} (sub ! 1 {τ = type-at 6} {d = 16} refl (whole !))))) (from ! (hop ! (look ! 37 refl) (fld ! {τ = type-at 6} {d = 1_576} refl (stop !)))) (store-raw ! 6 {τ = type-at 6} refl (typed 𝓤 H A W 6 (r .held) (ws .1 .0) .0)) $
-        assigns ! (of-opd ! (load ! (from ! (fld ! {d = 0} refl (stop !))) (look-in ! 31 (sub ! 0 {d = 0} refl (whole !))))) (from ! (stop !)) (init ! 39 refl (LL.lawful N.the-type N′.the-laws 𝓤 H A W .typed (r .answer) _ (ws .0) .0)) $
+        assigns ! (of-opd ! (load ! (from ! (fld ! {τ = type-at 6} {d = 16} refl (stop !)))
+        (look-in ! 31 {τ = type-at 6} (sub ! 1 {τ = type-at 6} {d = 16} refl (whole !)))))
+        (from ! (hop ! (look ! 37 refl) (fld ! {τ = type-at 6} {d = 1_576} refl (stop !))))
+        (store-raw ! 6 {τ = type-at 6} refl (typed 𝓤 H A W 6 (r .held) (ws .1 .0) .0)) $
+        assigns ! (of-opd ! (load ! (from ! (fld ! {d = 0} refl (stop !))) (look-in ! 31 (sub ! 0 {d = 0} refl (whole !)))))
+        (from ! (stop !)) (init ! 39 refl (LL.lawful N.the-type N′.the-laws 𝓤 H A W .typed (r .answer) _ (ws .0) .0)) $
         together ! (after r w) b o $ closed ! tt (after r w) (known-after is r w isr isx isy) b o $
         -- [obs; the borrow; the token; _13; …; _0; …]
-        returns ! (look ! 29 refl) $ forget ! 3 refl $ forget ! 5 refl $ forget ! 7 refl $ forget ! 9 refl $ forget ! 11 refl $ forget ! 13 refl $ forget ! 15 refl $ forget ! 17 refl $ forget ! 19 refl $ forget ! 21 refl $ forget ! 23 refl $ forget ! 25 refl $ forget ! 27 refl $ forget ! 29 refl $
-        move ! (29 ∷ 30 ∷ []) $ free1 ! $ move ! (27 ∷ 28 ∷ []) $ free1 ! $ move ! (25 ∷ 26 ∷ []) $ free1 ! $ move ! (23 ∷ 24 ∷ []) $ free1 ! $ move ! (21 ∷ 22 ∷ []) $ free1 ! $ move ! (19 ∷ 20 ∷ []) $ free1 ! $ move ! (17 ∷ 18 ∷ []) $ free1 ! $ move ! (15 ∷ 16 ∷ []) $ free1 ! $ move ! (13 ∷ 14 ∷ []) $ free1 ! $ move ! (11 ∷ 12 ∷ []) $ free1 ! $ move ! (9 ∷ 10 ∷ []) $ free1 ! $ move ! (7 ∷ 8 ∷ []) $ free1 ! $ move ! (5 ∷ 6 ∷ []) $ free1 ! $ move ! (3 ∷ 4 ∷ []) $ free1 ! $ free0 ! $
+        returns ! (look ! 29 refl) $ forget ! 3 refl $ forget ! 5 refl $ forget ! 7 refl $ forget ! 9 refl $ forget ! 11 refl $
+        forget ! 13 refl $ forget ! 15 refl $ forget ! 17 refl $ forget ! 19 refl $ forget ! 21 refl $ forget ! 23 refl $ forget ! 25 refl $
+        forget ! 27 refl $ forget ! 29 refl $
+        move ! (29 ∷ 30 ∷ []) $ free1 ! $ move ! (27 ∷ 28 ∷ []) $ free1 ! $ move ! (25 ∷ 26 ∷ []) $ free1 ! $ move ! (23 ∷ 24 ∷ []) $
+        free1 ! $ move ! (21 ∷ 22 ∷ []) $ free1 ! $ move ! (19 ∷ 20 ∷ []) $ free1 ! $ move ! (17 ∷ 18 ∷ []) $ free1 ! $
+        move ! (15 ∷ 16 ∷ []) $ free1 ! $ move ! (13 ∷ 14 ∷ []) $ free1 ! $ move ! (11 ∷ 12 ∷ []) $ free1 ! $ move ! (9 ∷ 10 ∷ []) $
+        free1 ! $ move ! (7 ∷ 8 ∷ []) $ free1 ! $ move ! (5 ∷ 6 ∷ []) $ free1 ! $ move ! (3 ∷ 4 ∷ []) $ free1 ! $ free0 ! $
         keep ! (0 ∷ 1 ∷ 2 ∷ []) $ by ! (exits r w (arrived is r w e) (ws .0)))))))))))))))))))))
 
 module _ {M : Type 1} (𝓤 : URA M) (H : Heap 𝓤) (A : Atoms 𝓤) (W : Given 𝓤 H A) (at-mem : Memory → SProp 𝓤) (run : Routine → Fun 𝓤) where
-  lent-walks : (C : Calls 𝓤 H) (Λ : Loops 𝓤 H) → FmC 𝓤 H (W .laws) C → Triple 𝓤 (C #core) (Core 𝓤 H A W at-mem run) → Walks 𝓤 H A lent.ended stayed (WpFn 𝓤 H C Λ code.function) (lent.clauses 𝓤 H A at-mem run)
-  lent-walks C Λ fm known = walked 𝓤 H A lent.ended stayed (lent.clauses 𝓤 H A at-mem run) (WpFn 𝓤 H C Λ code.function) (λ κs. (ptr-vals, (uint-vals w64, (LL.vals P.the-type P′.the-laws, tt)))) (λ κs. (mut-tells (named 0) (κs .0) L.the-row, (uint-tells w64, (LL.tells P.the-type P′.the-laws, tt))))
+  lent-walks : (C : Calls 𝓤 H) (Λ : Loops 𝓤 H) → FmC 𝓤 H (W .laws) C → Triple 𝓤 (C #core) (Core 𝓤 H A W at-mem run)
+      → Walks 𝓤 H A lent.ended stayed (WpFn 𝓤 H C Λ code.function) (lent.clauses 𝓤 H A at-mem run)
+  lent-walks C Λ fm known = walked 𝓤 H A lent.ended stayed (lent.clauses 𝓤 H A at-mem run) (WpFn 𝓤 H C Λ code.function)
+      (λ κs. (ptr-vals, (uint-vals w64, (LL.vals P.the-type P′.the-laws, tt))))
+      (λ κs. (mut-tells (named 0) (κs .0) L.the-row, (uint-tells w64, (LL.tells P.the-type P′.the-laws, tt))))
       (λ κs qs bounds a _ are. via 𝓤 _ (fst∗ 𝓤 _ (emp 𝓤))
-      (walk 𝓤 H A W at-mem run (κs .0) (qs .0) (a .0 .ptr .0) (a .0 .ptr .1) (a .0 .name) (a .0 .now) (a .1 .0) (a .1 .1 .0) (are .1 .0 .1) (are .1 .1 .0) C Λ fm known
+      (walk 𝓤 H A W at-mem run (κs .0) (qs .0) (a .0 .ptr .0) (a .0 .ptr .1) (a .0 .name) (a .0 .now) (a .1 .0) (a .1 .1 .0) (are .1 .0 .1)
+      (are .1 .1 .0) C Λ fm known
       (LL.lawful P.the-type P′.the-laws 𝓤 H A W .typed (a .1 .1 .0) _ (are .1 .1 .0) .0)))
 
   goes : AllGo 𝓤 H A W 1 (lent.signature .params) (lent.ended .kept) stayed
-  goes = (goes-ref 𝓤 H A W 1 0 tt (plain (λ _. L.the-row)), (goes-none 𝓤 H A W 1 (λ _. usize) yes (λ κs x f. refl), (goes-none 𝓤 H A W 1 (λ _. P.the-row) yes (λ κs x f. refl), tt)))
+  goes = (
+    goes-ref 𝓤 H A W 1 0 tt (plain (λ _. L.the-row)),
+    (
+      goes-none 𝓤 H A W 1 (λ _. usize) yes (λ κs x f. refl),
+      (goes-none 𝓤 H A W 1 (λ _. P.the-row) yes (λ κs x f. refl), tt),
+    ),
+  )
 
-lent-meets : {M : Type 1} (𝓤 : URA M) (H : Heap 𝓤) (A : Atoms 𝓤) (W : Given 𝓤 H A) (at-mem : Memory → SProp 𝓤) (run : Routine → Fun 𝓤) (𝓣 : Tables 𝓤 H)
-    → Triple 𝓤 (𝓣 .C #core) (Core 𝓤 H A W at-mem run) → Meets 𝓤 H A lent.signature (WpFn 𝓤 H (𝓣 .C) (𝓣 .Λ) code.function) (lent.spec 𝓤 H A at-mem run)
-lent-meets 𝓤 H A W at-mem run 𝓣 known = walk-meets 𝓤 H A lent.ended stayed W (goes 𝓤 H A W at-mem run) (lent.clauses 𝓤 H A at-mem run) (WpFn 𝓤 H (𝓣 .C) (𝓣 .Λ) code.function) (WpFn-mono 𝓤 H (W .laws) 𝓣 code.function)
+lent-meets : {M : Type 1} (𝓤 : URA M) (H : Heap 𝓤) (A : Atoms 𝓤) (W : Given 𝓤 H A) (at-mem : Memory → SProp 𝓤) (run : Routine → Fun 𝓤)
+    (𝓣 : Tables 𝓤 H)
+    → Triple 𝓤 (𝓣 .C #core) (Core 𝓤 H A W at-mem run)
+    → Meets 𝓤 H A lent.signature (WpFn 𝓤 H (𝓣 .C) (𝓣 .Λ) code.function) (lent.spec 𝓤 H A at-mem run)
+lent-meets 𝓤 H A W at-mem run 𝓣 known = walk-meets 𝓤 H A lent.ended stayed W (goes 𝓤 H A W at-mem run) (lent.clauses 𝓤 H A at-mem run)
+    (WpFn 𝓤 H (𝓣 .C) (𝓣 .Λ) code.function) (WpFn-mono 𝓤 H (W .laws) 𝓣 code.function)
     (lent-walks 𝓤 H A W at-mem run (𝓣 .C) (𝓣 .Λ) (fmOf 𝓤 H (W .laws) 𝓣) known)
 
 pub arrive-spec : {M : Type 1} → stated.statement M
@@ -241,4 +291,5 @@ arrive-spec 𝓤 H 𝓜 𝓖 𝓡 =
     entered 𝓤 H (tripleOf 𝓤 H (𝓖 .A) lent.signature (lent.spec 𝓤 H (𝓖 .A) (𝓜 .mem) (𝓡 .run)))
     (tables 𝓤 H 𝓜 𝓡 code.env .C) (tables 𝓤 H 𝓜 𝓡 code.env .Λ) #lent·arrive code.function (code.unfolded 𝓤 H 𝓜 𝓡)
     (lent-meets 𝓤 H (𝓖 .A) (givenOf 𝓤 H 𝓜 𝓖) (𝓜 .mem) (𝓡 .run) (tablesOf 𝓤 H 𝓜 (tables 𝓤 H 𝓜 𝓡 code.env))
-    (cited 𝓤 H (tripleOf 𝓤 H (𝓖 .A) core.signature (core.spec 𝓤 H (𝓖 .A) (𝓜 .mem) (𝓡 .run))) 𝓜 𝓡 code.env #core core-def.routine code.calls-link·arrive-in (core-thm.met 𝓤 H 𝓜 𝓖 𝓡)))
+    (cited 𝓤 H (tripleOf 𝓤 H (𝓖 .A) core.signature (core.spec 𝓤 H (𝓖 .A) (𝓜 .mem) (𝓡 .run))) 𝓜 𝓡 code.env #core core-def.routine
+    code.calls-link·arrive-in (core-thm.met 𝓤 H 𝓜 𝓖 𝓡)))

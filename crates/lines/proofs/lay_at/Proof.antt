@@ -21,23 +21,17 @@ put-last-two-requires c κs = search needs
 enum-known-line-2 : tie.Need-enum-known-line-2
 enum-known-line-2 c = search needs
 
+lay-in-requires : tie.Need-lay-in-requires
+lay-in-requires c κs = search needs
+
+enum-known-line-3 : tie.Need-enum-known-line-3
+enum-known-line-3 c = search needs
+
 slice-aggregate-put-2 : tie.Need-slice-aggregate-put-2
 slice-aggregate-put-2 c = search needs
 
 put-requires-2 : tie.Need-put-requires-2
 put-requires-2 c κs = search needs
-
-put-last-three-requires : tie.Need-put-last-three-requires
-put-last-three-requires c κs = search needs
-
-enum-known-line-3 : tie.Need-enum-known-line-3
-enum-known-line-3 c = search needs
-
-slice-aggregate-put-3 : tie.Need-slice-aggregate-put-3
-slice-aggregate-put-3 c = search needs
-
-put-requires-3 : tie.Need-put-requires-3
-put-requires-3 c κs = search needs
 
 put-last-four-requires : tie.Need-put-last-four-requires
 put-last-four-requires c κs = search needs
@@ -45,32 +39,26 @@ put-last-four-requires c κs = search needs
 enum-known-line-4 : tie.Need-enum-known-line-4
 enum-known-line-4 c = search needs
 
+lay-out-requires : tie.Need-lay-out-requires
+lay-out-requires c κs = search needs
+
+enum-told : tie.Need-enum-told
+enum-told c = search needs
+
+slice-aggregate-put-3 : tie.Need-slice-aggregate-put-3
+slice-aggregate-put-3 c = search needs
+
+put-requires-3 : tie.Need-put-requires-3
+put-requires-3 c κs = search needs
+
+enum-known-line-5 : tie.Need-enum-known-line-5
+enum-known-line-5 c = search needs
+
 slice-aggregate-put-4 : tie.Need-slice-aggregate-put-4
 slice-aggregate-put-4 c = search needs
 
 put-requires-4 : tie.Need-put-requires-4
 put-requires-4 c κs = search needs
-
-put-last-four-requires-2 : tie.Need-put-last-four-requires-2
-put-last-four-requires-2 c κs = search needs
-
-enum-told : tie.Need-enum-told
-enum-told c = search needs
-
-slice-aggregate-put-5 : tie.Need-slice-aggregate-put-5
-slice-aggregate-put-5 c = search needs
-
-put-requires-5 : tie.Need-put-requires-5
-put-requires-5 c κs = search needs
-
-enum-known-line-5 : tie.Need-enum-known-line-5
-enum-known-line-5 c = search needs
-
-slice-aggregate-put-6 : tie.Need-slice-aggregate-put-6
-slice-aggregate-put-6 c = search needs
-
-put-requires-6 : tie.Need-put-requires-6
-put-requires-6 c κs = search needs
 
 put-last-requires : tie.Need-put-last-requires
 put-last-requires c κs = search needs
@@ -78,11 +66,11 @@ put-last-requires c κs = search needs
 enum-known-line-6 : tie.Need-enum-known-line-6
 enum-known-line-6 c = search needs
 
-slice-aggregate-put-7 : tie.Need-slice-aggregate-put-7
-slice-aggregate-put-7 c = search needs
+slice-aggregate-put-5 : tie.Need-slice-aggregate-put-5
+slice-aggregate-put-5 c = search needs
 
-put-requires-7 : tie.Need-put-requires-7
-put-requires-7 c κs = search needs
+put-requires-5 : tie.Need-put-requires-5
+put-requires-5 c κs = search needs
 
 put-last-two-requires-2 : tie.Need-put-last-two-requires-2
 put-last-two-requires-2 c κs = search needs
@@ -90,14 +78,14 @@ put-last-two-requires-2 c κs = search needs
 enum-known-line-7 : tie.Need-enum-known-line-7
 enum-known-line-7 c = search needs
 
-slice-aggregate-put-8 : tie.Need-slice-aggregate-put-8
-slice-aggregate-put-8 c = search needs
+slice-aggregate-put-6 : tie.Need-slice-aggregate-put-6
+slice-aggregate-put-6 c = search needs
 
-put-requires-8 : tie.Need-put-requires-8
-put-requires-8 c κs = search needs
+put-requires-6 : tie.Need-put-requires-6
+put-requires-6 c κs = search needs
 
-put-last-four-requires-3 : tie.Need-put-last-four-requires-3
-put-last-four-requires-3 c κs = search needs
+put-last-four-requires-2 : tie.Need-put-last-four-requires-2
+put-last-four-requires-2 c κs = search needs
 
 same-length : tie.Need-same-length
 same-length c = search needs
@@ -115,13 +103,9 @@ same-length-2 : tie.Need-same-length-2
 same-length-2 c = search needs
 
 returns-2 : tie.Need-returns-2
-unfolding bytesOf
 returns-2 c =
     let l = c .before .before in
-    let w = l .before .before .before .before in
-    let k = w .before .before .before .before in
-    let laid = laid-end _ _ _ _ _ _ _ _ (omega arith) (w .put2 .ensures) (l .put-last-three .ensures .0) in
-    (line-at _ _ _ _ _ _ (k .line2 .given .1) laid, omega (arith, w .put2 .ensures .0, l .put-last-three .ensures .1))
+    (line-at _ _ _ _ _ _ (l .before .before .before .line2 .given .1) (l .lay-in .ensures .0), l .lay-in .ensures .1)
 
 same-length-3 : tie.Need-same-length-3
 same-length-3 c = search needs
@@ -132,20 +116,16 @@ returns-3 c =
     let l = c .before .before in
     let w = l .before .before .before .before in
     let k = w .before .before .before .before in
-    let laid = laid-end _ _ _ _ _ _ _ _ (omega arith) (w .put3 .ensures) (l .put-last-four .ensures .0) in
-    (line-at _ _ _ _ _ _ (k .line3 .given .1) laid, omega (arith, w .put3 .ensures .0, l .put-last-four .ensures .1))
+    let laid = laid-end _ _ _ _ _ _ _ _ (omega arith) (w .put2 .ensures) (l .put-last-four .ensures .0) in
+    (line-at _ _ _ _ _ _ (k .line3 .given .1) laid, omega (arith, w .put2 .ensures .0, l .put-last-four .ensures .1))
 
 same-length-4 : tie.Need-same-length-4
 same-length-4 c = search needs
 
 returns-4 : tie.Need-returns-4
-unfolding bytesOf
 returns-4 c =
     let l = c .before .before in
-    let w = l .before .before .before .before in
-    let k = w .before .before .before .before in
-    let laid = laid-end _ _ _ _ _ _ _ _ (omega arith) (w .put4 .ensures) (l .put-last-four2 .ensures .0) in
-    (line-at _ _ _ _ _ _ (k .line4 .given .1) laid, omega (arith, w .put4 .ensures .0, l .put-last-four2 .ensures .1))
+    (line-at _ _ _ _ _ _ (l .before .before .before .line4 .given .1) (l .lay-out .ensures .0), l .lay-out .ensures .1)
 
 same-length-5 : tie.Need-same-length-5
 same-length-5 c = search needs
@@ -154,7 +134,7 @@ returns-5 : tie.Need-returns-5
 unfolding bytesOf
 returns-5 c =
     let p = c .before .before in
-    (line-at _ _ _ _ _ _ (p .before .before .before .enum-told .given .1) (p .put5 .ensures), omega (arith, p .put5 .ensures .0))
+    (line-at _ _ _ _ _ _ (p .before .before .before .enum-told .given .1) (p .put3 .ensures), omega (arith, p .put3 .ensures .0))
 
 same-length-6 : tie.Need-same-length-6
 same-length-6 c = search needs
@@ -165,8 +145,8 @@ returns-6 c =
     let l = c .before .before in
     let w = l .before .before .before .before in
     let k = w .before .before .before .before in
-    let laid = laid-end _ _ _ _ _ _ _ _ (omega arith) (w .put6 .ensures) (l .put-last .ensures .0) in
-    (line-at _ _ _ _ _ _ (k .line5 .given .1) laid, omega (arith, w .put6 .ensures .0, l .put-last .ensures .1))
+    let laid = laid-end _ _ _ _ _ _ _ _ (omega arith) (w .put4 .ensures) (l .put-last .ensures .0) in
+    (line-at _ _ _ _ _ _ (k .line5 .given .1) laid, omega (arith, w .put4 .ensures .0, l .put-last .ensures .1))
 
 same-length-7 : tie.Need-same-length-7
 same-length-7 c = search needs
@@ -177,8 +157,8 @@ returns-7 c =
     let l = c .before .before in
     let w = l .before .before .before .before in
     let k = w .before .before .before .before in
-    let laid = laid-end _ _ _ _ _ _ _ _ (omega arith) (w .put7 .ensures) (l .put-last-two2 .ensures .0) in
-    (line-at _ _ _ _ _ _ (k .line6 .given .1) laid, omega (arith, w .put7 .ensures .0, l .put-last-two2 .ensures .1))
+    let laid = laid-end _ _ _ _ _ _ _ _ (omega arith) (w .put5 .ensures) (l .put-last-two2 .ensures .0) in
+    (line-at _ _ _ _ _ _ (k .line6 .given .1) laid, omega (arith, w .put5 .ensures .0, l .put-last-two2 .ensures .1))
 
 same-length-8 : tie.Need-same-length-8
 same-length-8 c = search needs
@@ -189,8 +169,8 @@ returns-8 c =
     let l = c .before .before in
     let w = l .before .before .before .before in
     let k = w .before .before .before .before in
-    let laid = laid-end _ _ _ _ _ _ _ _ (omega arith) (w .put8 .ensures) (l .put-last-four3 .ensures .0) in
-    (line-at _ _ _ _ _ _ (k .line7 .given .1) laid, omega (arith, w .put8 .ensures .0, l .put-last-four3 .ensures .1))
+    let laid = laid-end _ _ _ _ _ _ _ _ (omega arith) (w .put6 .ensures) (l .put-last-four2 .ensures .0) in
+    (line-at _ _ _ _ _ _ (k .line7 .given .1) laid, omega (arith, w .put6 .ensures .0, l .put-last-four2 .ensures .1))
 
 pub lay-at-spec : {M : Type 1} → statement M
 lay-at-spec =
@@ -201,32 +181,28 @@ lay-at-spec =
     put-requires
     put-last-two-requires
     enum-known-line-2
+    lay-in-requires
+    enum-known-line-3
     slice-aggregate-put-2
     put-requires-2
-    put-last-three-requires
-    enum-known-line-3
-    slice-aggregate-put-3
-    put-requires-3
     put-last-four-requires
     enum-known-line-4
+    lay-out-requires
+    enum-told
+    slice-aggregate-put-3
+    put-requires-3
+    enum-known-line-5
     slice-aggregate-put-4
     put-requires-4
-    put-last-four-requires-2
-    enum-told
-    slice-aggregate-put-5
-    put-requires-5
-    enum-known-line-5
-    slice-aggregate-put-6
-    put-requires-6
     put-last-requires
     enum-known-line-6
-    slice-aggregate-put-7
-    put-requires-7
+    slice-aggregate-put-5
+    put-requires-5
     put-last-two-requires-2
     enum-known-line-7
-    slice-aggregate-put-8
-    put-requires-8
-    put-last-four-requires-3
+    slice-aggregate-put-6
+    put-requires-6
+    put-last-four-requires-2
     same-length
     returns
     same-length-2

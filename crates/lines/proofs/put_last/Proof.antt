@@ -7,8 +7,8 @@ use borrow.Author.Needs.{needs}
 use Rattle.lines.proofs.put_last.Statement.{statement}
 use Rattle.lines.proofs.put_last.Tie as tie
 
-put-number-requires : tie.Need-put-number-requires
-put-number-requires c κs = search needs
+put-spaced-requires : tie.Need-put-spaced-requires
+put-spaced-requires c κs = search needs
 
 slice-write-out : tie.Need-slice-write-out
 slice-write-out c = search needs
@@ -23,10 +23,10 @@ returns : tie.Need-returns
 unfolding endOf
 returns c =
     let f = c .before .before in
-    let end = laid-byte (f .put-number .result) 10 (f .put-number .last .1 .1 .0) (omega arith) in
-    let whole = laid-end _ _ [] _ _ _ _ _ (omega (arith, f .put-number .ensures .0 .0)) (f .put-number .ensures .0) end in
-    (whole, omega (arith, f .put-number .ensures .1))
+    let end = laid-byte (f .put-spaced .result) 10 (f .put-spaced .last .1 .1 .0) (omega arith) in
+    let whole = laid-end _ _ [] _ _ _ _ _ (omega (arith, f .put-spaced .ensures .0 .0)) (f .put-spaced .ensures .0) end in
+    (whole, omega (arith, f .put-spaced .ensures .1))
 
 pub put-last-spec : {M : Type 1} → statement M
 put-last-spec =
-    tie.close (tie.spec put-number-requires slice-write-out add-result same-length returns)
+    tie.close (tie.spec put-spaced-requires slice-write-out add-result same-length returns)

@@ -31,7 +31,8 @@ returns-2 c =
     let q = c .before .before .before in
     let s = q .before .before .before .before .before .before .before .before in
     let shape = shaped (s .args .link) _ (s .good .0) in
-    unlaid (s .args .link) (s .args .class) (s .args .packet) (q .arrive-of .result) shape (c .if1 .left) (q .arrive-of .ensures (s .args .link .tags) shape)
+    unlaid (s .args .link) (s .args .class) (s .args .packet) (q .arrive-of .result) shape (c .if1 .left)
+    (q .arrive-of .ensures (s .args .link .tags) shape)
 
 pub arrive-spec : {M : Type 1} → statement M
 arrive-spec =

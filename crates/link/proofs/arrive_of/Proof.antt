@@ -13,10 +13,11 @@ use Rattle.state.specs.declared.Link.{Link}
 use Rattle.state.specs.Queue.{heldOf}
 use Rattle.state.specs.State.{meaning, linkOf}
 use Rattle.state.proofs.Meaning.{meaning-held}
-use Rattle.link.specs.Arrival.{arrivalChecks}
+use Rattle.calls.specs.Arrival.{arrivalChecks}
 use Rattle.steps.specs.Arrivals.{judgeChecks}
 use Rattle.link.specs.Parts.{placedAt}
-use Rattle.link.proofs.Arrivals.{same-checks, no-leaf-checks, no-leaf-refused, arrival-refused, taken}
+use Rattle.calls.proofs.Arrivals.{no-leaf-refused, arrival-refused, taken}
+use Rattle.link.proofs.Judging.{same-checks, no-leaf-checks}
 use Rattle.link.proofs.OverParts.{nowhere-arrives, somewhere-arrives}
 use borrow.Author.Needs.{needs}
 use Rattle.link.proofs.arrive_of.Statement.{statement}
@@ -50,7 +51,8 @@ said c tags =
     c .judge2 .ensures
     ∙ ap
     (λ (leaf : Bool).
-    firstBroken (judgeChecks (s .is-sound-of .result) leaf (a .class) (a .packet .length) (longestOf (a .t1) (a .class)) (heldOf l (a .class))))
+    firstBroken (judgeChecks (s .is-sound-of .result) leaf (a .class) (a .packet .length) (longestOf (a .t1) (a .class))
+    (heldOf l (a .class))))
     (h .holds .ensures .0)
     ∙ ap firstBroken (same-checks (s .is-sound-of .result) l (a .class) (a .packet) (c .before .before .if1 .left))
 
@@ -136,7 +138,8 @@ returns-3 c tags =
     let s = j .before .before .before .before in
     let a = s .before .args in
     let l = whole (s .before) tags in
-    somewhere-arrives l (a .class) (a .packet) (s .is-sound-of .result) (s .is-sound-of .ensures tags) _ (sym (said j tags) ∙ b .before .enum-told2 .given .1)
+    somewhere-arrives l (a .class) (a .packet) (s .is-sound-of .result) (s .is-sound-of .ensures tags) _
+    (sym (said j tags) ∙ b .before .enum-told2 .given .1)
     (c .somewhere .ensures ∙ ap (placedAt Passed (set (a .t7) (a .class) (heldOf l (a .class) + 1))) (b .free-place .ensures .0))
 
 pub arrive-of-spec : {M : Type 1} → statement M

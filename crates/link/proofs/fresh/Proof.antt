@@ -19,7 +19,8 @@ returns c =
     record {
       obeys = p .is-plan .result;
       exactly = p .is-plan .ensures;
-      answer = rw (not-true (p .is-plan .result) (c .before .if1 .taken)) (ap (λ (l : Link). record { verdict = Refused 11 0; link = l }) (c .none .ensures));
+      answer = rw (not-true (p .is-plan .result) (c .before .if1 .taken))
+          (ap (λ (l : Link). record { verdict = Refused 11 0; link = l }) (c .none .ensures));
     }
 
 fresh-requires : tie.Need-fresh-requires
@@ -31,7 +32,8 @@ returns-2 c =
     record {
       obeys = p .is-plan .result;
       exactly = p .is-plan .ensures;
-      answer = rw (not-false (p .is-plan .result) (c .before .if1 .left)) (ap (λ (l : Link). record { verdict = Passed; link = l }) (c .fresh .ensures));
+      answer = rw (not-false (p .is-plan .result) (c .before .if1 .left))
+          (ap (λ (l : Link). record { verdict = Passed; link = l }) (c .fresh .ensures));
     }
 
 pub fresh-spec : {M : Type 1} → statement M

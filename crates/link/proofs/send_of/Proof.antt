@@ -5,8 +5,8 @@ use borrow.Author.Tests.{not-true, not-false}
 use Rattle.state.specs.declared.Link.{Link}
 use Rattle.state.specs.State.{linkOf}
 use Rattle.steps.specs.Rounds.{Moves}
-use Rattle.link.specs.Send.{sendOf}
-use Rattle.link.proofs.Departures.{send-unsound, send-nothing}
+use Rattle.calls.specs.Send.{sendOf}
+use Rattle.calls.proofs.Departures.{send-unsound, send-nothing}
 use Rattle.link.proofs.OverParts.{stays-sends, goes-sends}
 use borrow.Author.Needs.{needs}
 use Rattle.link.proofs.send_of.Statement.{statement}
@@ -45,7 +45,8 @@ moves : (c : tie.After-send-values) → Moves (whole (c .before .before .before)
 moves c =
     let i = c .before in
     let s = i .before in
-    c .send-values .ensures (s .before .args .size) (s .is-sound-of .ensures (whole (s .before) .tags) .sound (not-false (s .is-sound-of .result) (i .if1 .left)))
+    c .send-values .ensures (s .before .args .size)
+    (s .is-sound-of .ensures (whole (s .before) .tags) .sound (not-false (s .is-sound-of .result) (i .if1 .left)))
 
 returns-2 : tie.Need-returns-2
 returns-2 c =
@@ -68,7 +69,8 @@ returns-3 c =
     let s = i .before in
     let l = whole (s .before) in
     goes-sends l (s .is-sound-of .result) (s .is-sound-of .ensures (l .tags)) (c .goes .result) (v .send-values .result)
-    (not-false (s .is-sound-of .result) (i .if1 .left)) (moves v) (not-false (v .send-values .result .some) (c .before .if2 .left)) (c .goes .ensures)
+    (not-false (s .is-sound-of .result) (i .if1 .left)) (moves v) (not-false (v .send-values .result .some) (c .before .if2 .left))
+    (c .goes .ensures)
 
 pub send-of-spec : {M : Type 1} → statement M
 send-of-spec =

@@ -92,8 +92,8 @@ unfolding kindOf
 returns c =
     let g = test-of (c .before) in
     let h = g .before in
-    let found = some-found (surplus-at g) (h .before .before .before .before .args .tree .count) (h .loop .i) (h .loop .inv .0) (g .loop-test .taken)
-    (said (c .before) ∙ c .if1 .taken) in
+    let count = h .before .before .before .before .args .tree .count in
+    let found = some-found (surplus-at g) count (h .loop .i) (h .loop .inv .0) (g .loop-test .taken) (said (c .before) ∙ c .if1 .taken) in
     sym (ap (λ (b : Bool). cond b surplus main) found)
 
 add-i : tie.Need-add-i Inv-loop μ-loop

@@ -41,8 +41,10 @@ returns-2 c =
     let v = c .before .before .before in
     let g = v .before .before in
     c .stop .ensures
-    ∙ ap (λ (l : Link). record { line = Stop (v .verdict .given .0 .0) (v .verdict .given .0 .1 .0); more = false; link = l; place = 0 }) (c .before .none .ensures)
-    ∙ begin-by _ (g .read-plan .result) (Refused (v .verdict .given .0 .0) (v .verdict .given .0 .1 .0)) (g .read-plan .ensures) (v .verdict .given .1)
+    ∙ ap (λ (l : Link). record { line = Stop (v .verdict .given .0 .0) (v .verdict .given .0 .1 .0); more = false; link = l; place = 0 })
+    (c .before .none .ensures)
+    ∙ begin-by _ (g .read-plan .result) (Refused (v .verdict .given .0 .0) (v .verdict .given .0 .1 .0)) (g .read-plan .ensures)
+    (v .verdict .given .1)
 
 pub begin-spec : {M : Type 1} → statement M
 begin-spec =

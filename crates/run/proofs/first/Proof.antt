@@ -30,14 +30,17 @@ stop-requires c κs = search needs
 returns : tie.Need-returns
 returns c =
     let e = c .before in
-    c .begin .ensures ∙ first-by _ (e .before .before .input-length .result) Passed (e .before .before .input-length .ensures) (e .enum-told .given .1)
+    c .begin .ensures ∙ first-by _ (e .before .before .input-length .result) Passed (e .before .before .input-length .ensures)
+    (e .enum-told .given .1)
 
 returns-2 : tie.Need-returns-2
 returns-2 c =
     let v = c .before .before .before in
     c .stop .ensures
-    ∙ ap (λ (l : Link). record { line = Stop (v .verdict .given .0 .0) (v .verdict .given .0 .1 .0); more = false; link = l; place = 0 }) (c .before .none .ensures)
-    ∙ first-by _ (v .before .before .input-length .result) (Refused (v .verdict .given .0 .0) (v .verdict .given .0 .1 .0)) (v .before .before .input-length .ensures) (v .verdict .given .1)
+    ∙ ap (λ (l : Link). record { line = Stop (v .verdict .given .0 .0) (v .verdict .given .0 .1 .0); more = false; link = l; place = 0 })
+    (c .before .none .ensures)
+    ∙ first-by _ (v .before .before .input-length .result) (Refused (v .verdict .given .0 .0) (v .verdict .given .0 .1 .0))
+    (v .before .before .input-length .ensures) (v .verdict .given .1)
 
 pub first-spec : {M : Type 1} → statement M
 first-spec =

@@ -1,8 +1,8 @@
 -- `run::linked` meets its contract.
 use mathlib.Core.Bool.{Bool, true}
 use mathlib.Core.Path.{ap, _∙_}
-use Rattle.link.specs.declared.Answered.{Answered}
-use Rattle.link.specs.Fresh.{freshOf}
+use Rattle.calls.specs.declared.Answered.{Answered}
+use Rattle.calls.specs.Fresh.{freshOf}
 use Rattle.lines.specs.declared.Line.the-variants.{Link}
 use borrow.Author.Needs.{needs}
 use Rattle.run.proofs.linked.Statement.{statement}

@@ -15,9 +15,11 @@ use Rattle.run.proofs.next.Tie as tie
 
 -- the event that was read stands at the place
 read-at : (c : tie.After-read-event) {e : EventRead} → c .read-event .result ≡ e
-    → eventAt (drop (c .before .before .before .args .place) (now (c .before .before .before .args .input))) (c .before .before .before .args .place) ≡ e
+    → eventAt (drop (c .before .before .before .args .place) (now (c .before .before .before .args .input)))
+    (c .before .before .before .args .place) ≡ e
 read-at c told =
-    ap (λ (s : List ℕ). eventAt s (c .before .before .before .args .place)) (sym (c .before .events-after .ensures .0)) ∙ sym (c .read-event .ensures) ∙ told
+    ap (λ (s : List ℕ). eventAt s (c .before .before .before .args .place)) (sym (c .before .events-after .ensures .0))
+    ∙ sym (c .read-event .ensures) ∙ told
 
 events-after-requires : tie.Need-events-after-requires
 events-after-requires c κs = search needs
@@ -39,7 +41,13 @@ arrival-requires c κs =
     let v = c .before in
     let g = v .before .before in
     let st = g .before .before .before in
-    omega (arith, used-fits (now (st .args .input)) (st .args .place) (Arrive (v .event .given .0 .0)) (read-at g (v .event .given .1)), ap length (g .before .events-after .ensures .0), g .before .events-after .ensures .1)
+    omega (
+      arith,
+      used-fits (now (st .args .input)) (st .args .place) (Arrive (v .event .given .0 .0))
+          (read-at g (v .event .given .1)),
+      ap length (g .before .events-after .ensures .0),
+      g .before .events-after .ensures .1,
+    )
 
 enum-told-2 : tie.Need-enum-told-2
 enum-told-2 c = search needs
@@ -48,7 +56,12 @@ send-requires : tie.Need-send-requires
 send-requires c κs =
     let g = c .before .before in
     let st = g .before .before .before in
-    omega (arith, used-fits (now (st .args .input)) (st .args .place) SendNext (read-at g (c .enum-told2 .given .1)), ap length (g .before .events-after .ensures .0), g .before .events-after .ensures .1)
+    omega (
+      arith,
+      used-fits (now (st .args .input)) (st .args .place) SendNext (read-at g (c .enum-told2 .given .1)),
+      ap length (g .before .events-after .ensures .0),
+      g .before .events-after .ensures .1,
+    )
 
 enum-known-event-2 : tie.Need-enum-known-event-2
 enum-known-event-2 c = search needs
@@ -68,7 +81,8 @@ returns-2 c =
     let v = c .before .before in
     let g = v .before .before in
     let a = g .before .before .before .args in
-    gives-by (a .link) (now (a .input)) (a .place) (Arrive (v .event .given .0 .0)) (c .arrival .result) (read-at g (v .event .given .1)) (c .arrival .ensures)
+    gives-by (a .link) (now (a .input)) (a .place) (Arrive (v .event .given .0 .0)) (c .arrival .result) (read-at g (v .event .given .1))
+    (c .arrival .ensures)
 
 returns-3 : tie.Need-returns-3
 returns-3 c =
@@ -82,7 +96,8 @@ returns-4 c =
     let v = c .before .before in
     let g = v .before .before in
     let a = g .before .before .before .args in
-    gives-by (a .link) (now (a .input)) (a .place) (Fault (v .event2 .given .0 .0) (v .event2 .given .0 .1 .0)) (c .stop .result) (read-at g (v .event2 .given .1)) (c .stop .ensures)
+    gives-by (a .link) (now (a .input)) (a .place) (Fault (v .event2 .given .0 .0) (v .event2 .given .0 .1 .0)) (c .stop .result)
+    (read-at g (v .event2 .given .1)) (c .stop .ensures)
 
 pub next-spec : {M : Type 1} → statement M
 next-spec =

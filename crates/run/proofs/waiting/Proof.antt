@@ -36,8 +36,12 @@ loop-less c = search needs
 loop-again : tie.Need-loop-again Inv-loop μ-loop
 loop-again c =
     let h = c .before .before .before in
-    let w = c .wide .ensures in
-    (omega arith, omega (arith, c .before .before .loop-test .taken), omega (arith, w .0, h .loop .inv .2, sum-step (λ k. getD (h .before .args .held .now) k 0) (h .loop .i) (h .loop .inv .0)), omega (arith, w .1, h .loop .inv .3, h .loop .inv .0))
+    let w = c .wide .ensures in (
+      omega arith,
+      omega (arith, c .before .before .loop-test .taken),
+      omega (arith, w .0, h .loop .inv .2, sum-step (λ k. getD (h .before .args .held .now) k 0) (h .loop .i) (h .loop .inv .0)),
+      omega (arith, w .1, h .loop .inv .3, h .loop .inv .0),
+    )
 
 returns : tie.Need-returns Inv-loop μ-loop
 returns c =

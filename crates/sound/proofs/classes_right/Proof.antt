@@ -1,6 +1,6 @@
 -- `sound::classes_right` meets its contract.
 use mathlib.Core.List.{List, []}
-use mathlib.Core.Path.{_≡_, refl, sym, subst, _∙_}
+use mathlib.Core.Path.{_≡_, refl, sym, ap, subst, _∙_}
 use Prim.Native.Nat.{ℕ, zero, suc, _+_, _-_, _*_, _%_, _≤_, _<_}
 use native.Mathlib.Decide.{decLe}
 use native.Mathlib.Omega.{arith}
@@ -19,6 +19,7 @@ use Rattle.state.specs.declared.Link.{Link}
 use Rattle.state.specs.Account.{accountOf, fundsOf}
 use Rattle.state.specs.Queue.{slot}
 use Rattle.state.specs.State.{linkOf}
+use Rattle.sound.specs.declared.View.{View}
 use Rattle.sound.specs.Sound.{total}
 use Rattle.sound.specs.Steps.{parentsDown, viewOf, ClassRight}
 use Rattle.sound.proofs.Active.{parents-none, parents-step}
@@ -42,12 +43,12 @@ abbrev μ-loop : tie.MeasureT-loop
 -- the link that the arguments make up, with any tags
 abbrev made : (c : tie.After-class-right Inv-loop μ-loop) → List ℕ → Link
 made c tags =
-    let a = c .before .before .before .before .before .before .before .before .before .before .before .before .args in
+    let a = c .before .before .before .before .before .before .before .before .before .before .args in
     linkOf (a .tree) (a .size) (a .active) (a .place) (a .t5) (a .t6) (a .t7) (a .lengths .now) tags
 
 -- the class at hand
 abbrev number : (c : tie.After-class-right Inv-loop μ-loop) → ℕ
-number c = c .before .before .before .before .before .before .before .before .before .loop .n - 1
+number c = c .before .before .before .before .before .before .before .loop .n - 1
 
 -- the numbers that were read are those of the class
 decided : (c : tie.After-class-right Inv-loop μ-loop) (tags : List ℕ)
@@ -55,17 +56,22 @@ decided : (c : tie.After-class-right Inv-loop μ-loop) (tags : List ℕ)
     (ClassRight (viewOf (made c tags) (number c)) (made c tags .lengths) (longestOf (made c tags .tree) (number c)))
 unfolding viewOf isLeaf
 decided c tags =
-    let p = c .before .before .before .before .before in
-    let h = p .before .before .before .before in
+    let p = c .before .before .before .before in
+    let h = p .before .before .before in
     let a = h .before .before .before .args in
     let n = h .loop .n in
-    let lies : p .slot .result ≡ slot (n - 1) (getD (a .t6) (n - 1) 0 % 32) = p .slot .ensures .0 ∙ rw (p .before .wide .ensures .0) refl in
-    let after : 64 - n ≡ 63 - (n - 1) = omega (arith, p .before .before .before .loop-test .taken) in
+    let after : 64 - n ≡ 63 - (n - 1) = omega (arith, p .before .before .loop-test .taken) in
     let seen : h .loop .parents ≡ parentsDown (a .tree) (a .active) (63 - (n - 1)) = h .loop .inv .3 ∙ rw after refl in
     let child : c .before .has3 .result ≡ has (parentsDown (a .tree) (a .active) (63 - (n - 1))) (n - 1) =
     c .before .has3 .ensures ∙ rw seen refl
     in
-    rw (c .before .before .before .has .ensures, c .before .before .has2 .ensures, child, lies) at (c .class-right .ensures)
+    rw (p .numbers-of .ensures, c .before .before .before .has .ensures, c .before .before .has2 .ensures, child) at
+    (c .class-right .ensures)
+
+-- the account that was read is the class's
+funds-read : (c : tie.After-class-right Inv-loop μ-loop)
+    → fundsOf (c .before .before .before .before .numbers-of .result .account) ≡ fundsOf (accountOf (made c [] .accounts) (number c))
+funds-read c = ap (λ (v : View). fundsOf (v .account)) (c .before .before .before .before .numbers-of .ensures)
 
 -- so no account holds more than there is
 funds-fit : (c : tie.Else1 Inv-loop μ-loop)
@@ -73,7 +79,7 @@ funds-fit : (c : tie.Else1 Inv-loop μ-loop)
 unfolding viewOf
 funds-fit c =
     let right = decided (c .before) [] .sound (not-false _ (c .if1 .left)) .view in
-    let st = c .before .before .before .before .before .before .before .before .before .before .before .before .before in
+    let st = c .before .before .before .before .before .before .before .before .before .before .before in
     omega (arith, right .balance, right .residual, st .pre .1)
 
 -- the parent of any class number is one
@@ -98,26 +104,20 @@ loop-holds c =
 sub-i : tie.Need-sub-i Inv-loop μ-loop
 sub-i c = search needs
 
-array-read-s : tie.Need-array-read-s Inv-loop μ-loop
-array-read-s c = search needs
+array-read-numbers-of : tie.Need-array-read-numbers-of Inv-loop μ-loop
+array-read-numbers-of c = search needs
 
-mul-account : tie.Need-mul-account Inv-loop μ-loop
-mul-account c = search needs
+array-read-numbers-of-2 : tie.Need-array-read-numbers-of-2 Inv-loop μ-loop
+array-read-numbers-of-2 c = search needs
 
-array-copy-out-account : tie.Need-array-copy-out-account Inv-loop μ-loop
-array-copy-out-account c = search needs
+mul-numbers-of : tie.Need-mul-numbers-of Inv-loop μ-loop
+mul-numbers-of c = search needs
 
-wide-requires : tie.Need-wide-requires Inv-loop μ-loop
-wide-requires c κs = search needs
+array-copy-out-numbers-of : tie.Need-array-copy-out-numbers-of Inv-loop μ-loop
+array-copy-out-numbers-of c = search needs
 
-slot-requires : tie.Need-slot-requires Inv-loop μ-loop
-slot-requires c κs = search needs
-
-mul-first : tie.Need-mul-first Inv-loop μ-loop
-mul-first c = search needs
-
-element-copy-out-first : tie.Need-element-copy-out-first Inv-loop μ-loop
-element-copy-out-first c = search needs
+numbers-of-requires : tie.Need-numbers-of-requires Inv-loop μ-loop
+numbers-of-requires c κs = search needs
 
 has-requires : tie.Need-has-requires Inv-loop μ-loop
 has-requires c κs = search needs
@@ -128,9 +128,6 @@ has-requires-2 c κs = search needs
 has-requires-3 : tie.Need-has-requires-3 Inv-loop μ-loop
 has-requires-3 c κs = search needs
 
-array-read-wide : tie.Need-array-read-wide Inv-loop μ-loop
-array-read-wide c = search needs
-
 mul-class-right : tie.Need-mul-class-right Inv-loop μ-loop
 mul-class-right c = search needs
 
@@ -138,34 +135,36 @@ array-read-class-right : tie.Need-array-read-class-right Inv-loop μ-loop
 array-read-class-right c = search needs
 
 class-right-requires : tie.Need-class-right-requires Inv-loop μ-loop
-class-right-requires c κs = search needs
+class-right-requires c κs =
+    let p = c .before .before .before in
+    omega (arith, ap (λ (v : View). v .class) (p .numbers-of .ensures), p .before .before .before .loop .inv .0)
 
 returns : tie.Need-returns Inv-loop μ-loop
 returns c = λ tags.
     let f = c .before in
-    let g = f .before .before .before .before .before .before .before .before in
+    let g = f .before .before .before .before .before .before in
     let low : number f < 64 = omega (arith, g .before .loop .inv .0, g .loop-test .taken) in
     exactly-no (λ p. not-true-and-false (decided f tags .complete (p .at (number f) low)) (not-true _ (c .if1 .taken)))
 
 funds-requires : tie.Need-funds-requires Inv-loop μ-loop
-funds-requires c κs = omega (arith, funds-fit c)
+funds-requires c κs = omega (arith, funds-read (c .before), funds-fit c)
 
 plus-requires : tie.Need-plus-requires Inv-loop μ-loop
 plus-requires c κs =
-    let h = c .before .before .before .before .before .before .before .before .before .before .before in
-    omega (arith, c .funds .ensures, funds-fit (c .before), h .loop .inv .2)
+    let h = c .before .before .before .before .before .before .before .before .before in
+    omega (arith, c .funds .ensures, funds-read (c .before .before), funds-fit (c .before), h .loop .inv .2)
 
-array-read-wide-2 : tie.Need-array-read-wide-2 Inv-loop μ-loop
-array-read-wide-2 c = search needs
+array-read-wide : tie.Need-array-read-wide Inv-loop μ-loop
+array-read-wide c = search needs
 
-wide-requires-2 : tie.Need-wide-requires-2 Inv-loop μ-loop
-wide-requires-2 c κs = search needs
+wide-requires : tie.Need-wide-requires Inv-loop μ-loop
+wide-requires c κs = search needs
 
 with-if-requires : tie.Need-with-if-requires Inv-loop μ-loop
 with-if-requires c κs =
-    let h = c .before .before .before .before .before .before .before .before .before .before .before .before .before in
+    let h = c .before .before .before .before .before .before .before .before .before .before .before in
     let st = h .before .before .before in
-    omega (arith, c .wide2 .ensures .0, parent-number (st .args .tree) (h .loop .n - 1) (st .pre .0) (omega (arith, h .loop .inv .0)))
+    omega (arith, c .wide .ensures .0, parent-number (st .args .tree) (h .loop .n - 1) (st .pre .0) (omega (arith, h .loop .inv .0)))
 
 sub-n : tie.Need-sub-n Inv-loop μ-loop
 sub-n c = search needs
@@ -178,16 +177,16 @@ loop-again c =
     let q = c .before .before in
     let e = q .before .before in
     let f = e .before in
-    let g = f .before .before .before .before .before .before .before .before in
+    let g = f .before .before .before .before .before .before in
     let h = g .before in
     let a = h .before .before .before .args in
     let n = h .loop .n in
     let l : 1 ≤ n = omega (arith, g .loop-test .taken) in
     let step = parents-step (a .tree) (a .active) n l (h .loop .inv .0) in (
       omega (arith, h .loop .inv .0),
-      omega (arith, q .plus .ensures, q .before .funds .ensures, below-step (a .t5) n l, h .loop .inv .1),
-      omega (arith, q .plus .ensures, q .before .funds .ensures, funds-fit e, h .loop .inv .2),
-      c .with-if .ensures ∙ rw (f .before .before .before .has .ensures, c .before .wide2 .ensures .0, h .loop .inv .3) step,
+      omega (arith, q .plus .ensures, q .before .funds .ensures, funds-read f, below-step (a .t5) n l, h .loop .inv .1),
+      omega (arith, q .plus .ensures, q .before .funds .ensures, funds-read f, funds-fit e, h .loop .inv .2),
+      c .with-if .ensures ∙ rw (f .before .before .has2 .ensures, c .before .wide .ensures .0, h .loop .inv .3) step,
       λ tags. down-more _ n l (h .loop .inv .4 tags) (decided f tags .sound (not-false _ (e .if1 .left))),
     )
 
@@ -210,25 +209,22 @@ classes-right-spec =
     μ-loop
     loop-holds
     sub-i
-    array-read-s
-    mul-account
-    array-copy-out-account
-    wide-requires
-    slot-requires
-    mul-first
-    element-copy-out-first
+    array-read-numbers-of
+    array-read-numbers-of-2
+    mul-numbers-of
+    array-copy-out-numbers-of
+    numbers-of-requires
     has-requires
     has-requires-2
     has-requires-3
-    array-read-wide
     mul-class-right
     array-read-class-right
     class-right-requires
     returns
     funds-requires
     plus-requires
-    array-read-wide-2
-    wide-requires-2
+    array-read-wide
+    wide-requires
     with-if-requires
     sub-n
     loop-less

@@ -1,16 +1,16 @@
 -- `speed::event_at` meets its contract: a call is one of those asked for.
 use mathlib.Core.Path.{_≡_, sym, subst}
-use Prim.Native.Nat.{ℕ, suc, _-_, _<_}
+use Prim.Native.Nat.{ℕ, suc, _<_}
 use native.Mathlib.Omega.{arith}
 use borrow.Author.Needs.{needs}
-use Rattle.speed.specs.declared.Event.{Event}
+use Rattle.speed.specs.declared.TimedEvent.{TimedEvent}
 use Rattle.speed.specs.Turns.{callsLeft}
 use Rattle.speed.proofs.event_at.Statement.{statement}
 use Rattle.speed.proofs.event_at.Tie as tie
 
 -- what an event that is no arrival leaves
-leaves : (n : ℕ) (r e : Event) → r ≡ e → callsLeft e < suc n → callsLeft r < suc n
-leaves n r e same less = subst (λ (x : Event). callsLeft x < suc n) (sym same) less
+leaves : (n : ℕ) (r e : TimedEvent) → r ≡ e → callsLeft e < suc n → callsLeft r < suc n
+leaves n r e same less = subst (λ (x : TimedEvent). callsLeft x < suc n) (sym same) less
 
 plain-requires : tie.Need-plain-requires
 plain-requires c κs = search needs

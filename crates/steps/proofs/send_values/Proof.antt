@@ -6,8 +6,12 @@ use lib.ListN.{length}
 use Rattle.checks.proofs.Laws.{not-true-and-false}
 use Rattle.sets.proofs.Laws.{has-empty}
 use Rattle.tree.specs.declared.Tree.{Tree}
+use Rattle.tree.specs.Rules.{PlanRules}
+use Rattle.steps.specs.Parts.{lentTree}
 use Rattle.steps.specs.Rounds.{Kept}
-use Rattle.steps.proofs.Wholes.{values-parts, values-wide, values-moves}
+use Rattle.state.proofs.Shapes.{tree-weights}
+use Rattle.steps.proofs.Rounding.{raised-none}
+use Rattle.steps.proofs.Wholes.{tree-parts, values-parts, values-wide, values-moves}
 use borrow.Author.Needs.{needs}
 use Rattle.steps.proofs.send_values.Statement.{statement}
 use Rattle.steps.proofs.send_values.Tie as tie
@@ -16,9 +20,23 @@ use Rattle.steps.proofs.send_values.Tie as tie
 many : (c : tie.Start) → length (c .args .accounts) ≡ 64
 many c = c .good .1 .1 .1 .0 .1 .0 .1
 
--- no weight sums are kept
-none-kept : (t : Tree) (kept : List ℕ) → Kept t 0 kept
-none-kept t kept on = absurd (not-true-and-false on (has-empty 0))
+-- no set is known, and no weight sums are kept
+none-kept : (t : Tree) (kept : List ℕ) → PlanRules t → Kept t 0 kept
+none-kept t kept rules = record { raised = raised-none t rules; sums = λ on. absurd (not-true-and-false on (has-empty 0)) }
+
+-- the tree in its parts is the tree
+abbrev lent : tie.After-weight-numbers → Tree
+lent c =
+    let t = c .before .before .before .args .tree in
+    lentTree (t .count) (t .leaves) (t .parent) (c .weight-numbers .result) (t .longest)
+
+same : (c : tie.After-weight-numbers) → lent c ≡ c .before .before .before .args .tree
+same c =
+    let st = c .before .before .before in
+    tree-parts (st .args .tree) (tree-weights (st .args .tree) _ (st .good .0)) (c .weight-numbers .result) (c .weight-numbers .ensures)
+
+weight-numbers-requires : tie.Need-weight-numbers-requires
+weight-numbers-requires c κs = search needs
 
 balances-requires : tie.Need-balances-requires
 balances-requires c κs = search needs
@@ -28,32 +46,37 @@ residuals-requires c κs = search needs
 
 send-requires : tie.Need-send-requires
 send-requires c κs =
-    let z = c .before .before .before .before .before .before in
+    let z = c .before .before .before .before .before .before .before .before in
     let y = z .before in
-    let st = y .before .before in
-    ((st .pre .0, values-parts (many st) (st .pre .1) _ _ (y .balances .ensures) (z .residuals .ensures)), refl, none-kept _ _)
+    let w = y .before .before in
+    let st = w .before .before .before in
+    let parts = values-parts (lent w) (same w) (many st) (st .pre .1) _ _ (y .balances .ensures) (z .residuals .ensures) in
+    ((st .pre .0, parts), none-kept (lent w) _ (parts .sound .state .fits .tree))
 
 zipped-requires : tie.Need-zipped-requires
 zipped-requires c κs =
     let g = c .before .before in
-    let z = g .before .before .before .before .before .before .before in
+    let z = g .before .before .before .before .before .before .before .before .before in
     let y = z .before in
-    let st = y .before .before in
-    let parts = values-parts (many st) (st .pre .1) _ _ (y .balances .ensures) (z .residuals .ensures) in
-    values-wide (many st) (st .pre .1) _ _ (y .balances .ensures) (z .residuals .ensures) _ (g .send .ensures (st .pre .0) parts)
+    let w = y .before .before in
+    let st = w .before .before .before in
+    let parts = values-parts (lent w) (same w) (many st) (st .pre .1) _ _ (y .balances .ensures) (z .residuals .ensures) in
+    values-wide (lent w) (same w) (many st) (st .pre .1) _ _ (y .balances .ensures) (z .residuals .ensures) _
+    (g .send .ensures (st .pre .0) parts)
 
 returns : tie.Need-returns
 returns c =
     let k = c .before in
     let g = k .before .before .before in
-    let z = g .before .before .before .before .before .before .before in
+    let z = g .before .before .before .before .before .before .before .before .before in
     let y = z .before in
-    let st = y .before .before in
+    let w = y .before .before in
+    let st = w .before .before .before in
     λ size sound.
-    let parts = values-parts (many st) sound _ _ (y .balances .ensures) (z .residuals .ensures) in
-    values-moves (many st) sound _ _ (y .balances .ensures) (z .residuals .ensures) _ (g .send .ensures size parts)
+    let parts = values-parts (lent w) (same w) (many st) sound _ _ (y .balances .ensures) (z .residuals .ensures) in
+    values-moves (lent w) (same w) (many st) sound _ _ (y .balances .ensures) (z .residuals .ensures) _ (g .send .ensures size parts)
     (rw (k .zipped .ensures) refl)
 
 pub send-values-spec : {M : Type 1} → statement M
 send-values-spec =
-    tie.close (tie.spec balances-requires residuals-requires send-requires zipped-requires returns)
+    tie.close (tie.spec weight-numbers-requires balances-requires residuals-requires send-requires zipped-requires returns)

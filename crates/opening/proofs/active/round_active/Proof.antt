@@ -1,94 +1,61 @@
 -- `active::round_active` meets its contract.
-use mathlib.Core.Bool.{cond}
-use mathlib.Core.Path.{_≡_, refl, ap, _∙_}
-use Prim.Native.Nat.{ℕ, _≤_}
+use mathlib.Core.Bool.{true}
+use mathlib.Core.List.{List}
+use mathlib.Core.Path.{_≡_, sym, _∙_}
+use Prim.Native.Nat.{ℕ, _<_}
 use native.Mathlib.Omega.{arith}
-use Rattle.sets.specs.Set.{with}
-use Rattle.tree.specs.Class.{parentOf}
-use Rattle.tree.proofs.Rules.{few-classes, parent-below}
+use Rattle.sets.specs.Set.{has}
+use Rattle.tree.specs.declared.Tree.{Tree}
+use Rattle.tree.specs.Class.{isLeaf}
+use Rattle.tree.proofs.Classes.{both-true}
+use Rattle.tree.proofs.Rules.{few-classes}
 use Rattle.rules.specs.Steps.{holdsSome}
-use Rattle.rules.proofs.Waiting.{Marks, marks-none, marks-step, marks-all, taken-is}
+use Rattle.rules.proofs.Waiting.{upward-same}
+use Rattle.opening.proofs.Raised.{raised-is}
 use borrow.Author.Needs.{needs}
 use Rattle.opening.proofs.active.round_active.Statement.{statement}
 use Rattle.opening.proofs.active.round_active.Tie as tie
 
-abbrev Inv-loop : tie.InvT-loop
-Inv-loop held tree active₀ i₀ active i = (i ≤ tree .count) × Marks tree (holdsSome tree held) active i
+-- who waits, by class number
+waits-at : (c : tie.After-waiting-leaves) (i : ℕ) → i < 64
+    → has (c .waiting-leaves .result) i ≡ holdsSome (c .before .args .tree) (c .before .args .held .now) i
+unfolding holdsSome isLeaf
+waits-at c i u = c .waiting-leaves .ensures i u
 
-abbrev μ-loop : tie.MeasureT-loop
-μ-loop held tree active₀ i₀ active i = i
+-- and such a class is a leaf
+holds-leaf : (t : Tree) (held : List ℕ) (i : ℕ) → holdsSome t held i ≡ true → isLeaf t i ≡ true
+unfolding holdsSome
+holds-leaf t held i e = both-true (isLeaf t i) _ e .0
 
-loop-holds : tie.Need-loop-holds Inv-loop μ-loop
-loop-holds c = (omega arith, marks-none (c .args .t1) (c .pre) (holdsSome (c .args .t1) (c .args .held .now)))
+waiting-leaves-requires : tie.Need-waiting-leaves-requires
+waiting-leaves-requires c κs = search needs
 
-element-copy-out-p : tie.Need-element-copy-out-p Inv-loop μ-loop
-element-copy-out-p c = let st = c .before .before in omega (arith, few-classes (st .args .t1) (st .pre))
+both-requires : tie.Need-both-requires
+both-requires c κs = search needs
 
-cast-p : tie.Need-cast-p Inv-loop μ-loop
-cast-p c = search needs
-
-element-copy-out-is-taken : tie.Need-element-copy-out-is-taken Inv-loop μ-loop
-element-copy-out-is-taken c = let st = c .before .before .before in omega (arith, few-classes (st .args .t1) (st .pre))
-
-is-taken-requires : tie.Need-is-taken-requires Inv-loop μ-loop
-is-taken-requires c κs = let st = c .before .before .before .before in omega (arith, few-classes (st .args .t1) (st .pre))
-
-with-if-requires : tie.Need-with-if-requires Inv-loop μ-loop
-with-if-requires c κs = let st = c .before .before .before .before .before in omega (arith, few-classes (st .args .t1) (st .pre))
-
-with-if-requires-2 : tie.Need-with-if-requires-2 Inv-loop μ-loop
-with-if-requires-2 c κs =
-    let h = c .before .before .before .before .before in
-    let st = h .before in
-    let u = few-classes (st .args .t1) (st .pre) in
-    omega (arith, u, parent-below (st .args .t1) (h .loop .i) (st .pre) (omega arith) (omega (arith, h .loop .inv .0)))
-
-sub-i : tie.Need-sub-i Inv-loop μ-loop
-sub-i c = search needs
-
-loop-less : tie.Need-loop-less Inv-loop μ-loop
-loop-less c = search needs
-
-loop-again : tie.Need-loop-again Inv-loop μ-loop
-loop-again c =
-    let v = c .before in
-    let k = v .before in
-    let h = k .before .before .before .before in
-    let st = h .before in
-    let t = st .args .t1 in
-    let w = holdsSome t (st .args .held .now) in
-    let i = h .loop .i in
-    let on = k .is-taken .result in
-    let l : 1 ≤ i = omega arith in
-    let is = k .is-taken .ensures t (st .args .held .now) refl refl
-    ∙ taken-is t (st .pre) w (h .loop .active) i l (h .loop .inv .0) (h .loop .inv .1) in
-    let e : c .with-if2 .result ≡ cond on (with (cond on (with (h .loop .active) i) (h .loop .active)) (parentOf t i))
-    (cond on (with (h .loop .active) i) (h .loop .active)) =
-    c .with-if2 .ensures ∙ ap (λ (a : ℕ). cond on (with a (parentOf t i)) a) (v .with-if .ensures)
-    in
-    (omega arith, rw e (marks-step t (st .pre) w (h .loop .active) i l (h .loop .inv .0) (h .loop .inv .1) on is))
-
-returns : tie.Need-returns Inv-loop μ-loop
+returns : tie.Need-returns
 returns c =
-    let h = c .before in
-    let st = h .before in
-    let e : h .loop .i ≡ 0 = omega arith in
-    marks-all (st .args .t1) (st .pre) (holdsSome (st .args .t1) (st .args .held .now)) (h .loop .active) (rw e at (h .loop .inv .1))
+    let b = c .before in
+    let w = b .before in
+    let st = w .before in
+    let a = st .args in
+    raised-is (a .tree) (a .known) (a .held .now) (w .waiting-leaves .result) (b .both .result) (st .pre .0) (st .pre .1) (waits-at w)
+    (b .both .ensures) (c .if1 .taken)
+
+above-requires : tie.Need-above-requires
+above-requires c κs =
+    let w = c .before .before in
+    let a = w .before .args in
+    (w .before .pre .0, λ i u on. holds-leaf (a .tree) (a .held .now) i (sym (waits-at w i u) ∙ on))
+
+returns-2 : tie.Need-returns-2
+returns-2 c =
+    let w = c .before .before .before in
+    let st = w .before in
+    let t = st .args .tree in
+    c .above .ensures
+    ∙ upward-same t (has (w .waiting-leaves .result)) (holdsSome t (st .args .held .now))
+    (λ i l u. waits-at w i (omega (arith, few-classes t (st .pre .0))))
 
 pub round-active-spec : {M : Type 1} → statement M
-round-active-spec =
-    tie.close
-    (tie.spec
-    Inv-loop
-    μ-loop
-    loop-holds
-    element-copy-out-p
-    cast-p
-    element-copy-out-is-taken
-    is-taken-requires
-    with-if-requires
-    with-if-requires-2
-    sub-i
-    loop-less
-    loop-again
-    returns)
+round-active-spec = tie.close (tie.spec waiting-leaves-requires both-requires returns above-requires returns-2)

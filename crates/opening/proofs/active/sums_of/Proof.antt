@@ -21,10 +21,10 @@ unfolding weightSums
 kept-are t known kept is on =
     table-same (λ p. record { 0 = getD kept p 0 }) (λ p. record { 0 = weightSum t known p }) 64
     (λ p u. ap (λ (n : ℕ). record { 0 = n })
-    (ap (λ (xs : List ℕ). getD xs p 0) (is on) ∙ table-at (weightSum t known) 0 64 p u))
+    (ap (λ (xs : List ℕ). getD xs p 0) (is .sums on) ∙ table-at (weightSum t known) 0 64 p u))
 
-kept-sums-requires : tie.Need-kept-sums-requires
-kept-sums-requires c κs = search needs
+weights-of-requires : tie.Need-weights-of-requires
+weights-of-requires c κs = search needs
 
 returns : tie.Need-returns
 returns c =
@@ -32,7 +32,7 @@ returns c =
     let a = i .before .args in
     let same : a .active ≡ a .known = i .if1 .taken in
     let on = sym (ap (λ (x : ℕ). has x 0) same) ∙ i .before .pre .2 in
-    c .kept-sums .ensures ∙ kept-are (a .tree) (a .known) _ (i .before .pre .1) on ∙ ap (weightSums (a .tree)) (sym same)
+    c .weights-of .ensures ∙ kept-are (a .tree) (a .known) _ (i .before .pre .1) on ∙ ap (weightSums (a .tree)) (sym same)
 
 weight-sums-requires : tie.Need-weight-sums-requires
 weight-sums-requires c κs = c .before .pre .0
@@ -43,4 +43,4 @@ returns-2 c = c .weight-sums .ensures
 pub sums-of-spec : {M : Type 1} → statement M
 sums-of-spec =
     tie.close
-    (tie.spec kept-sums-requires returns weight-sums-requires returns-2)
+    (tie.spec weights-of-requires returns weight-sums-requires returns-2)

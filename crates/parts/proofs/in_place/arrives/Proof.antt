@@ -1,8 +1,16 @@
 -- `in_place::arrives` meets its contract.
+use mathlib.Core.Path.{sym, ap}
+use Rattle.checks.specs.declared.Verdict.{Verdict}
+use Rattle.calls.specs.Arrival.{arrivalAnswer}
+use Rattle.run.specs.Event.{arrivalLine}
 use Rattle.parts.proofs.Happenings.{arrives-in-place}
 use borrow.Author.Needs.{needs}
 use Rattle.parts.proofs.in_place.arrives.Statement.{statement}
 use Rattle.parts.proofs.in_place.arrives.Tie as tie
+
+-- where the arrival that was judged began
+abbrev begun : tie.After-arrive → tie.Start
+begun v = v .before .before .before .before .before .before
 
 cast-class : tie.Need-cast-class
 cast-class c = search needs
@@ -10,14 +18,72 @@ cast-class c = search needs
 arrive-requires : tie.Need-arrive-requires
 arrive-requires c κs = search needs
 
-arrival-line-requires : tie.Need-arrival-line-requires
-arrival-line-requires c κs = search needs
+enum-told : tie.Need-enum-told
+enum-told c = search needs
+
+cast-lay-in : tie.Need-cast-lay-in
+cast-lay-in c = search needs
+
+cast-lay-in-2 : tie.Need-cast-lay-in-2
+cast-lay-in-2 c = search needs
+
+cast-lay-in-3 : tie.Need-cast-lay-in-3
+cast-lay-in-3 c = search needs
+
+lay-in-requires : tie.Need-lay-in-requires
+lay-in-requires c κs = search needs
+
+same-length : tie.Need-same-length
+same-length c = search needs
 
 returns : tie.Need-returns
 returns c =
-    let v = c .before in
-    let a = v .before .before .before .before .before .args .a in
-    λ l leaves longest sound. arrives-in-place _ a (v .arrive .result) (c .arrival-line .result) _ sound (v .arrive .ensures l leaves longest) (c .arrival-line .ensures)
+    let lay = c .before .before in
+    let t = lay .before .before .before in
+    let v = t .before .before in
+    let a = begun v .args in
+    let line = sym (ap (λ (w : Verdict). arrivalLine (arrivalAnswer w) (a .a)) (t .enum-told .given .1)) in
+    λ l leaves longest exactly.
+    arrives-in-place (a .sound) _ (a .a) (v .arrive .result) _ (a .at) _ _ _ _ exactly (v .arrive .ensures l leaves longest) line
+    (lay .lay-in .ensures)
+
+enum-told-2 : tie.Need-enum-told-2
+enum-told-2 c = search needs
+
+arrival-line-requires : tie.Need-arrival-line-requires
+arrival-line-requires c κs = search needs
+
+lay-at-requires : tie.Need-lay-at-requires
+lay-at-requires c κs = search needs
+
+same-length-2 : tie.Need-same-length-2
+same-length-2 c = search needs
+
+returns-2 : tie.Need-returns-2
+returns-2 c =
+    let lay = c .before .before in
+    let n = lay .before .before in
+    let v = n .before .before .before in
+    let a = begun v .args in
+    λ l leaves longest exactly.
+    arrives-in-place (a .sound) _ (a .a) (v .arrive .result) (n .arrival-line .result) (a .at) _ _ _ _ exactly
+    (v .arrive .ensures l leaves longest) (n .arrival-line .ensures) (lay .lay-at .ensures)
 
 pub arrives-spec : {M : Type 1} → statement M
-arrives-spec = tie.close (tie.spec cast-class arrive-requires arrival-line-requires returns)
+arrives-spec =
+    tie.close
+    (tie.spec
+    cast-class
+    arrive-requires
+    enum-told
+    cast-lay-in
+    cast-lay-in-2
+    cast-lay-in-3
+    lay-in-requires
+    same-length
+    returns
+    enum-told-2
+    arrival-line-requires
+    lay-at-requires
+    same-length-2
+    returns-2)

@@ -7,7 +7,7 @@ use denote.Ref.{now}
 use lib.ListN.{length, drop}
 use Rattle.units.specs.declared.Bytes.{Bytes}
 use Rattle.state.specs.declared.Link.{Link}
-use Rattle.steps.specs.Parts.{lentLink}
+use Rattle.steps.specs.Parts.{lentLink, lentTree}
 use Rattle.plan.specs.declared.EventRead.{EventRead}
 use Rattle.plan.specs.declared.EventRead.the-variants.{Arrive, SendNext}
 use Rattle.plan.specs.Event.{eventAt}
@@ -21,13 +21,26 @@ use Rattle.parts.proofs.in_place.event.Tie as tie
 abbrev whole : tie.Start → Bytes → Link
 whole st size =
     let a = st .args in
-    lentLink (a .tree) size (a .active) (a .visit) (now (a .balance)) (now (a .residual)) (now (a .start)) (now (a .held)) (now (a .lengths)) (now (a .tags))
+    lentLink (lentTree (a .count) (a .leaves) (now (a .parent)) (now (a .weight)) (now (a .longest))) size (a .active) (a .visit)
+    (now (a .balance)) (now (a .residual)) (now (a .start)) (now (a .held)) (now (a .lengths)) (now (a .tags))
+
+-- where the event began
+abbrev begun : tie.After-read-event → tie.Start
+begun g = g .before .before .before .before
+
+-- where it was told that an arrival was read
+abbrev arriving : tie.After-arrives → tie.After-read
+arriving k = k .before .before .before .before .before .before .before
+
+-- where it was told that a send was read
+abbrev sending : tie.After-departs → tie.After-enum-told2
+sending d = d .before .before .before .before .before .before .before
 
 -- the event that was read stands at the place
-read-at : (c : tie.After-read-event) {e : EventRead} → c .read-event .result ≡ e
-    → eventAt (drop (c .before .before .before .args .place) (now (c .before .before .before .args .input))) (c .before .before .before .args .place) ≡ e
-read-at c told =
-    ap (λ (s : List ℕ). eventAt s (c .before .before .before .args .place)) (sym (c .before .events-after .ensures .0)) ∙ sym (c .read-event .ensures) ∙ told
+read-at : (g : tie.After-read-event) {e : EventRead} → g .read-event .result ≡ e
+    → eventAt (drop (begun g .args .place) (now (begun g .args .input))) (begun g .args .place) ≡ e
+read-at g told =
+    ap (λ (s : List ℕ). eventAt s (begun g .args .place)) (sym (g .before .events-after .ensures .0)) ∙ sym (g .read-event .ensures) ∙ told
 
 events-after-requires : tie.Need-events-after-requires
 events-after-requires c κs = search needs
@@ -41,81 +54,133 @@ enum-told c = search needs
 waiting-requires : tie.Need-waiting-requires
 waiting-requires c κs = search needs
 
+lay-at-requires : tie.Need-lay-at-requires
+lay-at-requires c κs = search needs
+
+outcome-requires : tie.Need-outcome-requires
+outcome-requires c κs = search needs
+
 enum-known-read : tie.Need-enum-known-read
 enum-known-read c = search needs
 
 arrives-requires : tie.Need-arrives-requires
 arrives-requires c κs = search needs
 
-add-t31 : tie.Need-add-t31
-add-t31 c =
-    let v = c .before .before .before .before .before .before in
+add-outcome : tie.Need-add-outcome
+add-outcome c =
+    let v = arriving (c .before .before) in
     let g = v .before .before in
-    let a = g .before .before .before .args in
-    omega (arith, used-fits (now (a .input)) (a .place) (Arrive (v .read .given .0 .0)) (read-at g (v .read .given .1)), ap length (g .before .events-after .ensures .0), g .before .events-after .ensures .1)
+    let a = begun g .args in
+    omega (
+      arith,
+      used-fits (now (a .input)) (a .place) (Arrive (v .read .given .0 .0)) (read-at g (v .read .given .1)),
+      ap length (g .before .events-after .ensures .0),
+      g .before .events-after .ensures .1,
+    )
+
+outcome-requires-2 : tie.Need-outcome-requires-2
+outcome-requires-2 c κs = search needs
 
 enum-told-2 : tie.Need-enum-told-2
 enum-told-2 c = search needs
 
-send-requires : tie.Need-send-requires
-send-requires c κs =
-    let st = c .before .before .before .before .before .before .before .before .before .before .before in
-    ((st .pre .0 .0, record { sound = st .pre .0 .1; wide = st .pre .0 .2 .accounts }), st .pre .1, st .pre .3)
+departs-requires : tie.Need-departs-requires
+departs-requires c κs =
+    let st = c .before .before .before .before .before .before .before .before .before .before .before .before in
+    (st .pre .0, st .pre .1)
 
-went-line-requires : tie.Need-went-line-requires
-went-line-requires c κs = search needs
+lay-went-requires : tie.Need-lay-went-requires
+lay-went-requires c κs = search needs
 
-add-t39 : tie.Need-add-t39
-add-t39 c =
-    let v = c .before .before .before .before .before .before .before .before in
+add-outcome-2 : tie.Need-add-outcome-2
+add-outcome-2 c =
+    let v = sending (c .before .before .before .before) in
     let g = v .before .before in
-    let a = g .before .before .before .args in
-    omega (arith, used-fits (now (a .input)) (a .place) SendNext (read-at g (v .enum-told2 .given .1)), ap length (g .before .events-after .ensures .0), g .before .events-after .ensures .1)
+    let a = begun g .args in
+    omega (
+      arith,
+      used-fits (now (a .input)) (a .place) SendNext (read-at g (v .enum-told2 .given .1)),
+      ap length (g .before .events-after .ensures .0),
+      g .before .events-after .ensures .1,
+    )
+
+outcome-requires-3 : tie.Need-outcome-requires-3
+outcome-requires-3 c κs = search needs
 
 enum-known-read-2 : tie.Need-enum-known-read-2
 enum-known-read-2 c = search needs
 
-cast-t40 : tie.Need-cast-t40
-cast-t40 c = search needs
+cast-t53 : tie.Need-cast-t53
+cast-t53 c = search needs
+
+lay-at-requires-2 : tie.Need-lay-at-requires-2
+lay-at-requires-2 c κs = search needs
+
+outcome-requires-4 : tie.Need-outcome-requires-4
+outcome-requires-4 c κs = search needs
+
+same-length : tie.Need-same-length
+same-length c = search needs
 
 returns : tie.Need-returns
 returns c =
-    let v = c .before .before in
+    let lay = c .before .before .before in
+    let w = lay .before .before in
+    let v = w .before .before in
     let g = v .before .before in
-    let st = g .before .before .before in
+    let st = begun g in
     let a = st .args in
-    λ size sound shape.
-    end-in-place (whole st size) (now (a .input)) (a .place) shape (c .waiting .result) (a .active) (a .visit) (read-at g (v .enum-told .given .1)) (c .waiting .ensures)
+    λ size exactly shape.
+    rw (c .outcome .ensures)
+    (end-in-place (whole st size) (now (a .input)) (a .place) shape (a .at) (now (a .out)) (lay .lay-at .result) _ (w .waiting .result)
+    (a .active) (a .visit) (read-at g (v .enum-told .given .1)) (w .waiting .ensures) (lay .lay-at .ensures))
+
+same-length-2 : tie.Need-same-length-2
+same-length-2 c = search needs
 
 returns-2 : tie.Need-returns-2
 returns-2 c =
-    let v = c .before .before .before .before .before .before in
+    let lay = c .before .before .before in
+    let v = arriving lay in
     let g = v .before .before in
-    let st = g .before .before .before in
+    let st = begun g in
     let a = st .args in
-    λ size sound shape.
-    arrival-in-place (whole st size) (now (a .input)) (a .place) sound shape (v .read .given .0 .0) (c .arrives .result) (a .active) (a .visit) _ (read-at g (v .read .given .1))
-    (c .arrives .ensures (whole st size) refl (st .pre .2) sound)
+    λ size exactly shape.
+    rw (c .outcome2 .ensures)
+    (arrival-in-place (whole st size) (now (a .input)) (a .place) shape (a .at) (now (a .out)) (lay .arrives .result) _ (a .sound) exactly
+    _ (v .read .given .0 .0) (a .active) (a .visit) (read-at g (v .read .given .1))
+    (lay .arrives .ensures (whole st size) refl refl exactly))
+
+same-length-3 : tie.Need-same-length-3
+same-length-3 c = search needs
 
 returns-3 : tie.Need-returns-3
 returns-3 c =
-    let s = c .before in
-    let v = s .before .before .before .before .before .before .before in
+    let lay = c .before .before .before in
+    let d = lay .before .before in
+    let v = sending d in
     let g = v .before .before in
-    let st = g .before .before .before in
+    let st = begun g in
     let a = st .args in
-    λ size sound shape.
-    send-in-place (whole st size) (now (a .input)) (a .place) sound shape (s .send .result) _ (s .send .ensures size (record { sound = sound; wide = shape .accounts })) (c .went-line .result)
-    (read-at g (v .enum-told2 .given .1)) (c .went-line .ensures)
+    λ size exactly shape.
+    rw (c .outcome3 .ensures)
+    (send-in-place (whole st size) (now (a .input)) (a .place) shape (a .at) (now (a .out)) (lay .lay-went .result) _ (a .sound) exactly
+    _ (d .departs .result) (read-at g (v .enum-told2 .given .1)) (d .departs .ensures size exactly shape) (lay .lay-went .ensures))
+
+same-length-4 : tie.Need-same-length-4
+same-length-4 c = search needs
 
 returns-4 : tie.Need-returns-4
 returns-4 c =
-    let v = c .before in
+    let lay = c .before .before .before in
+    let v = lay .before .before .before in
     let g = v .before .before in
-    let st = g .before .before .before in
+    let st = begun g in
     let a = st .args in
-    λ size sound shape.
-    stop-in-place (whole st size) (now (a .input)) (a .place) shape (v .read2 .given .0 .0) (v .read2 .given .0 .1 .0) (a .active) (a .visit) (read-at g (v .read2 .given .1))
+    λ size exactly shape.
+    rw (c .outcome4 .ensures)
+    (stop-in-place (whole st size) (now (a .input)) (a .place) shape (a .at) (now (a .out)) (lay .lay-at2 .result) _
+    (v .read2 .given .0 .0) (v .read2 .given .0 .1 .0) (a .active) (a .visit) (read-at g (v .read2 .given .1)) (lay .lay-at2 .ensures))
 
 pub event-spec : {M : Type 1} → statement M
 event-spec =
@@ -125,16 +190,26 @@ event-spec =
     read-event-requires
     enum-told
     waiting-requires
+    lay-at-requires
+    outcome-requires
     enum-known-read
     arrives-requires
-    add-t31
+    add-outcome
+    outcome-requires-2
     enum-told-2
-    send-requires
-    went-line-requires
-    add-t39
+    departs-requires
+    lay-went-requires
+    add-outcome-2
+    outcome-requires-3
     enum-known-read-2
-    cast-t40
+    cast-t53
+    lay-at-requires-2
+    outcome-requires-4
+    same-length
     returns
+    same-length-2
     returns-2
+    same-length-3
     returns-3
+    same-length-4
     returns-4)

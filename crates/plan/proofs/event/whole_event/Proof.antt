@@ -29,7 +29,8 @@ gives-arrival-requires : tie.Need-gives-arrival-requires
 gives-arrival-requires c κs = search needs
 
 returns : tie.Need-returns
-returns c = sym (event-send _ (ap givesArrival (sym (c .before .before .before .pre .1)) ∙ sym (c .before .gives-arrival .ensures) ∙ not-true _ (c .if1 .taken)))
+returns c = sym (event-send _ (ap givesArrival (sym (c .before .before .before .pre .1)) ∙ sym (c .before .gives-arrival .ensures)
+    ∙ not-true _ (c .if1 .taken)))
 
 record-length-requires : tie.Need-record-length-requires
 record-length-requires c κs = search needs
@@ -41,7 +42,8 @@ part-read-arrival-start : tie.Need-part-read-arrival-start
 part-read-arrival-start c = omega arith
 
 part-read-arrival-end : tie.Need-part-read-arrival-end
-part-read-arrival-end c = omega (arith, end-of c, whole-length (now (c .before .before .before .before .args .rest)) (c .before .before .before .before .pre .0))
+part-read-arrival-end c =
+    omega (arith, end-of c, whole-length (now (c .before .before .before .before .args .rest)) (c .before .before .before .before .pre .0))
 
 read-arrival-requires : tie.Need-read-arrival-requires
 read-arrival-requires c κs =
@@ -55,7 +57,8 @@ returns-2 c =
     let b = c .before .before in
     let st = b .before .before .before .before in
     let s = now (st .args .rest) in
-    ap Arrive (c .read-arrival .ensures ∙ ap arrivedOf (body-part s (b .record-length .result) (end-of b))) ∙ sym (event-arrival s (arrives (b .before)))
+    ap Arrive (c .read-arrival .ensures ∙ ap arrivedOf (body-part s (b .record-length .result) (end-of b)))
+    ∙ sym (event-arrival s (arrives (b .before)))
 
 pub whole-event-spec : {M : Type 1} → statement M
 whole-event-spec =

@@ -30,8 +30,11 @@ unfolding tooMany
 returns-2 c =
     let f = c .before .before in
     let a = f .before in
-    let e = rw (a .added .ensures) at (f .class-fault .ensures) in
-    (pass-over _ _ (le-ltb 63 (a .before .before .before .args .tree .count + 1) (omega arith)) ∙ sym e ∙ c .enum-told .given .1, refl, a .added .ensures)
+    let e = rw (a .added .ensures) at (f .class-fault .ensures) in (
+      pass-over _ _ (le-ltb 63 (a .before .before .before .args .tree .count + 1) (omega arith)) ∙ sym e ∙ c .enum-told .given .1,
+      refl,
+      a .added .ensures,
+    )
 
 returns-3 : tie.Need-returns-3
 unfolding tooMany

@@ -24,11 +24,13 @@ gives : (c : tie.Else1) → givesClass (kindAt (now (c .before .before .before .
 gives c = ap givesClass (sym (c .before .before .before .pre .1)) ∙ sym (c .before .gives-class .ensures) ∙ not-false _ (c .if1 .left)
 
 -- whether that class is a leaf
-leaf-of : (c : tie.After-gives-leaf) → c .gives-leaf .result ≡ givesLeaf (kindAt (now (c .before .before .before .before .before .args .rest)))
+leaf-of : (c : tie.After-gives-leaf)
+    → c .gives-leaf .result ≡ givesLeaf (kindAt (now (c .before .before .before .before .before .args .rest)))
 leaf-of c = c .gives-leaf .ensures ∙ ap givesLeaf (c .before .before .before .before .before .pre .1)
 
 -- and that class was read
-class-read : (c : tie.After-read-class) → c .read-class .result ≡ classAt (now (c .before .before .before .before .before .before .before .args .rest))
+class-read : (c : tie.After-read-class)
+    → c .read-class .result ≡ classAt (now (c .before .before .before .before .before .before .before .args .rest))
 unfolding classAt
 class-read c =
     let g = c .before .before in

@@ -13,7 +13,8 @@ abbrev μ-loop : tie.MeasureT-loop
 μ-loop name input used events at₀ at = length events + 1 - at
 
 -- the events are as long as what the plan leaves of the input
-left-over : (c : tie.After-events-after Inv-loop μ-loop) → length (c .events-after .result .now) ≡ length (c .before .before .before .args .input .now) - c .before .before .before .args .used
+left-over : (c : tie.After-events-after Inv-loop μ-loop)
+    → length (c .events-after .result .now) ≡ length (c .before .before .before .args .input .now) - c .before .before .before .args .used
 left-over c = ap length (c .events-after .ensures .0) ∙ simp length-drop
 
 events-after-requires : tie.Need-events-after-requires Inv-loop μ-loop

@@ -1,12 +1,12 @@
 -- `speed::opening::open_next` meets its contract.
 use mathlib.Core.Path.{_∙_}
 use Rattle.rules.proofs.Waiting.{active-meaning}
-use Rattle.steps.proofs.Rounding.{parts-can, parts-opened}
+use Rattle.steps.proofs.Rounding.{raised-none, parts-can, parts-opened}
 use Rattle.speed.proofs.opening.open_next.Statement.{statement}
 use Rattle.speed.proofs.opening.open_next.Tie as tie
 
 round-active-requires : tie.Need-round-active-requires
-round-active-requires c κs = c .pre .1 .sound .state .fits .tree
+round-active-requires c κs = let rules = c .pre .1 .sound .state .fits .tree in (rules, raised-none _ rules)
 
 weight-sums-requires : tie.Need-weight-sums-requires
 weight-sums-requires c κs = c .before .pre .1 .sound .state .fits .tree

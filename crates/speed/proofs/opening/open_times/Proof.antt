@@ -12,7 +12,8 @@ use Rattle.speed.proofs.opening.open_times.Tie as tie
 
 abbrev Inv-loop : tie.InvT-loop
 Inv-loop link times tree held balance₀ residual₀ active₀ place₀ n₀ balance residual active place n =
-    (n ≤ times) × Opened link n (lentLink (link .tree) (link .size) active place balance residual (link .start) (link .held) (link .lengths) (link .tags))
+    (n ≤ times) × Opened link n (lentLink (link .tree) (link .size) active place balance residual (link .start) (link .held) (link .lengths)
+    (link .tags))
 
 abbrev μ-loop : tie.MeasureT-loop
 μ-loop link times tree held balance₀ residual₀ active₀ place₀ n₀ balance residual active place n = times - n
@@ -27,8 +28,11 @@ loop-holds : tie.Need-loop-holds Inv-loop μ-loop
 loop-holds c =
     let b = c .before in
     let st = b .before .before .before .before in
-    let l = st .args .link in
-    (omega arith, opened-apart l (st .pre) (sym (length-map (l .accounts) _) ∙ st .good .0 .1 .1 .1 .1 .1 .1 .0 .1 .0 .1) _ _ (b .balances .ensures) (c .residuals .ensures))
+    let l = st .args .link in (
+      omega arith,
+      opened-apart l (st .pre) (sym (length-map (l .accounts) _) ∙ st .good .0 .1 .1 .1 .1 .1 .1 .0 .1 .0 .1) _ _
+          (b .balances .ensures) (c .residuals .ensures),
+    )
 
 open-next-requires : tie.Need-open-next-requires Inv-loop μ-loop
 open-next-requires c κs =
@@ -59,7 +63,8 @@ returns c =
     let g = c .before .before .before in
     let h = g .before in
     let l = h .before .before .before .before .before .before .args .link in
-    let e : h .loop .n ≡ h .before .before .before .before .before .before .args .times = omega (arith, g .loop-test .left, h .loop .inv .0) in
+    let e : h .loop .n ≡ h .before .before .before .before .before .before .args .times =
+    omega (arith, g .loop-test .left, h .loop .inv .0) in
     rw (c .zipped .ensures) (h .loop .inv .1 .same ∙ ap (λ (n : ℕ). openedTimes n l) e)
 
 pub open-times-spec : {M : Type 1} → statement M

@@ -21,7 +21,8 @@ unfolding rootLeft
 returns c =
     let o = c .before in
     let b = o .before in
-    ap (λ (l : Link). balanceOf (l .accounts) 0) (o .open-times .ensures ∙ ap (openedTimes (b .before .args .times)) (b .backlogged .ensures .0))
+    ap (λ (l : Link). balanceOf (l .accounts) 0) (o .open-times .ensures
+    ∙ ap (openedTimes (b .before .args .times)) (b .backlogged .ensures .0))
 
 pub root-left-spec : {M : Type 1} → statement M
 root-left-spec =

@@ -21,9 +21,9 @@ keep-balance-requires c κs = search needs
 
 -- the leaf's account is kept
 leaf-kept : (k : tie.After-keep-balance)
-    → zipAccounts (k .keep-balance .last .1 .1 .0) (k .before .before .before .before .before .args .residual .now)
-    ≡ set (zipAccounts (k .before .before .before .before .before .args .balance .now) (k .before .before .before .before .before .args .residual .now))
-    (k .before .before .before .before .before .args .i) (k .before .before .send .result)
+    → let a = k .before .before .before .before .before .args in
+    zipAccounts (k .keep-balance .last .1 .1 .0) (a .residual .now)
+    ≡ set (zipAccounts (a .balance .now) (a .residual .now)) (a .i) (k .before .before .send .result)
 leaf-kept k =
     let s = k .before .before in
     let st = s .before .before .before in

@@ -1,27 +1,73 @@
 -- `reopening::reopened` meets its contract.
 use mathlib.Core.Bool.{true}
 use mathlib.Core.List.{List}
-use mathlib.Core.Path.{_≡_, sym, ap, _∙_}
+use mathlib.Core.Path.{_≡_, sym, ap, subst, _∙_}
 use Prim.Native.Nat.{ℕ}
 use borrow.Author.Tests.{not-true, not-false}
 use Rattle.sets.specs.Set.{has}
+use Rattle.units.specs.declared.Weight.{Weight}
+use Rattle.tree.specs.declared.Tree.{Tree}
+use Rattle.tree.specs.Rules.{PlanRules}
 use Rattle.rules.specs.Active.{upward}
 use Rattle.rules.specs.Steps.{holdsSome}
-use Rattle.steps.specs.Rounds.{Unseen}
+use Rattle.steps.specs.declared.reopening.Found.{Found}
+use Rattle.steps.specs.Parts.{lentLink, lentTree}
+use Rattle.steps.specs.Rounds.{Unseen, Closed, Kept, Finds, closedLink}
 use Rattle.steps.proofs.Departures.{nothing-finds, round-opens, then-finds}
 use borrow.Author.Needs.{needs}
 use Rattle.steps.proofs.reopening.reopened.Statement.{statement}
 use Rattle.steps.proofs.reopening.reopened.Tie as tie
 
+-- the tree in its parts, the tree that is put together, and that they are one
+abbrev lent : tie.Start → Tree
+lent st = let a = st .args in lentTree (a .count) (a .leaves) (a .parent .now) (a .weight .now) (a .longest .now)
+
+abbrev weighing : tie.Start → List Weight → Tree
+weighing st ws =
+    let a = st .args in
+    record { count = a .count; leaves = a .leaves; parent = a .parent .now; weight = ws; longest = a .longest .now }
+
+abbrev made : tie.After-weights-of → Tree
+made c = weighing (c .before .before) (c .weights-of .result)
+
+same : (c : tie.After-weights-of) → made c ≡ lent (c .before .before)
+same c = ap (weighing (c .before .before)) (c .weights-of .ensures)
+
+-- what is known of it
+closed : (c : tie.After-weights-of) (k : Unseen) (b r s l : List ℕ) → Closed (lent (c .before .before)) k b r s l
+    → Closed (made c) k b r s l
+closed c k b r s l = subst (λ (t : Tree). Closed t k b r s l) (sym (same c))
+
+rules : (c : tie.After-weights-of) → PlanRules (made c)
+rules c = subst PlanRules (sym (same c)) (c .before .before .pre .0 .2 .parts .sound .state .fits .tree)
+
+kept : (c : tie.After-weights-of) → Kept (made c) (c .before .before .args .known) (c .before .before .args .kept .now)
+kept c =
+    let st = c .before .before in
+    subst (λ (t : Tree). Kept t (st .args .known) (st .args .kept .now)) (sym (same c)) (st .pre .1)
+
+weights-of-requires : tie.Need-weights-of-requires
+weights-of-requires c κs = search needs
+
 round-active-requires : tie.Need-round-active-requires
-round-active-requires c κs = c .pre .0 .2 .parts .sound .state .fits .tree
+round-active-requires c κs = (rules (c .before), kept (c .before) .raised)
 
 -- who is active in the next round, with the packets held
-active-is : (c : tie.After-round-active) (k : Unseen) → k .held ≡ c .before .args .held .now
-    → c .round-active .result ≡ upward (c .before .args .tree) (holdsSome (c .before .args .tree) (k .held))
+active-is : (c : tie.After-round-active) (k : Unseen) → k .held ≡ c .before .before .before .before .args .held .now
+    → c .round-active .result ≡ upward (made (c .before .before)) (holdsSome (made (c .before .before)) (k .held))
 active-is c k e =
-    let t = c .before .args .tree in
+    let t = made (c .before .before) in
     c .round-active .ensures ∙ ap (λ (h : List ℕ). upward t (holdsSome t h)) (sym e)
+
+-- what is found on the one is found on the other
+finds : (c : tie.After-weights-of) (k : Unseen) (b r s l b′ r′ : List ℕ) (f : Found)
+    → Finds (closedLink (made c) k b r s l) f
+    (λ active place. lentLink (made c) (k .size) active place b′ r′ s (k .held) l (k .tags))
+    → Finds (closedLink (lent (c .before .before)) k b r s l) f
+    (λ active place. lentLink (lent (c .before .before)) (k .size) active place b′ r′ s (k .held) l (k .tags))
+finds c k b r s l b′ r′ f =
+    subst (λ (t : Tree). Finds (closedLink t k b r s l) f
+    (λ active place. lentLink t (k .size) active place b′ r′ s (k .held) l (k .tags))) (same c)
 
 has-requires : tie.Need-has-requires
 has-requires c κs = search needs
@@ -29,8 +75,9 @@ has-requires c κs = search needs
 returns : tie.Need-returns
 returns c =
     let h = c .before in
-    λ k e q.
-    nothing-finds _ _ q _ (active-is (h .before) k e) (sym (h .has .ensures) ∙ not-true (h .has .result) (c .if1 .taken))
+    let w = h .before .before .before in
+    let off = sym (h .has .ensures) ∙ not-true (h .has .result) (c .if1 .taken) in
+    λ k e q. finds w k _ _ _ _ _ _ _ (nothing-finds _ _ (closed w k _ _ _ _ q) _ (active-is (h .before) k e) off)
 
 -- a packet waits (R119)
 root-on : (c : tie.Else1) → has (c .before .before .round-active .result) 0 ≡ true
@@ -38,32 +85,38 @@ root-on c = let h = c .before in sym (h .has .ensures) ∙ not-false (h .has .re
 
 sums-of-requires : tie.Need-sums-of-requires
 sums-of-requires c κs =
-    let st = c .before .before .before in
-    (st .pre .0 .2 .parts .sound .state .fits .tree, st .pre .1, root-on c)
+    let w = c .before .before .before .before in
+    (rules w, kept w, root-on c)
 
-opened-requires : tie.Need-opened-requires
-opened-requires c κs =
-    let w = c .before .before in
-    let i = w .before in
-    let st = i .before .before .before in
+open-until-sent-requires : tie.Need-open-until-sent-requires
+open-until-sent-requires c κs =
+    let s = c .before .before in
+    let i = s .before in
+    let w = i .before .before .before .before in
+    let st = w .before .before in
     let is = active-is (i .before .before) (st .pre .0 .0) (st .pre .0 .1) in
-    ((_, round-opens _ _ (st .pre .0 .2) _ is (root-on i)), w .sums-of .ensures)
+    ((_, round-opens _ _ (closed w _ _ _ _ _ (st .pre .0 .2)) _ is (root-on i)), s .sums-of .ensures)
 
 returns-2 : tie.Need-returns-2
 returns-2 c =
     let i = c .before .before .before .before in
-    let o = c .opened .ensures in
+    let w = i .before .before .before .before in
+    let o = c .open-until-sent .ensures in
     λ k e q.
     let is = active-is (i .before .before) k e in
-    then-finds _ _ q _ is (root-on i) _ _ (c .opened .result) (o .1 .0) (o .1 .1) (o .0 k (round-opens _ _ q _ is (root-on i)))
+    let shut = closed w k _ _ _ _ q in
+    finds w k _ _ _ _ _ _ _
+    (then-finds _ _ shut _ is (root-on i) _ _ (c .open-until-sent .result) (o .1 .0) (o .1 .1)
+    (o .0 k (round-opens _ _ shut _ is (root-on i))))
 
 pub reopened-spec : {M : Type 1} → statement M
 reopened-spec =
     tie.close
     (tie.spec
+    weights-of-requires
     round-active-requires
     has-requires
     returns
     sums-of-requires
-    opened-requires
+    open-until-sent-requires
     returns-2)

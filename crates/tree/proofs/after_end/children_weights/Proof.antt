@@ -1,6 +1,6 @@
 -- `after_end::children_weights` meets its contract: class by class downward, each adds itself to its parent's sum.
 use mathlib.Core.Path.{_≡_, sym, _∙_}
-use Prim.Native.Nat.{_+_, _-_, _^_, _≤_, _<_}
+use Prim.Native.Nat.{_+_, _^_, _≤_, _<_}
 use native.Mathlib.Omega.{arith}
 use lib.ListN.{getD}
 use Rattle.tree.specs.Class.{noWeight, parentOf, weightOf, childWeight, childrenWeight}

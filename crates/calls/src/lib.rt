@@ -1,0 +1,37 @@
+// What the calls of the library answer (R151 to R163): the answers, the rules of the calls as definitions, and their laws; no code: the
+// calls stand in `link`. Serves demands 1 and 2.
+use checks::Verdict;
+use state::Link;
+
+// What a fresh link asked of a tree gives: a verdict and the link.
+pub struct Answered {
+    pub verdict: Verdict,
+    pub link: Link,
+}
+
+// What an arrival answers: its verdict.
+pub struct Arrival {
+    pub verdict: Verdict,
+}
+
+// What an arrival gives: its answer and the link after it.
+pub struct AfterArrival {
+    pub answer: Arrival,
+    pub link: Link,
+}
+
+// What a send answers: a verdict, the packet that goes with its class, and the rounds opened in the call. All numbers of a refused one
+// are 0.
+pub struct Departure {
+    pub verdict: Verdict,
+    pub class: usize,
+    pub length: u16,
+    pub tag: u32,
+    pub rounds: usize,
+}
+
+// What a send gives: its answer and the link after it.
+pub struct AfterSend {
+    pub answer: Departure,
+    pub link: Link,
+}

@@ -1,0 +1,42 @@
+-- `in_place::departs` meets its contract.
+use mathlib.Core.Path.{refl}
+use Rattle.steps.specs.Rounds.{nothingGoes}
+use Rattle.parts.proofs.Happenings.{departs-in-place, refused-in-place}
+use borrow.Author.Tests.{not-true, not-false}
+use borrow.Author.Needs.{needs}
+use Rattle.parts.proofs.in_place.departs.Statement.{statement}
+use Rattle.parts.proofs.in_place.departs.Tie as tie
+
+nothing-requires : tie.Need-nothing-requires
+nothing-requires c κs = search needs
+
+returns : tie.Need-returns
+returns c =
+    let i = c .before in
+    let a = i .before .args in
+    λ size exactly shape.
+    rw (c .nothing .ensures) (rw (not-true (a .sound) (i .if1 .taken)) (refused-in-place _ (nothingGoes (a .active) (a .visit)) refl))
+
+send-requires : tie.Need-send-requires
+send-requires c κs =
+    let i = c .before .before .before .before in
+    let st = i .before in
+    let p = st .pre .0 in
+    let on = not-false (st .args .sound) (i .if1 .left) in
+    ((p .0, record { sound = p .1 .sound on; wide = p .2 .accounts }), st .pre .1 on)
+
+returns-2 : tie.Need-returns-2
+returns-2 c =
+    let i = c .before .before .before .before .before in
+    let on = not-false (i .before .args .sound) (i .if1 .left) in
+    λ size exactly shape.
+    rw on (departs-in-place _ _ _ (c .send .ensures size (record { sound = exactly .sound on; wide = shape .accounts })))
+
+pub departs-spec : {M : Type 1} → statement M
+departs-spec =
+    tie.close
+    (tie.spec
+    nothing-requires
+    returns
+    send-requires
+    returns-2)

@@ -1,0 +1,88 @@
+-- `reopening::open_until_sent` meets its contract: a leaf is found after at most two rounds.
+use mathlib.Core.Path.{refl}
+use Prim.Native.Nat.{_-_}
+use native.Mathlib.Omega.{arith}
+use Rattle.steps.specs.Rounds.{Unseen, Opens, closedLink}
+use Rattle.steps.proofs.Rounding.{parts-low, parts-searched, UnderWay, under-starts, under-can, under-parts, under-finds, under-on}
+use borrow.Author.Needs.{needs}
+use Rattle.steps.proofs.reopening.open_until_sent.Statement.{statement}
+use Rattle.steps.proofs.reopening.open_until_sent.Tie as tie
+
+abbrev Inv-loop : tie.InvT-loop
+Inv-loop tree active sums balance₀ residual₀ start lengths leaves rounds₀ balance residual rounds =
+    (k : Unseen) → Opens tree k active balance₀ residual₀ start lengths
+    → UnderWay (closedLink tree k balance₀ residual₀ start lengths) tree k active balance residual start lengths rounds
+
+abbrev μ-loop : tie.MeasureT-loop
+μ-loop tree active sums balance₀ residual₀ start lengths leaves rounds₀ balance residual rounds = 3 - rounds
+
+both-requires : tie.Need-both-requires Inv-loop μ-loop
+both-requires c κs = search needs
+
+loop-holds : tie.Need-loop-holds Inv-loop μ-loop
+loop-holds c = λ k o. under-starts _ k _ _ _ _ _ o
+
+open-round-requires : tie.Need-open-round-requires Inv-loop μ-loop
+open-round-requires c κs =
+    let h = c .before .before in
+    let st = h .before .before in
+    (under-can _ _ (h .loop .inv (st .pre .0 .0) (st .pre .0 .1)), st .pre .1)
+
+add-rounds : tie.Need-add-rounds Inv-loop μ-loop
+add-rounds c =
+    let h = c .before .before .before in
+    let st = h .before .before in
+    omega (arith, h .loop .inv (st .pre .0 .0) (st .pre .0 .1) .way .few)
+
+next-leaf-requires : tie.Need-next-leaf-requires Inv-loop μ-loop
+next-leaf-requires c κs =
+    let o = c .before in
+    let h = o .before .before .before in
+    let st = h .before .before in
+    let w = h .loop .inv (st .pre .0 .0) (st .pre .0 .1) in
+    (omega arith, parts-low _ _ (under-parts _ _ w _ _ (o .open-round .ensures)))
+
+returns : tie.Need-returns Inv-loop μ-loop
+returns c =
+    let f = c .before in
+    let o = f .before .before in
+    let h = o .before .before .before in
+    let b = h .before in (
+      λ k q.
+          let w = h .loop .inv k q in
+          under-finds _ _ w _ _ (o .open-round .ensures) _
+          (f .next-leaf .ensures _ (parts-searched _ _ (under-parts _ _ w _ _ (o .open-round .ensures)) _ (b .both .ensures))),
+      (c .if1 .taken, refl),
+    )
+
+loop-less : tie.Need-loop-less Inv-loop μ-loop
+loop-less c =
+    let h = c .before .before .before .before .before .before in
+    let st = h .before .before in
+    omega (arith, h .loop .inv (st .pre .0 .0) (st .pre .0 .1) .way .few)
+
+loop-again : tie.Need-loop-again Inv-loop μ-loop
+loop-again c =
+    let f = c .before in
+    let o = f .before .before in
+    let h = o .before .before .before in
+    let b = h .before in
+    λ k q.
+    let w = h .loop .inv k q in
+    under-on _ _ w _ _ (o .open-round .ensures) _
+    (f .next-leaf .ensures _ (parts-searched _ _ (under-parts _ _ w _ _ (o .open-round .ensures)) _ (b .both .ensures))) (c .if1 .left)
+
+pub open-until-sent-spec : {M : Type 1} → statement M
+open-until-sent-spec =
+    tie.close
+    (tie.spec
+    Inv-loop
+    μ-loop
+    both-requires
+    loop-holds
+    open-round-requires
+    add-rounds
+    next-leaf-requires
+    returns
+    loop-less
+    loop-again)
