@@ -1,4 +1,3 @@
-pub mod Decimals
 pub mod Laying
 pub mod Outcomes
 pub mod Listing

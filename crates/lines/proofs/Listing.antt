@@ -2,7 +2,7 @@
 use mathlib.Core.List.{List, [], _∷_, map}
 use mathlib.Core.Path.{_≡_, refl}
 use Prim.Native.Nat.{ℕ}
-use Rattle.lines.specs.Decimal.{digitsIn, decimal}
+use Rattle.digits.specs.Decimal.{digitsIn, decimal}
 use Rattle.lines.specs.declared.Line.{Line}
 use Rattle.lines.specs.declared.Line.the-variants.{Link, In, No, Out, Nothing, End, Stop, Rate}
 use Rattle.lines.specs.Line.{bytesOf}

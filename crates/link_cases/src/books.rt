@@ -1,7 +1,7 @@
 // The books of a link record on a line: its place, active set and round size, and B and R of each class; they run, and are compared with
 // the written-down ones.
-use crate::output::number;
-use crate::output::word;
+use shown::number;
+use shown::word;
 use state::Account;
 use state::Link;
 

@@ -1,48 +1,12 @@
 // A value stored into one number of a link record, whatever it does to the link's soundness; it runs, and the answers are compared with
 // the written-down ones.
+use packed::stored::cut_8;
+use packed::stored::cut_16;
+use packed::stored::cut_32;
+use packed::stored::tree_number;
 use state::Link;
 use tree::Tree;
 use units::Bytes;
-use units::Weight;
-
-// A value cut to the width of its field.
-fn byte(value: u64) -> u8 {
-    (value % 256) as u8
-}
-
-fn length(value: u64) -> u16 {
-    (value % 65_536) as u16
-}
-
-fn word(value: u64) -> u32 {
-    (value % 4_294_967_296) as u32
-}
-
-// Fields 0 to 4: the count of classes or the leaves of the tree, or at a class number its parent, weight or longest packet.
-fn tree_number(mut tree: Tree, field: u64, i: usize, value: u64) -> Tree {
-    if field == 0 {
-        tree.count = value as usize;
-        return tree;
-    }
-    if field == 1 {
-        tree.leaves = value;
-        return tree;
-    }
-    if 63 < i {
-        return tree;
-    }
-    if field == 2 {
-        tree.parent[i] = byte(value);
-        return tree;
-    }
-    if field == 3 {
-        let w = Weight(word(value));
-        tree.weight[i] = w;
-        return tree;
-    }
-    tree.longest[i] = length(value);
-    tree
-}
 
 // The link with another tree, round size, active set or place.
 fn with_tree(mut link: Link, tree: Tree) -> Link {
@@ -80,10 +44,10 @@ fn class_number(mut link: Link, field: u64, i: usize, value: u64) -> Link {
         return link;
     }
     if field == 10 {
-        link.start[i] = byte(value);
+        link.start[i] = cut_8(value);
         return link;
     }
-    link.held[i] = byte(value);
+    link.held[i] = cut_8(value);
     link
 }
 
@@ -93,14 +57,14 @@ fn place_number(mut link: Link, field: u64, i: usize, value: u64) -> Link {
         return link;
     }
     if field == 12 {
-        link.lengths[i] = length(value);
+        link.lengths[i] = cut_16(value);
         return link;
     }
-    link.tags[i] = word(value);
+    link.tags[i] = cut_32(value);
     link
 }
 
-// Any field, by its number.
+// Any field, by its number: 0 to 4 are those of the tree.
 pub(crate) fn stored(link: Link, field: u64, i: usize, value: u64) -> Link {
     match field {
         0 | 1 | 2 | 3 | 4 => with_tree(link, tree_number(link.tree, field, i, value)),

@@ -1,20 +1,24 @@
 // Commands on one link record, a line for each answer: fresh links, arrivals, sends and soundness of any record of numbers (demands 1
 // and 2); it runs, and is compared with the written-down answers.
 mod books;
-mod bytes;
 mod fields;
-mod output;
 mod same;
 
 ghost use Prim.Native.Nat.{_<_, _≤_};
 ghost use Rattle.state.specs.Queue.{startOf, heldOf};
-use bytes::number_8;
-use bytes::number_16;
-use bytes::number_32;
-use bytes::number_64;
+use checks::Verdict;
 use libc::STDIN_FILENO;
-use output::number;
-use output::word;
+use link::Departure;
+use packed::command::next;
+use packed::command::number_8;
+use packed::command::number_16;
+use packed::command::number_32;
+use packed::command::number_64;
+use packed::command::part;
+use shown::either;
+use shown::number;
+use shown::pair;
+use shown::word;
 use state::Link;
 use state::Packet;
 use state::queue;
@@ -56,10 +60,15 @@ const SEND: u64 = 11;
 // The books of the record.
 const BOOKS: u64 = 12;
 
+// A word, then a verdict's number and place.
+fn print_verdict(text: &[u8], v: Verdict) {
+    pair(text, checks::number(v) as u64, checks::place(v) as u64);
+}
+
 // The name of a case.
 fn name(command: &[u8]) {
     word(b"# ");
-    word(bytes::part(command, 2, 2 + number_8(command, 1) as usize));
+    word(part(command, 2, 2 + number_8(command, 1) as usize));
     word(b"\n");
 }
 
@@ -68,7 +77,7 @@ fn fresh(tree: Tree) -> Link {
     let got = link::fresh(tree);
     let verdict = got.verdict;
     let after = got.link;
-    output::verdict(b"fresh ", verdict);
+    print_verdict(b"fresh ", verdict);
     number(b" size ", after.size.0);
     word(b"\n");
     after
@@ -76,7 +85,7 @@ fn fresh(tree: Tree) -> Link {
 
 // A fresh link of a plan's tree.
 fn plan(command: &[u8]) -> Link {
-    let read = plan::read_plan(bytes::part(command, 3, 3 + number_16(command, 1) as usize));
+    let read = plan::read_plan(part(command, 3, 3 + number_16(command, 1) as usize));
     fresh(read.tree)
 }
 
@@ -88,9 +97,9 @@ fn held(link: Link, class: usize) -> u64 {
     link.held[class] as u64
 }
 
-// Whether a call handed back the very same record; the record after it.
+// Whether a record is the very same as one before; the record after.
 fn compared(before: Link, after: Link) -> Link {
-    output::either(same::same_link(before, after), b" same\n", b" changed\n");
+    either(same::same_link(before, after), b" same\n", b" changed\n");
     after
 }
 
@@ -104,15 +113,14 @@ fn arrive(before: Link, command: &[u8]) -> Link {
     let answer = got.answer;
     let verdict = answer.verdict;
     let after = got.link;
-    output::verdict(b"in ", verdict);
+    print_verdict(b"in ", verdict);
     number(b" held ", held(after, class));
     compared(before, after)
 }
 
 // A packet that left.
 fn took(packet: Packet) {
-    number(b"took ", packet.length as u64);
-    number(b" ", packet.tag as u64);
+    pair(b"took ", packet.length as u64, packet.tag as u64);
     word(b"\n");
 }
 
@@ -161,30 +169,30 @@ fn store(before: Link, command: &[u8]) -> Link {
 
 // Whether the record is sound.
 fn sound(link: Link) -> Link {
-    output::either(sound::is_sound(link), b"sound yes\n", b"sound no\n");
+    either(sound::is_sound(link), b"sound yes\n", b"sound no\n");
     link
 }
 
 // Whether the record is the very same as the kept one.
 fn compare(link: Link, kept: Link) -> Link {
-    output::either(
-        same::same_link(link, kept),
-        b"kept same\n",
-        b"kept changed\n",
-    );
-    link
+    word(b"kept");
+    compared(kept, link)
+}
+
+// A send's answer.
+fn sent(answer: Departure) {
+    let verdict = answer.verdict;
+    print_verdict(b"out ", verdict);
+    number(b" class ", answer.class as u64);
+    number(b" length ", answer.length as u64);
+    number(b" tag ", answer.tag as u64);
+    number(b" rounds ", answer.rounds as u64);
 }
 
 // A send, and whether the record came back the very same.
 fn send(before: Link) -> Link {
     let got = link::send(before);
-    let answer = got.answer;
-    let verdict = answer.verdict;
-    output::verdict(b"out ", verdict);
-    number(b" class ", answer.class as u64);
-    number(b" length ", answer.length as u64);
-    number(b" tag ", answer.tag as u64);
-    number(b" rounds ", answer.rounds as u64);
+    sent(got.answer);
     compared(before, got.link)
 }
 
@@ -229,17 +237,6 @@ fn size(command: &[u8]) -> usize
         STORE => 12,
         _ => 1,
     }
-}
-
-// The place of the next command, at most the input's end.
-fn next(at: usize, size: usize, end: usize) -> usize
-    requires { ⌜ (1 ≤ size) × (at < end) ⌝ }
-    ensures { λ r. ⌜ (at < r) × (r ≤ end) ⌝ }
-{
-    if end - at <= size {
-        return end;
-    }
-    at + size
 }
 
 // Every command, one after the other, on one link record and a kept one.

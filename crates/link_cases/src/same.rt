@@ -1,5 +1,6 @@
 // Whether two link records are the very same, number by number, in all their waiting places; it runs, and is compared with the
 // written-down answers.
+ghost use Prim.Native.Nat.{_<_};
 use state::Account;
 use state::Link;
 use tree::Tree;
@@ -9,25 +10,22 @@ fn same_account(a: Account, b: Account) -> bool {
     (a.balance.0 == b.balance.0) & (a.residual.0 == b.residual.0)
 }
 
-// The same in every class number of the tree.
-fn same_classes(a: Tree, b: Tree) -> bool {
-    for i in 0..64 {
-        let x = a.weight[i];
-        let y = b.weight[i];
-        if (a.parent[i] != b.parent[i]) | (x.0 != y.0) | (a.longest[i] != b.longest[i]) {
-            return false;
-        }
-    }
-    true
+// The same class of a tree.
+fn same_class(a: Tree, b: Tree, i: usize) -> bool
+    requires { ⌜ i < 64 ⌝ }
+{
+    let x = a.weight[i];
+    let y = b.weight[i];
+    (a.parent[i] == b.parent[i]) & (x.0 == y.0) & (a.longest[i] == b.longest[i])
 }
 
-// The same in every account and every queue's start and count.
-fn same_queues(a: Link, b: Link) -> bool {
+// The same in every class number: its class, its account, and its queue's start and count.
+fn same_classes(a: Link, b: Link) -> bool {
+    let s = a.tree;
+    let t = b.tree;
     for i in 0..64 {
-        if !same_account(a.accounts[i], b.accounts[i]) {
-            return false;
-        }
-        if (a.start[i] != b.start[i]) | (a.held[i] != b.held[i]) {
+        let same = same_class(s, t, i) & same_account(a.accounts[i], b.accounts[i]);
+        if !same | (a.start[i] != b.start[i]) | (a.held[i] != b.held[i]) {
             return false;
         }
     }
@@ -44,12 +42,9 @@ fn same_places(a: Link, b: Link) -> bool {
     true
 }
 
-// The same tree.
+// The same count of classes and the same leaves.
 fn same_tree(a: Tree, b: Tree) -> bool {
-    if (a.count != b.count) | (a.leaves != b.leaves) {
-        return false;
-    }
-    same_classes(a, b)
+    (a.count == b.count) & (a.leaves == b.leaves)
 }
 
 // The same link record.
@@ -60,7 +55,7 @@ pub(crate) fn same_link(a: Link, b: Link) -> bool {
     if !same_tree(a.tree, b.tree) {
         return false;
     }
-    if !same_queues(a, b) {
+    if !same_classes(a, b) {
         return false;
     }
     same_places(a, b)

@@ -1,3 +1,2 @@
 pub mod Zips
 pub mod Openings
-pub mod Raised

@@ -1,28 +1,11 @@
--- The parts of a link that an opening is lent: accounts as two number arrays, and of an active set that is known the
--- weight sums, kept as one.
-use mathlib.Core.Bool.{true, _&&_}
+-- The parts of a link that an opening is lent: accounts as two number arrays.
 use mathlib.Core.List.{List, [], _∷_}
-use mathlib.Core.Path.{_≡_}
 use Prim.Native.Nat.{ℕ}
-use Rattle.sets.specs.Set.{has}
-use Rattle.tree.specs.declared.Tree.{Tree}
-use Rattle.tree.specs.Class.{isLeaf}
 use Rattle.state.specs.declared.Account.{Account}
 use Rattle.state.specs.Account.{account}
-use Rattle.state.specs.Queue.{table}
-use Rattle.rules.specs.Active.{upward, weightSum}
 
 -- the accounts with these balances and these residuals
 unfoldable pub zipAccounts : List ℕ → List ℕ → List Account
 zipAccounts [] rs = []
 zipAccounts (b ∷ bs) [] = []
 zipAccounts (b ∷ bs) (r ∷ rs) = account b r ∷ zipAccounts bs rs
-
--- a set of classes that is its leaves and every class above one
-abbrev pub Raised : Tree → ℕ → Type 0
-Raised t known = known ≡ upward t (λ i. isLeaf t i && has known i)
-
--- such a set that is known, with its weight sums kept as bare numbers; of a set without the root none are kept
-pub record Kept (t : Tree) (known : ℕ) (kept : List ℕ) : Type 0 where
-  pub raised : Raised t known
-  pub sums : has known 0 ≡ true → kept ≡ table (weightSum t known) 64

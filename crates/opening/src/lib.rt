@@ -1,7 +1,6 @@
-// A round opens: main or surplus, and what each account then shares out. Who is active with the weight sums, and the accounts as lent
-// arrays, stand in the modules. Named for specs/Opens. Serves demand 2.
+// A round opens: main or surplus, and what each account then shares out. The accounts as lent arrays stand in the module. Named for
+// specs/Opens. Serves demand 2.
 mod accounts;
-mod active;
 
 pub use accounts::account_of;
 pub use accounts::balances;
@@ -9,11 +8,6 @@ pub use accounts::keep;
 pub use accounts::keep_balance;
 pub use accounts::residuals;
 pub use accounts::zipped;
-pub use active::round_active;
-pub use active::sums_of;
-pub use active::weight_numbers;
-pub use active::weight_sums;
-pub use active::weights_of;
 ghost use mathlib.Core.Path.{_≡_};
 ghost use mathlib.Core.Bool.{not, _&&_};
 ghost use Prim.Native.Nat.{_*_, _≤_};

@@ -17,8 +17,8 @@ use Rattle.state.specs.declared.Link.{Link}
 use Rattle.sound.specs.Sound.{SoundLink}
 use Rattle.lines.specs.declared.Line.{Line}
 use Rattle.lines.specs.Line.{bytesOf, lineRoom}
-use Rattle.lines.specs.Laid.{LaidAt}
-use Rattle.lines.proofs.Laying.{over-none, over-start, laid-then, laid-length}
+use Rattle.digits.specs.Laid.{LaidAt}
+use Rattle.digits.proofs.Laying.{over-none, over-start, laid-then, laid-length}
 use Rattle.parts.specs.declared.PartRun.{PartRun}
 use Rattle.run.specs.declared.Step.{Step}
 use Rattle.run.specs.Event.{stepOf, GoesOn}

@@ -13,7 +13,7 @@ use Rattle.calls.specs.Run.{arrival, send, linkLeft, makes}
 use Rattle.lines.specs.declared.Line.{Line}
 use Rattle.lines.specs.declared.Line.the-variants.{Out, Nothing}
 use Rattle.lines.specs.Line.{bytesOf, lineRoom}
-use Rattle.lines.specs.Laid.{LaidAt}
+use Rattle.digits.specs.Laid.{LaidAt}
 use Rattle.steps.specs.declared.Went.{Went}
 use Rattle.parts.specs.declared.in_place.Did.{Did}
 use Rattle.run.specs.Event.{packetIn, callLine, GoesOn}

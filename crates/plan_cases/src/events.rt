@@ -1,12 +1,13 @@
 // What the event reader answers; it runs, and is compared with the written-down answers.
 ghost use Prim.Native.Nat.{_≤_};
-use crate::bytes::from;
-use crate::bytes::number_16;
-use crate::output::number;
 use crate::output::refusal;
-use crate::output::word;
+use crate::texts::from;
+use packed::command::number_16;
 use plan::Arrived;
 use plan::EventRead;
+use shown::number;
+use shown::pair;
+use shown::word;
 
 // The bytes that an event takes.
 fn size(event: EventRead) -> usize
@@ -23,8 +24,7 @@ fn size(event: EventRead) -> usize
 // An arrival's class, length and tag.
 fn arrival(a: Arrived) {
     number(b": arrive ", a.class as u64);
-    number(b" ", a.length as u64);
-    number(b" ", a.tag as u64);
+    pair(b" ", a.length as u64, a.tag as u64);
 }
 
 // The answer to an event, and the bytes used.

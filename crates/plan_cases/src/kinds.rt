@@ -1,13 +1,13 @@
 // Unknown kinds, in a plan and among events, counted; any other answer is printed.
 // They run, and are compared with the written-down answers.
-use crate::bytes::from;
-use crate::bytes::number_8;
-use crate::bytes::number_16;
-use crate::output::number;
 use crate::output::refusal;
-use crate::output::word;
+use crate::texts::from;
 use checks::Verdict;
+use packed::command::number_8;
+use packed::command::number_16;
 use plan::EventRead;
+use shown::number;
+use shown::word;
 
 // Whether a verdict is 2 at a place.
 fn is_unknown(v: Verdict, place: usize) -> bool {

@@ -1,17 +1,17 @@
 // Named cases of the plan rules and the readers (R21 to R67), packed as commands: each is run, and its lines are compared with the
 // written-down ones. Serves demand 1: what the plan reader, the event reader and the plan rules say. The cases are edited in
 // second/plan_cases.txt.
-mod bytes;
 mod events;
 mod kinds;
 mod output;
 mod plans;
+mod texts;
 mod trees;
 
-ghost use Prim.Native.Nat.{_≤_, _<_};
-use bytes::number_8;
 use libc::STDIN_FILENO;
-use output::word;
+use packed::command::next;
+use packed::command::number_8;
+use shown::word;
 use tree::Tree;
 
 // Commands by their first bytes; then a name (length 1, text) and a body (length 2, bytes). A remark: its name on a line.
@@ -75,24 +75,13 @@ fn count_after(count: u64, command: u64, name: &[u8], body: &[u8]) -> u64 {
 }
 
 // What a command does that leaves tree and count alone.
-fn shown(command: u64, name: &[u8], body: &[u8]) {
+fn print_only(command: u64, name: &[u8], body: &[u8]) {
     match command {
         REMARK => remark(name),
         EVENT => events::single(name, body),
         EVENTS => events::plan_and_events(name, body),
         _ => (),
     }
-}
-
-// The place of the next command, at most the input's end.
-fn next(at: usize, size: usize, end: usize) -> usize
-    requires { ⌜ (1 ≤ size) × (at < end) ⌝ }
-    ensures { λ r. ⌜ (at < r) × (r ≤ end) ⌝ }
-{
-    if end - at <= size {
-        return end;
-    }
-    at + size
 }
 
 // Every command, one after the other.
@@ -103,12 +92,12 @@ fn run(input: &[u8]) {
     while at < input.len() {
         let rest = &input[at..];
         let command = number_8(rest, 0);
-        let name = bytes::name(rest);
-        let body = bytes::body(rest);
-        shown(command, name, body);
+        let name = texts::name(rest);
+        let body = texts::body(rest);
+        print_only(command, name, body);
         tree = after(tree, command, name, body);
         count = count_after(count, command, name, body);
-        at = next(at, bytes::size(rest), input.len());
+        at = next(at, texts::size(rest), input.len());
     }
 }
 

@@ -1,6 +1,7 @@
 // What the reader says of a plan; it runs, and is compared with the written-down answers.
-use crate::output::number;
-use crate::output::word;
+use shown::number;
+use shown::pair;
+use shown::word;
 use tree::Tree;
 
 // The round size Q, where the tree obeys the plan rules.
@@ -22,10 +23,12 @@ pub(crate) fn answer(name: &[u8], input: &[u8]) -> Tree {
     let verdict = read.verdict;
     let tree = read.tree;
     word(name);
-    number(b": ", checks::number(verdict) as u64);
-    number(b" ", checks::place(verdict) as u64);
-    number(b" ", read.used as u64);
-    number(b" ", tree.count as u64);
+    pair(
+        b": ",
+        checks::number(verdict) as u64,
+        checks::place(verdict) as u64,
+    );
+    pair(b" ", read.used as u64, tree.count as u64);
     round_size(tree);
     word(b"\n");
     tree

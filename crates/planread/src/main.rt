@@ -3,24 +3,14 @@
 ghost use Prim.Native.Nat.{_<_};
 use checks::Verdict;
 use libc::STDIN_FILENO;
-use libc::STDOUT_FILENO;
+use shown::number;
+use shown::pair;
+use shown::word;
 use tree::Tree;
-
-// A word.
-fn word(text: &[u8]) {
-    io::write_all(STDOUT_FILENO, text);
-}
-
-// A word, then a number.
-fn number(text: &[u8], n: u64) {
-    word(text);
-    io::print_decimal(STDOUT_FILENO, n);
-}
 
 // A refusal's number and place.
 fn stop(n: u8, place: usize) {
-    number(b"stop ", n as u64);
-    number(b" ", place as u64);
+    pair(b"stop ", n as u64, place as u64);
     word(b"\n");
 }
 

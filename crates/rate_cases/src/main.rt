@@ -7,8 +7,8 @@ ghost use lib.ListN.{length};
 use allot::Allotted;
 use checks::Verdict;
 use libc::STDIN_FILENO;
-use libc::STDOUT_FILENO;
 use lines::Line;
+use shown::word;
 use tree::Class;
 use tree::Tree;
 use units::Weight;
@@ -19,11 +19,6 @@ struct Case {
     tree: Tree,
     capacity: u64,
     requests: [u64; Tree::CLASSES],
-}
-
-// Prints a text.
-fn word(text: &[u8]) {
-    io::write_all(STDOUT_FILENO, text);
 }
 
 // The place after the next space, or the end.

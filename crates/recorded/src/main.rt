@@ -2,9 +2,11 @@
 // a sum over their bytes. The expected sums are those of the second program's lines (bin/record writes both files). Serves demands 1 and 2.
 ghost use Prim.Native.Nat.{_<_};
 use libc::STDIN_FILENO;
-use libc::STDOUT_FILENO;
 use lines::Line;
 use parts::PartRun;
+use shown::number;
+use shown::word;
+use tree::wide;
 
 // What was printed of a run so far: its lines, and a sum in which each byte counts by its place.
 struct Tally {
@@ -69,29 +71,16 @@ fn whole(input: &[u8]) -> Tally {
     tally
 }
 
-// A word and a number.
-fn number(text: &[u8], n: u64) {
-    io::write_all(STDOUT_FILENO, text);
-    io::print_decimal(STDOUT_FILENO, n);
-}
-
 // The line of a run.
 fn show(k: usize, tally: Tally) {
     number(b"run ", k as u64);
     number(b" lines ", tally.lines);
     number(b" sum ", tally.sum);
-    io::write_all(STDOUT_FILENO, b"\n");
+    word(b"\n");
 }
 
 // The most inputs.
 const RUNS: usize = 10_000;
-
-// A byte, wide.
-fn wide(byte: u8) -> usize
-    ensures { λ r. ⌜ r < 256 ⌝ }
-{
-    byte as usize
-}
 
 // The length of the next input plus 1, at most what is refused as too long; 0 where there is none.
 fn next_length() -> usize

@@ -25,7 +25,7 @@ use Rattle.rules.proofs.Meanings.{meaning-wide, opened-means, opened-link-sound
 use Rattle.opening.specs.Parts.{zipAccounts}
 use Rattle.steps.specs.Parts.{lentLink, Searched}
 use Rattle.opening.proofs.Zips.{zip-at}
-pub use Rattle.opening.proofs.Raised.{raised-none, raised-round}
+pub use Rattle.active.proofs.Raised.{raised-none, raised-round}
 use Rattle.steps.specs.Rounds.{InParts, Unseen, Opens, closedLink, openLink}
 
 -- what the search and the sender ask of parts

@@ -17,7 +17,7 @@ use Rattle.rules.specs.Steps.{OnTheWay}
 use Rattle.rules.specs.Waits.{Waits}
 use Rattle.rules.specs.After.{Sent, sentBy}
 use Rattle.opening.specs.Parts.{zipAccounts}
-pub use Rattle.opening.specs.Parts.{Raised, Kept}
+pub use Rattle.active.specs.Known.{Raised, Kept}
 use Rattle.steps.specs.declared.leaf.Gone.{Gone}
 use Rattle.steps.specs.declared.reopening.Found.{Found}
 use Rattle.steps.specs.declared.Went.{Went}

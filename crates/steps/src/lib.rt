@@ -1,19 +1,19 @@
 // The steps of a link over lent number arrays: a whole send, and the same on values. What they are made of stands in the modules, and in
-// `opening` what opens a round.
+// `active` and `opening` what opens a round.
 // Serves demand 2: a packet goes by R119 to R146.
 mod arrival;
 mod inactive;
 mod leaf;
 mod reopening;
 
+pub use active::round_active;
+pub use active::weight_numbers;
+pub use active::weight_sums;
 pub use arrival::arrive;
 pub use arrival::judge;
 pub use opening::balances;
 pub use opening::open_round;
 pub use opening::residuals;
-pub use opening::round_active;
-pub use opening::weight_numbers;
-pub use opening::weight_sums;
 pub use opening::zipped;
 ghost use mathlib.Core.Path.{_≡_};
 ghost use mathlib.Core.List.{List};

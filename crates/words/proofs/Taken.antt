@@ -12,8 +12,8 @@ use lib.Dec.{eqb, leb}
 use lib.ListN.{length, take, drop, getD}
 use lib.Seq.{split-at, take-append-seam, drop-append-add}
 use Rattle.bytes.specs.Bytes.{indexOf, indexAfter}
-use Rattle.lines.specs.Decimal.{decimal}
-use Rattle.lines.proofs.Decimals.{AllDigits, value, decimal-digits, decimal-value, decimal-zero, decimal-leading}
+use Rattle.digits.specs.Decimal.{decimal}
+use Rattle.digits.proofs.Decimals.{AllDigits, value, decimal-digits, decimal-value, decimal-zero, decimal-leading}
 use Rattle.words.specs.declared.Number.{Number}
 use Rattle.words.specs.declared.Number.the-variants.{Is, No}
 use Rattle.words.specs.declared.Pair.the-variants.{Asks, Other}

@@ -2,7 +2,8 @@
 use mathlib.Core.List.{[]}
 use native.Mathlib.Omega.{arith}
 use Rattle.lines.specs.Laid.{endOf}
-use Rattle.lines.proofs.Laying.{laid-byte, laid-end}
+use Rattle.digits.proofs.Laying.{laid-byte}
+use Rattle.lines.proofs.Laying.{laid-end}
 use borrow.Author.Needs.{needs}
 use Rattle.lines.proofs.put_last.Statement.{statement}
 use Rattle.lines.proofs.put_last.Tie as tie

@@ -3,8 +3,8 @@ use mathlib.Core.Path.{_∙_}
 use native.Mathlib.Omega.{arith}
 use denote.Ref.{now}
 use lib.ListN.{length-set}
-use Rattle.lines.proofs.Decimals.{decimal-most}
-use Rattle.lines.proofs.Laying.{laid-byte, laid-then}
+use Rattle.digits.proofs.Decimals.{decimal-most}
+use Rattle.digits.proofs.Laying.{laid-byte, laid-then}
 use borrow.Author.Needs.{needs}
 use Rattle.lines.proofs.put_number.Statement.{statement}
 use Rattle.lines.proofs.put_number.Tie as tie

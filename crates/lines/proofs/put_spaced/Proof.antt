@@ -6,8 +6,8 @@ use native.Mathlib.Omega.{arith}
 use denote.Ref.{now}
 use lib.ListN.{set}
 use lib.Seq.{lt-length-set}
-use Rattle.lines.proofs.Decimals.{decimal-small}
-use Rattle.lines.proofs.Laying.{laid-byte, laid-as}
+use Rattle.digits.proofs.Decimals.{decimal-small}
+use Rattle.digits.proofs.Laying.{laid-byte, laid-as}
 use borrow.Author.Needs.{needs}
 use Rattle.lines.proofs.put_spaced.Statement.{statement}
 use Rattle.lines.proofs.put_spaced.Tie as tie

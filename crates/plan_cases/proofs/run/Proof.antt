@@ -35,8 +35,8 @@ name-requires c κs = tt
 body-requires : tie.Need-body-requires Inv-loop μ-loop
 body-requires c κs = tt
 
-shown-requires : tie.Need-shown-requires Inv-loop μ-loop
-shown-requires c κs = tt
+print-only-requires : tie.Need-print-only-requires Inv-loop μ-loop
+print-only-requires c κs = tt
 
 after-requires : tie.Need-after-requires Inv-loop μ-loop
 after-requires c κs = tt
@@ -73,7 +73,7 @@ run-spec =
     number-8-requires
     name-requires
     body-requires
-    shown-requires
+    print-only-requires
     after-requires
     count-after-requires
     size-requires

@@ -5,25 +5,31 @@ use Rattle.link_cases.proofs.same.same_classes.Statement.{statement}
 use Rattle.link_cases.proofs.same.same_classes.Tie as tie
 
 abbrev Inv-loop : tie.InvT-loop
-Inv-loop a b i₀ i = Unit {0}
+Inv-loop a b s t i₀ i = Unit {0}
 
 abbrev μ-loop : tie.MeasureT-loop
-μ-loop a b i₀ i = 64 - i
+μ-loop a b s t i₀ i = 64 - i
 
 loop-holds : tie.Need-loop-holds Inv-loop μ-loop
 loop-holds c = tt
 
-mul-x : tie.Need-mul-x Inv-loop μ-loop
-mul-x c = omega arith
+same-class-requires : tie.Need-same-class-requires Inv-loop μ-loop
+same-class-requires c κs = omega arith
 
-element-copy-out-x : tie.Need-element-copy-out-x Inv-loop μ-loop
-element-copy-out-x c = omega arith
+mul-same-account : tie.Need-mul-same-account Inv-loop μ-loop
+mul-same-account c = omega arith
 
-mul-y : tie.Need-mul-y Inv-loop μ-loop
-mul-y c = omega arith
+element-copy-out-same-account : tie.Need-element-copy-out-same-account Inv-loop μ-loop
+element-copy-out-same-account c = omega arith
 
-element-copy-out-y : tie.Need-element-copy-out-y Inv-loop μ-loop
-element-copy-out-y c = omega arith
+mul-same-account-2 : tie.Need-mul-same-account-2 Inv-loop μ-loop
+mul-same-account-2 c = omega arith
+
+element-copy-out-same-account-2 : tie.Need-element-copy-out-same-account-2 Inv-loop μ-loop
+element-copy-out-same-account-2 c = omega arith
+
+same-account-requires : tie.Need-same-account-requires Inv-loop μ-loop
+same-account-requires c κs = tt
 
 element-copy-out-if1 : tie.Need-element-copy-out-if1 Inv-loop μ-loop
 element-copy-out-if1 c = omega arith
@@ -31,14 +37,8 @@ element-copy-out-if1 c = omega arith
 element-copy-out-if1-2 : tie.Need-element-copy-out-if1-2 Inv-loop μ-loop
 element-copy-out-if1-2 c = omega arith
 
-mul-if1 : tie.Need-mul-if1 Inv-loop μ-loop
-mul-if1 c = omega arith
-
 element-copy-out-if1-3 : tie.Need-element-copy-out-if1-3 Inv-loop μ-loop
 element-copy-out-if1-3 c = omega arith
-
-mul-if1-2 : tie.Need-mul-if1-2 Inv-loop μ-loop
-mul-if1-2 c = omega arith
 
 element-copy-out-if1-4 : tie.Need-element-copy-out-if1-4 Inv-loop μ-loop
 element-copy-out-if1-4 c = omega arith
@@ -65,15 +65,15 @@ same-classes-spec =
     Inv-loop
     μ-loop
     loop-holds
-    mul-x
-    element-copy-out-x
-    mul-y
-    element-copy-out-y
+    same-class-requires
+    mul-same-account
+    element-copy-out-same-account
+    mul-same-account-2
+    element-copy-out-same-account-2
+    same-account-requires
     element-copy-out-if1
     element-copy-out-if1-2
-    mul-if1
     element-copy-out-if1-3
-    mul-if1-2
     element-copy-out-if1-4
     returns
     add-i

@@ -1,0 +1,42 @@
+// A value stored into one number of a tree, whatever that does to the plan rules.
+use tree::Tree;
+use units::Weight;
+
+// A value cut to the width of its field.
+pub fn cut_8(value: u64) -> u8 {
+    (value % 256) as u8
+}
+
+pub fn cut_16(value: u64) -> u16 {
+    (value % 65_536) as u16
+}
+
+pub fn cut_32(value: u64) -> u32 {
+    (value % 4_294_967_296) as u32
+}
+
+// Fields 0 to 4: the count of classes or the leaves of the tree, or at a class number its parent, weight or longest packet.
+pub fn tree_number(mut tree: Tree, field: u64, i: usize, value: u64) -> Tree {
+    if field == 0 {
+        tree.count = value as usize;
+        return tree;
+    }
+    if field == 1 {
+        tree.leaves = value;
+        return tree;
+    }
+    if 63 < i {
+        return tree;
+    }
+    if field == 2 {
+        tree.parent[i] = cut_8(value);
+        return tree;
+    }
+    if field == 3 {
+        let w = Weight(cut_32(value));
+        tree.weight[i] = w;
+        return tree;
+    }
+    tree.longest[i] = cut_16(value);
+    tree
+}
