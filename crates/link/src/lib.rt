@@ -27,22 +27,23 @@ use steps::Moved;
 use tree::Tree;
 use units::Bytes;
 
-// An arrival over the parts of a link: its answer, the packets held after it, and the waiting place where the packet goes; 2,048, which is
-// no place, where it is refused.
+// An arrival over the parts of a link: the packets held after it, the waiting place where the packet goes, 2,048, which is no place, where
+// it is refused, and its answer. The answer stands last, here and below: the walks of the lent entries count bytes, and no other place
+// moves when it gets a field.
 pub struct Placed {
-    pub answer: Arrival,
     pub held: [u8; Link::CLASSES],
     pub at: usize,
+    pub answer: Arrival,
 }
 
-// A send over the parts of a link: its answer, and the parts that it may change.
+// A send over the parts of a link: the parts that it may change, and its answer.
 pub struct Changed {
-    pub answer: Departure,
     pub active: u64,
     pub place: usize,
     pub accounts: [Account; Link::CLASSES],
     pub start: [u8; Link::CLASSES],
     pub held: [u8; Link::CLASSES],
+    pub answer: Departure,
 }
 
 // A fresh link of a tree, any tree.

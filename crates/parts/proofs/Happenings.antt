@@ -28,7 +28,7 @@ use Rattle.calls.specs.declared.AfterArrival.{AfterArrival}
 use Rattle.calls.specs.declared.Departure.{Departure}
 use Rattle.calls.specs.declared.AfterSend.{AfterSend}
 use Rattle.calls.specs.Arrival.{arrivalChecks, arrivalGives, arrivalOf, arrivalAnswer, arrivalLeaves}
-use Rattle.calls.specs.Send.{sendOf, sendLeaves}
+use Rattle.calls.specs.Send.{goes, refused, sendOf, sendLeaves}
 use Rattle.calls.specs.Run.{Call, arrival, send, linkLeft, makes}
 use Rattle.calls.proofs.Arrivals.{arrival-shaped}
 use Rattle.calls.proofs.Departures.{send-unsound, send-goes, send-nothing, send-shaped}
@@ -92,13 +92,8 @@ arrives-in-place sound l a v line at before r out after exactly j e lays =
 
 -- what the call gives, of what the step gives
 abbrev answerOf : Bool → ℕ → Packet → ℕ → Departure
-answerOf some class p rounds = record {
-  verdict = cond some Passed (Refused 15 0);
-  class = class;
-  length = p .length;
-  tag = p .tag;
-  rounds = rounds;
-}
+answerOf true class p rounds = goes class p rounds
+answerOf false class p rounds = refused (Refused 15 0)
 
 abbrev departureOf : Bool → Went → Link → AfterSend
 departureOf some w after = sendLeaves (answerOf some (w .class) (w .packet) (w .rounds)) after

@@ -134,7 +134,7 @@ module _ {M : Type 1} (𝓤 : URA M) (H : Heap 𝓤) (A : Atoms 𝓤) (W : Given
       → Fits 8 (w .1) → Known (after r w)
   known-after is r w isr isx isy =
       let ps = parts-of h is in
-      let held = placed-of r isr .1 .0 in
+      let held = placed-of r isr .0 in
       LL.owes L.the-type L′.the-laws (after r w)
       (ps .0, (ps .1 .0, (ps .1 .1 .0, (ps .1 .1 .1 .0, (ps .1 .1 .1 .1 .0, (ps .1 .1 .1 .1 .1 .0, (held, (isx, (isy, tt)))))))))
 
@@ -240,12 +240,12 @@ module _ {M : Type 1} (𝓤 : URA M) (H : Heap 𝓤) (A : Atoms 𝓤) (W : Given
         land ! (from ! (stop !)) (init ! 34 refl (LL.lawful S.the-type S′.the-laws 𝓤 H A W .typed r _ is₁ .0)) $
         rewrite ! 34 (λ (us : List Val). ‵ (fat fullShare S′.mir l₄ zero (only us))) (LL.tells S.the-type S′.the-laws r (v ∷ []) is₁) refl $
         come-back ! tt (w .0) (w .1) b o (λ isx isy. move ! (2 ∷ 3 ∷ 4 ∷ 5 ∷ 6 ∷ 7 ∷ 8 ∷ 0 ∷ 1 ∷ []) $
-        assigns ! (of-opd ! (load ! (from ! (fld ! {τ = type-at 6} {d = 16} refl (stop !)))
-        (look-in ! 31 {τ = type-at 6} (sub ! 1 {τ = type-at 6} {d = 16} refl (whole !)))))
+        assigns ! (of-opd ! (load ! (from ! (fld ! {τ = type-at 6} {d = 0} refl (stop !)))
+        (look-in ! 31 {τ = type-at 6} (sub ! 0 {τ = type-at 6} {d = 0} refl (whole !)))))
         (from ! (hop ! (look ! 37 refl) (fld ! {τ = type-at 6} {d = 1_576} refl (stop !))))
-        (store-raw ! 6 {τ = type-at 6} refl (typed 𝓤 H A W 6 (r .held) (ws .1 .0) .0)) $
-        assigns ! (of-opd ! (load ! (from ! (fld ! {d = 0} refl (stop !))) (look-in ! 31 (sub ! 0 {d = 0} refl (whole !)))))
-        (from ! (stop !)) (init ! 39 refl (LL.lawful N.the-type N′.the-laws 𝓤 H A W .typed (r .answer) _ (ws .0) .0)) $
+        (store-raw ! 6 {τ = type-at 6} refl (typed 𝓤 H A W 6 (r .held) (ws .0) .0)) $
+        assigns ! (of-opd ! (load ! (from ! (fld ! {d = 72} refl (stop !))) (look-in ! 31 (sub ! 2 {d = 72} refl (whole !)))))
+        (from ! (stop !)) (init ! 39 refl (LL.lawful N.the-type N′.the-laws 𝓤 H A W .typed (r .answer) _ (ws .1 .1 .0) .0)) $
         together ! (after r w) b o $ closed ! tt (after r w) (known-after is r w isr isx isy) b o $
         -- [obs; the borrow; the token; _13; …; _0; …]
         returns ! (look ! 29 refl) $ forget ! 3 refl $ forget ! 5 refl $ forget ! 7 refl $ forget ! 9 refl $ forget ! 11 refl $
@@ -255,7 +255,7 @@ module _ {M : Type 1} (𝓤 : URA M) (H : Heap 𝓤) (A : Atoms 𝓤) (W : Given
         free1 ! $ move ! (21 ∷ 22 ∷ []) $ free1 ! $ move ! (19 ∷ 20 ∷ []) $ free1 ! $ move ! (17 ∷ 18 ∷ []) $ free1 ! $
         move ! (15 ∷ 16 ∷ []) $ free1 ! $ move ! (13 ∷ 14 ∷ []) $ free1 ! $ move ! (11 ∷ 12 ∷ []) $ free1 ! $ move ! (9 ∷ 10 ∷ []) $
         free1 ! $ move ! (7 ∷ 8 ∷ []) $ free1 ! $ move ! (5 ∷ 6 ∷ []) $ free1 ! $ move ! (3 ∷ 4 ∷ []) $ free1 ! $ free0 ! $
-        keep ! (0 ∷ 1 ∷ 2 ∷ []) $ by ! (exits r w (arrived is r w e) (ws .0)))))))))))))))))))))
+        keep ! (0 ∷ 1 ∷ 2 ∷ []) $ by ! (exits r w (arrived is r w e) (ws .1 .1 .0)))))))))))))))))))))
 
 module _ {M : Type 1} (𝓤 : URA M) (H : Heap 𝓤) (A : Atoms 𝓤) (W : Given 𝓤 H A) (at-mem : Memory → SProp 𝓤) (run : Routine → Fun 𝓤) where
   lent-walks : (C : Calls 𝓤 H) (Λ : Loops 𝓤 H) → FmC 𝓤 H (W .laws) C → Triple 𝓤 (C #core) (Core 𝓤 H A W at-mem run)
