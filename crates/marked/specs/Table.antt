@@ -8,7 +8,6 @@ use Rattle.state.specs.Queue.{table}
 use Rattle.rules.specs.Opening.{main, surplus}
 use Rattle.calls.specs.declared.Arrival.{Arrival}
 use Rattle.calls.specs.declared.Departure.{Departure}
-use Rattle.calls.specs.Send.{goes, refused as notSent}
 use Rattle.calls.specs.Run.{arrival as arrives, send as sends}
 use Rattle.marked.specs.Run.{Read, opening, show, end, Accounts, Opening, Shown, Ask, call, look, Exchange, _⟶_, Entry}
 
@@ -39,10 +38,10 @@ abbrev refused : ℕ → ℕ → Arrival
 refused number place = record { verdict = Refused number place }
 
 abbrev out : ℕ → ℕ → ℕ → ℕ → Departure
-out class length tag rounds = goes class (record { length = length; tag = tag }) rounds
+out class length tag rounds = record { verdict = Passed; class = class; length = length; tag = tag; rounds = rounds }
 
 abbrev none : Departure
-none = notSent (Refused 15 0)
+none = record { verdict = Refused 15 0; class = 0; length = 0; tag = 0; rounds = 0 }
 
 -- who is active, and the accounts
 abbrev shown : List ℕ → Accounts → Shown

@@ -1,17 +1,25 @@
 // A value stored into one number of a tree, whatever that does to the plan rules.
+ghost use mathlib.Core.Path.{_≡_};
+ghost use Prim.Native.Nat.{_%_};
 use tree::Tree;
 use units::Weight;
 
 // A value cut to the width of its field.
-pub fn cut_8(value: u64) -> u8 {
+pub fn cut_8(value: u64) -> u8
+    ensures { λ r. ⌜ r ≡ value % 256 ⌝ }
+{
     (value % 256) as u8
 }
 
-pub fn cut_16(value: u64) -> u16 {
+pub fn cut_16(value: u64) -> u16
+    ensures { λ r. ⌜ r ≡ value % 65_536 ⌝ }
+{
     (value % 65_536) as u16
 }
 
-pub fn cut_32(value: u64) -> u32 {
+pub fn cut_32(value: u64) -> u32
+    ensures { λ r. ⌜ r ≡ value % 4_294_967_296 ⌝ }
+{
     (value % 4_294_967_296) as u32
 }
 
