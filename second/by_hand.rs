@@ -57,6 +57,21 @@ fn weights(link: &Link, class: usize) -> Vec<u64> {
     link.active_children(class).iter().map(|&c| link.tree.classes[c].weight).collect()
 }
 
+/// Under rule 2, what an opening makes of the size in force; `link` is the state after it.
+fn size_in_force(before: &Link, link: &Link, surplus: bool) -> String {
+    if surplus {
+        assert_eq!(link.in_force, before.in_force, "a surplus round leaves the size");
+        return format!("**Size in force.** It stays {}.", link.in_force);
+    }
+    let classes = active(link);
+    let weights: Vec<u64> = classes.iter().filter(|&&c| c != ROOT).map(|&c| link.tree.classes[c].weight).collect();
+    let longest: Vec<u64> = classes.iter().filter(|&&c| link.tree.is_leaf(c)).map(|&c| charge(link.tree.classes[c].longest)).collect();
+    let (of_weights, of_longest) = (weights.iter().sum::<u64>(), longest.iter().sum::<u64>());
+    assert_eq!(link.in_force, add(of_weights, of_longest), "the size in force");
+    let (weights, longest, all) = (sum(&weights), sum(&longest), sum(&[of_weights, of_longest]));
+    format!("**Size in force.** Active weights {weights}, longest packets charged {longest}: {all}; before it was {}.", before.in_force)
+}
+
 /// The class numbers that are active.
 fn active(link: &Link) -> Vec<usize> {
     link.numbers().filter(|&c| link.active[c]).collect()
@@ -201,6 +216,9 @@ impl Page {
             words.push(format!("Class {class}: B + R = {} is {relation} W = {weights}.", sum(&[balance, residual])));
         }
         words.push(if opening.surplus { "Surplus round: the root's account stays." } else { "Main round." }.to_string());
+        if link.tree.rule == ACTIVE_CLASSES {
+            words.push(size_in_force(&before, link, opening.surplus));
+        }
         self.say(&words.join(" "));
         self.lines.extend(["| Class | X | W | F | Hands down | Keeps |".to_string(), "|---|---|---|---|---|---|".to_string()]);
         for class in active(link).into_iter().filter(|&c| !link.tree.is_leaf(c) && !(opening.surplus && c == ROOT)) {
@@ -218,7 +236,14 @@ impl Page {
             let Class { parent, weight, .. } = link.tree.classes[class];
             parts.push(mul(weight, opening.quotas[parent]));
         }
-        let (has, weight, quota) = (parts.iter().sum::<u64>(), link.active_weight_sum(class), opening.quotas[class]);
+        let (mut has, mut has_words) = (parts.iter().sum::<u64>(), sum(&parts));
+        if class == ROOT && link.tree.rule == ACTIVE_CLASSES {
+            // "the root takes the difference once its residual has joined its balance"
+            let (new, old) = (link.in_force, before.in_force);
+            has = sub(add(has, new), old);
+            has_words = format!("{balance} + {residual} + {new} − {old} = {has}");
+        }
+        let (weight, quota) = (link.active_weight_sum(class), opening.quotas[class]);
         let given = mul(quota, weight);
         let mut gets = Vec::new();
         for child in link.active_children(class) {
@@ -231,7 +256,7 @@ impl Page {
         let sign = if given == has { '=' } else { '→' };
         let cells = [
             if class == ROOT { "root".to_string() } else { class.to_string() },
-            sum(&parts),
+            has_words,
             sum(&weights(link, class)),
             format!("{has} ÷ {weight} {sign} {quota}"),
             format!("{quota} × {weight} = {given}: {}", gets.join("; ")),
@@ -404,6 +429,31 @@ mod tests {
             "| 3 | 3 | 84 + 84 = 168 | 2 | (84 + 1) × 262 = 22270 | 84 + 84 + 84 + 84 = 336 |",
         ];
         assert_eq!(waits(include_bytes!("tree_p.bin"), 1), rows);
+    }
+
+    /// The size in force at each opening of the listing under rule 2, and what the root then has; a surplus round leaves the size.
+    #[test]
+    fn sizes_under_rule_2() {
+        let input = [&[3, 2][..], include_bytes!("tree_p.bin")].concat();
+        let text = tables(&input, 1, 1).join(" ");
+        let all = "Active weights 3 + 1 + 2 + 4 = 10, longest packets charged 84 + 84 + 84 = 252: 10 + 252 = 262; before it was 262.";
+        let fewer = "Active weights 3 + 1 + 2 = 6, longest packets charged 84 + 84 = 168: 6 + 168 = 174; before it was 262.";
+        let same = "Active weights 3 + 1 + 2 = 6, longest packets charged 84 + 84 = 168: 6 + 168 = 174; before it was 174.";
+        let sizes = [all, fewer, same].map(|size| text.find(&format!("**Size in force.** {size}")).expect(size));
+        assert!(sizes.is_sorted() && text.matches("**Size in force.**").count() == 3);
+        assert!(text.contains("| root | 87 + 64 + 174 − 262 = 63 | 3 | 63 ÷ 3 = 21 | 21 × 3 = 63: class 1 gets 3 × 21 = 63 | 63 − 63 = 0 |"));
+        assert!(text.contains("| root | 84 + 0 + 174 − 174 = 84 | 3 | 84 ÷ 3 = 28 | 28 × 3 = 84: class 1 gets 3 × 28 = 84 | 84 − 84 = 0 |"));
+        // leaf 2 gets two packets and leaf 3 one: the second send's round is a surplus round
+        let mut input = input[..33].to_vec();
+        for (class, tag) in [(2, 1), (2, 2), (3, 3)] {
+            input.extend([16, class, 0, 10, 0, 0, 0, tag]);
+        }
+        input.extend([17, 17, 17]);
+        let text = tables(&input, 1, 1).join(" ");
+        assert!(text.contains("Surplus round: the root's account stays. **Size in force.** It stays 174."));
+        assert!(text.contains("| root | 168 + 0 + 88 − 174 = 82 | 3 | 82 ÷ 3 → 27 | 27 × 3 = 81: class 1 gets 3 × 27 = 81 | 82 − 81 = 1 |"));
+        // "Demand 3 keeps the whole-tree Q under both rules"
+        assert_eq!(waits(&input, 1)[0], "| 3 | 3 | 84 | 2 | (42 + 1) × 262 = 11266 | 84 |");
     }
 
     /// The page docs/by-hand.md has each of these rows, and the steps of the listing, as they are computed.

@@ -1,13 +1,19 @@
 //! Makes one input for the link programs from a seed: `generate SEED > input`. The same seed always gives the same bytes.
 //! Build: rustc -O --edition 2021 generate.rs
 //!
+//! The rule. The input of a seed begins with a record of kind 3 by SEED % 23: where that is odd, up to 19, rule 2; where it is 21, rule 1;
+//! where it is even there is none. So 11 of 23 inputs begin with one and 10 of 23 with rule 2, more than a third of all inputs run under it,
+//! and as 23 has no part in common with 20 every slot meets each. What follows is the same with and without the record (at the size limit the
+//! input is no longer for it, and in slot 18 it may be damaged); only the faults of kind 3 itself have nothing before them.
+//!
 //! The mix. Let slot = SEED % 20 and turn = SEED / 20; so 20 seeds in a row meet every slot once.
 //!   slots  0..=9   good plan, one event profile each (see `events_of`): backlogged, sparse, bursty, arrivals only,
 //!                  sends only, steady, hostile arrivals, hot leaves, rejoining leaves, trickle;
 //!                  the tree's shape goes round with the turn, so every profile meets every shape in 13 turns
 //!   slot  10       good plan, shape and profile both random; every third turn a run in which a packet waits nearly its bound
 //!   slots 11, 12   light siblings: trees and events made so that surplus rounds open that send nothing (rounds = 2)
-//!   slots 13..=15  damaged or cut plan, one of 31 faults in turn (see `damaged_plan`), refusals 1 to 9
+//!   slots 13..=15  damaged or cut plan, one of 38 faults in turn (see `damaged_plan`), refusals 1 to 9, 17 and 18: kind 3 in the wrong
+//!                  place, with a wrong rule byte, cut, twice, before 64 classes, behind 63, and alone
 //!   slot  16       good plan, damaged or cut events, one of 10 faults in turn (see `damaged_events`), refusals 1 and 2
 //!   slot  17       inputs at the size limit: 65,535, 65,536, 65,537 bytes and above (see `sized_input`), refusal 10
 //!   slot  18       a good input with bytes changed, taken out, put in or cut off anywhere
@@ -519,42 +525,43 @@ fn filled_to(random: &mut Random, length: usize) -> Vec<u8> {
     bytes
 }
 
-/// Inputs at the size limit.
-fn sized_input(random: &mut Random, turn: u64) -> Vec<u8> {
+/// Inputs at the size limit, which is `most` behind the record of kind 3.
+fn sized_input(random: &mut Random, turn: u64, most: usize) -> Vec<u8> {
     match turn % 10 {
-        0 => filled_to(random, MOST_INPUT),
-        1 => filled_to(random, MOST_INPUT + 1),
-        2 => filled_to(random, MOST_INPUT - 1),
+        0 => filled_to(random, most),
+        1 => filled_to(random, most + 1),
+        2 => filled_to(random, most - 1),
         3 => {
             let above = random.from_to(2, 70_000) as usize;
-            filled_to(random, MOST_INPUT + above)
+            filled_to(random, most + above)
         }
         // exactly at the limit, and the last arrival is cut by it
         4 => {
             let kept = random.from_to(1, 7) as usize;
             let arrival = arrival_record(1, 1, 1);
-            [filled_to(random, MOST_INPUT - kept), arrival[..kept].to_vec()].concat()
+            [filled_to(random, most - kept), arrival[..kept].to_vec()].concat()
         }
         // exactly at the limit, and the last byte is an unknown kind
-        5 => [filled_to(random, MOST_INPUT - 1), vec![18]].concat(),
+        5 => [filled_to(random, most - 1), vec![18]].concat(),
         // too long and the plan is bad too: 10 comes first
         6 => {
             let mut bytes = damaged_plan(random, turn % PLAN_FAULTS);
-            bytes.resize(MOST_INPUT + 1, 0);
+            bytes.resize(most + 1, 0);
             bytes
         }
         // nothing but zeros, exactly at the limit: 9 at 0
-        7 => vec![0; MOST_INPUT],
+        7 => vec![0; most],
         // a last arrival that ends exactly at the limit
-        8 => [filled_to(random, MOST_INPUT - 8), arrival_record(1, 1, 1)].concat(),
+        8 => [filled_to(random, most - 8), arrival_record(1, 1, 1)].concat(),
         // one byte too many, and that byte would have been the end of an arrival
-        _ => [filled_to(random, MOST_INPUT - 7), arrival_record(1, 1, 1)].concat(),
+        _ => [filled_to(random, most - 7), arrival_record(1, 1, 1)].concat(),
     }
 }
 
 /// A good input with a few bytes changed, taken out, put in, or with its end cut off.
-fn bruised(random: &mut Random) -> Vec<u8> {
-    let mut bytes = if random.chance(50) { tiny_input(random) } else { any_good_input(random) };
+fn bruised(random: &mut Random, front: Vec<u8>) -> Vec<u8> {
+    let good = if random.chance(50) { tiny_input(random) } else { any_good_input(random) };
+    let mut bytes = [front, good].concat();
     for _ in 0..random.from_to(1, 3) {
         // half the blows fall on the first 200 bytes, where the plan is
         let last = bytes.len() as u64 - 1;
@@ -565,7 +572,7 @@ fn bruised(random: &mut Random) -> Vec<u8> {
             2 => {
                 bytes.remove(at);
             }
-            3 => bytes.insert(at, random.pick(&[0, 1, 2, 16, 17, 255])),
+            3 => bytes.insert(at, random.pick(&[0, 1, 2, 16, 17, 3])),
             _ => bytes.truncate(at),
         }
         if bytes.is_empty() {
@@ -575,22 +582,35 @@ fn bruised(random: &mut Random) -> Vec<u8> {
     bytes
 }
 
+/// What the input of a seed begins with: a record of kind 3, or nothing.
+fn front_of(seed: u64) -> Vec<u8> {
+    match seed % 23 {
+        21 => rule_record(1),
+        odd if odd % 2 == 1 => rule_record(2),
+        _ => Vec::new(),
+    }
+}
+
 /// The input of a seed; see the head of this file for the mix.
 fn input_of(seed: u64) -> Vec<u8> {
     let mut random = Random { state: seed };
     let random = &mut random;
     let (slot, turn) = (seed % 20, seed / 20);
-    match slot {
+    let front = front_of(seed);
+    let fault = (3 * turn + slot.saturating_sub(13)) % PLAN_FAULTS;
+    let rest = match slot {
         0..=9 => good_input(random, (slot + turn) % SHAPES, slot),
         10 if turn % 3 == 2 => any_near_bound_input(random),
         10 => any_good_input(random),
         11 | 12 => light_siblings_input(random),
-        13..=15 => damaged_plan(random, (3 * turn + slot - 13) % PLAN_FAULTS),
+        13..=15 if fault >= RULE_FAULTS => return damaged_plan(random, fault),
+        13..=15 => damaged_plan(random, fault),
         16 => damaged_events(random, turn % EVENT_FAULTS),
-        17 => sized_input(random, turn),
-        18 => bruised(random),
+        17 => sized_input(random, turn, MOST_INPUT - front.len()),
+        18 => return bruised(random, front),
         _ => tiny_input(random),
-    }
+    };
+    [front, rest].concat()
 }
 
 /// Two leaves under the root, the first kept backlogged with its longest packets; a packet to the second just after the

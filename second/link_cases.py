@@ -33,6 +33,7 @@ class Link:
         self.parent = [0] * NUMBERS
         self.weight = [0] * NUMBERS
         self.longest = [0] * NUMBERS
+        self.rule = 1
         self.size = 0
         self.active = set()
         self.place = 0
@@ -107,10 +108,19 @@ def tree_obeys(link):
     return all(class_obeys(link, i) if 1 <= i <= link.count else unused(link, i) for i in range(NUMBERS))
 
 
-# Q: all weights, and the charge of each leaf's longest packet.
+# All weights of these classes, and the charge of the longest packet of each leaf among them.
+def size_of(link, classes):
+    return sum(link.weight[i] for i in classes) + sum(charge(link.longest[i]) for i in classes if link.is_leaf(i))
+
+
+# Q, the whole tree's round size.
 def round_size(link):
-    weights = sum(link.weight[i] for i in link.classes())
-    return weights + sum(charge(link.longest[i]) for i in link.classes() if link.is_leaf(i))
+    return size_of(link, link.classes())
+
+
+# The size in force (R232): under rule 1 Q, under rule 2 never above it.
+def size_right(link):
+    return link.size <= round_size(link) if link.rule == 2 else link.size == round_size(link)
 
 
 def queue_sound(link, i):
@@ -151,7 +161,7 @@ def can_send(link, i):
 
 
 def is_sound(link):
-    if not tree_obeys(link) or link.size != round_size(link):
+    if not tree_obeys(link) or not size_right(link):
         return False
     if not all(queue_sound(link, i) and account_sound(link, i) for i in range(NUMBERS)):
         return False
@@ -167,6 +177,11 @@ def is_sound(link):
 def read_plan(plan):
     tree = Link()
     at = 0
+    if plan[:1] == b"\3":
+        if plan[1:2] not in (b"\1", b"\2"):
+            return None
+        tree.rule = plan[1]
+        at = 2
     while plan[at : at + 1] in (b"\1", b"\2"):
         leaf = plan[at] == 2
         body = plan[at + 1 : at + (8 if leaf else 6)]
@@ -192,6 +207,7 @@ def fresh(tree):
         return link, "fresh %d 0 size 0" % NOT_SOUND
     link.count = tree.count
     link.leaves = tree.leaves.copy()
+    link.rule = tree.rule
     link.parent, link.weight, link.longest = tree.parent[:], tree.weight[:], tree.longest[:]
     link.size = link.balance[0] = round_size(tree)
     link.place = 64
@@ -248,7 +264,8 @@ def hand_down(link, i):
 
 
 # A round opens: the leaves that hold a packet take part, and every active class gets its share, from the top down.
-# In a surplus round the root hands down nothing and keeps its account as it is.
+# In a surplus round the root hands down nothing and keeps its account as it is, and so does the size in force. In a main round under
+# rule 2 the size becomes that of the active classes, and the root takes the difference once its residual has joined its balance (R230).
 def open_round(link):
     leaves = {i for i in link.classes() if link.is_leaf(i) and link.held[i] > 0}
     link.active = leaves | above(link, leaves)
@@ -256,6 +273,11 @@ def open_round(link):
     if not has_surplus(link):
         link.balance[0] += link.residual[0]
         link.residual[0] = 0
+        if link.rule == 2:
+            old, link.size = link.size, size_of(link, [i for i in link.classes() if i in link.active])
+            link.balance[0] += link.size - old
+            # B + R + new is never below old: the model holds itself to it.
+            assert link.balance[0] >= 0, "the root cannot take the difference of the sizes"
         quota[0] = hand_down(link, 0)
     for i in link.classes():
         if i in link.active:
@@ -340,6 +362,7 @@ FIELDS = (
     ("held", "class", 8),
     ("length", "waiting", 16),
     ("tag", "waiting", 32),
+    ("rule", "rule", 64),
 )
 FIELD_NUMBER = {name: number for number, (name, _, _) in enumerate(FIELDS)}
 
@@ -361,6 +384,8 @@ def store(before, field, index, value):
     value %= 1 << width
     if kind == "":
         setattr(link, name, value)
+    elif kind == "rule":
+        link.rule = 2 if value == 2 else 1
     elif kind == "set":
         setattr(link, name, members(value))
     elif index < len(getattr(link, name)):
@@ -368,7 +393,7 @@ def store(before, field, index, value):
     return link
 
 
-# The books: place, active set as a number, Q, and balance and residual of each class from the root on.
+# The books: place, active set as a number, the size in force, and balance and residual of each class from the root on.
 def books(link):
     accounts = ["%d+%d" % (link.balance[i], link.residual[i]) for i in range(min(link.count, 63) + 1)]
     return "books place %d active %d size %d accounts %s" % (link.place, bits(link.active), link.size, " ".join(accounts))
@@ -467,7 +492,7 @@ def stored(words):
     kind = FIELDS[field][1]
     if kind == "set":
         return field, 0, class_set(words[1:])
-    if kind == "":
+    if kind in ("", "rule"):
         return field, 0, numbers(words[1:], [("VALUE", 64)])[0]
     if kind == "class":
         index, value = numbers(words[1:], [("CLASS", 16), ("VALUE", 64)])
@@ -480,6 +505,8 @@ def stored(words):
 def plan_line(words):
     if len(words) > 2 and words[1] == "times":
         return number(words[0], "how many times", 16) * plan_line(words[2:])
+    if words[0] == "rule":
+        return b"\3" + numbers(words[1:], [("RULE", 8)])[0].to_bytes(1, "big")
     if words[0] == "inner":
         parent, weight = numbers(words[1:], [("PARENT", 8), ("WEIGHT", 32)])
         return b"\1" + parent.to_bytes(1, "big") + weight.to_bytes(4, "big")
@@ -496,7 +523,7 @@ def plan_line(words):
 
 
 def is_plan_line(words):
-    return words[0] in ("inner", "leaf", "end", "bytes") or len(words) > 2 and words[1] == "times"
+    return words[0] in ("rule", "inner", "leaf", "end", "bytes") or len(words) > 2 and words[1] == "times"
 
 
 # Reads the text line by line: the trees that have names, and the commands.

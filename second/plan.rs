@@ -21,6 +21,9 @@ pub const LEAST_FRAME: u64 = 64;
 pub const AROUND_FRAME: u64 = 20;
 /// "Class 0 is the root".
 pub const ROOT: usize = 0;
+/// "selects rule 1, whole tree, or rule 2, active classes; a plan without it uses rule 1".
+pub const WHOLE_TREE: u64 = 1;
+pub const ACTIVE_CLASSES: u64 = 2;
 
 // ---------------------------------------------------------------------------------------------
 // Arithmetic that ends the program on a contradiction instead of wrapping round.
@@ -88,16 +91,17 @@ pub struct Class {
     pub longest: u64,
 }
 
-/// The tree: position 0 is the root, position c is class c.
+/// The tree: position 0 is the root, position c is class c; and the plan's rule for the round size, which is no class.
 #[derive(Clone, PartialEq, Eq, Debug)]
 pub struct Tree {
     pub classes: Vec<Class>,
+    pub rule: u64,
 }
 
 impl Tree {
-    /// A tree without classes: the root alone, "the root has no weight".
+    /// A tree without classes: the root alone, "the root has no weight"; "a plan without it uses rule 1".
     pub fn without_classes() -> Tree {
-        Tree { classes: vec![Class { sort: Sort::Root, parent: 0, weight: 0, longest: 0 }] }
+        Tree { classes: vec![Class { sort: Sort::Root, parent: 0, weight: 0, longest: 0 }], rule: WHOLE_TREE }
     }
 
     /// How many classes the plan named; the root is not counted ("link 4 262" for tree P).
@@ -167,6 +171,14 @@ pub fn check_longest(longest: u64, place: usize) -> Result<(), Refusal> {
     Ok(())
 }
 
+/// Refusal 17: "rule byte not 1 or 2".
+pub fn check_rule(rule: u64, place: usize) -> Result<(), Refusal> {
+    if rule != WHOLE_TREE && rule != ACTIVE_CLASSES {
+        return refuse(17, place);
+    }
+    Ok(())
+}
+
 /// "After the end record come 9, then class by class upward 8 and 7."
 pub fn check_whole_tree(tree: &Tree) -> Result<(), Refusal> {
     if tree.count() == 0 {
@@ -197,7 +209,7 @@ pub fn obeys_plan_rules(tree: &Tree) -> bool {
     if root.sort != Sort::Root || root.parent != 0 || root.weight != 0 || root.longest != 0 {
         return false;
     }
-    if tree.count() > MOST_CLASSES {
+    if tree.count() > MOST_CLASSES || check_rule(tree.rule, 0).is_err() {
         return false;
     }
     for number in 1..tree.classes.len() {
@@ -233,7 +245,7 @@ pub fn body_of(input: &[u8], first: usize, length: usize) -> Result<&[u8], Refus
     }
 }
 
-/// Adds the class of one record to the tree; "A record is checked in the order 2, 1, 3, 4, 5, 6".
+/// Adds the class of one record to the tree; "A record is checked in the order 2, 1, 3, 4, 5, 6", where 17 and 18 "come after 1".
 pub fn add_class(tree: &mut Tree, sort: Sort, body: &[u8], first: usize) -> Result<(), Refusal> {
     // 3: "a 64th class record"
     if tree.count() == MOST_CLASSES {
@@ -253,7 +265,20 @@ pub fn add_class(tree: &mut Tree, sort: Sort, body: &[u8], first: usize) -> Resu
     Ok(())
 }
 
-/// "A plan is class records and one end record; the reader says how many bytes it used."
+/// The rule of a record of kind 3: "Refusals: 17, rule byte not 1 or 2; 18, kind 3 anywhere but first. Both stand at the record's first byte
+/// and come after 1, 18 before 17."
+pub fn read_rule(body: &[u8], first: usize) -> Result<u64, Refusal> {
+    // 18: "It must be the first record", and the first record stands at the input's first byte
+    if first != 0 {
+        return refuse(18, first);
+    }
+    let rule = big_endian(&body[0..1]);
+    check_rule(rule, first)?;
+    Ok(rule)
+}
+
+/// "A plan is class records and one end record; the reader says how many bytes it used."; before them may stand "A plan record of kind 3",
+/// which names no class: it takes no class number, and it and the end record alone are "no class at all".
 pub fn read_plan(input: &[u8]) -> Result<(Tree, usize), Refusal> {
     let mut tree = Tree::without_classes();
     let mut first = 0;
@@ -267,6 +292,8 @@ pub fn read_plan(input: &[u8]) -> Result<(Tree, usize), Refusal> {
             0 => 0,
             1 => 5,
             2 => 7,
+            // "A plan record of kind 3 with a one-byte body"
+            3 => 1,
             _ => return refuse(2, first),
         };
         let body = body_of(input, first, length)?;
@@ -276,7 +303,8 @@ pub fn read_plan(input: &[u8]) -> Result<(Tree, usize), Refusal> {
                 return Ok((tree, first + 1));
             }
             1 => add_class(&mut tree, Sort::Inner, body, first)?,
-            _ => add_class(&mut tree, Sort::Leaf, body, first)?,
+            2 => add_class(&mut tree, Sort::Leaf, body, first)?,
+            _ => tree.rule = read_rule(body, first)?,
         }
         first = first + 1 + length;
     }
@@ -296,7 +324,7 @@ pub fn event_at(input: &[u8], first: usize) -> Result<Option<Event<'_>>, Refusal
     match input[first] {
         16 => Ok(Some(Event::Arrival(body_of(input, first, 7)?))),
         17 => Ok(Some(Event::Send)),
-        // "0, 1 and 2 unknown among events"
+        // "0, 1 and 2 unknown among events", and kind 3 "is an unknown kind among events"
         _ => refuse(2, first),
     }
 }
@@ -340,9 +368,10 @@ mod tests {
 
     #[test]
     fn kinds_of_a_plan() {
-        for kind in (0..=255).filter(|kind| ![0, 1, 2].contains(kind)) {
+        for kind in (0..=255).filter(|kind| ![0, 1, 2, 3].contains(kind)) {
             assert_eq!(read_plan(&[kind]), refuse(2, 0));
         }
+        assert_eq!(read_plan(&[3]), refuse(1, 0));
         assert_eq!(read_plan(&[1, 0, 0, 0, 0]), refuse(1, 0));
         assert_eq!(big_endian(&[0, 15, 66, 64]), 1_000_000);
     }
@@ -350,7 +379,9 @@ mod tests {
     #[test]
     fn trees_that_no_plan_gives() {
         let leaf = Class { sort: Sort::Leaf, parent: 0, weight: 1, longest: 1 };
-        let breaks: [fn(&mut Tree); 6] = [
+        let breaks: [fn(&mut Tree); 8] = [
+            |t| t.rule = 0,
+            |t| t.rule = 3,
             |t| t.classes[ROOT].weight = 1,
             |t| t.classes[ROOT].longest = 1,
             |t| t.classes[1].longest = 1,
@@ -364,6 +395,7 @@ mod tests {
         tree.classes.push(Class { parent: 1, ..leaf });
         assert!(obeys_plan_rules(&tree));
         assert_eq!(tree.round_size(), 3 + 1 + 84);
+        assert!(obeys_plan_rules(&Tree { rule: ACTIVE_CLASSES, ..tree.clone() }));
         for broken in breaks {
             let mut tree = tree.clone();
             broken(&mut tree);

@@ -21,7 +21,7 @@ MOST_BYTES = 131072
 # The packed commands by their numbers, which are their first bytes.
 REMARK, PLAN, CLASSES, EVENT, EVENTS, TREE, STORE, RULES, PLAN_KIND, EVENT_KIND, COUNT = range(1, 12)
 FIELDS = ("count", "leaves", "parent", "weight", "longest")
-RECORDS = ("inner", "leaf", "end", "arrival", "send", "bytes", "chain", "with", "cut")
+RECORDS = ("rule", "inner", "leaf", "end", "arrival", "send", "bytes", "chain", "with", "cut")
 
 
 # A command of the text: the case that it is of, its words, the bytes of its records, its last line there and what it is to print.
@@ -103,6 +103,8 @@ def with_record(before, words, known):
     if words[0] == "chain":
         many = numbers(words[1:], [("CLASSES", 7)])[0]
         return before + b"".join(plan_line(["inner", str(parent), "1"]) for parent in range(many))
+    if words[0] == "rule":
+        return before + b"\3" + numbers(words[1:], [("RULE", 8)])[0].to_bytes(1, "big")
     if words[0] == "arrival":
         class_, length, tag = numbers(words[1:], [("CLASS", 8), ("LENGTH", 16), ("TAG", 32)])
         return before + bytes([16, class_]) + length.to_bytes(2, "big") + tag.to_bytes(4, "big")

@@ -10,6 +10,7 @@ use std::io::Read;
 /// The numbers of a tree, any at all: "class numbers past the last .. is 0 in every tree".
 struct Numbers {
     count: u64,
+    rule: u64,
     leaves: u64,
     parent: [u64; 64],
     weight: [u64; 64],
@@ -18,7 +19,8 @@ struct Numbers {
 
 impl Numbers {
     fn of(tree: &Tree) -> Numbers {
-        let mut n = Numbers { count: tree.count() as u64, leaves: 0, parent: [0; 64], weight: [0; 64], longest: [0; 64] };
+        let (count, rule) = (tree.count() as u64, tree.rule);
+        let mut n = Numbers { count, rule, leaves: 0, parent: [0; 64], weight: [0; 64], longest: [0; 64] };
         for (number, class) in tree.classes.iter().enumerate() {
             n.leaves |= u64::from(class.sort == Sort::Leaf) << number;
             n.parent[number] = class.parent as u64;
@@ -48,7 +50,7 @@ impl Numbers {
         }
         let set = |i: usize| self.is_leaf(i) || self.parent[i] != 0 || self.weight[i] != 0 || self.longest[i] != 0;
         let last = self.count as usize;
-        !(last + 1..64).any(set) && obeys_plan_rules(&Tree { classes: (0..=last).map(|i| self.class(i)).collect() })
+        !(last + 1..64).any(set) && obeys_plan_rules(&Tree { classes: (0..=last).map(|i| self.class(i)).collect(), rule: self.rule })
     }
 
     /// A value stored into one number, cut to its width; at an index past the end nothing is stored.

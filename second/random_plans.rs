@@ -13,7 +13,9 @@ pub const MOST_INPUT: usize = 65_536;
 /// How many tree shapes `shape_of` knows.
 pub const SHAPES: u64 = 13;
 /// How many plan faults `damaged_plan` knows.
-pub const PLAN_FAULTS: u64 = 31;
+pub const PLAN_FAULTS: u64 = 38;
+/// The faults from this one on are those of the record of kind 3.
+pub const RULE_FAULTS: u64 = 31;
 
 // ---------------------------------------------------------------------------------------------
 // Random numbers.
@@ -385,6 +387,11 @@ pub fn plan(tree: &Tree) -> Vec<u8> {
     [class_records(tree), vec![0]].concat()
 }
 
+/// "A plan record of kind 3 with a one-byte body", any byte.
+pub fn rule_record(rule: u8) -> Vec<u8> {
+    vec![3, rule]
+}
+
 /// An arrival record.
 pub fn arrival_record(class: u64, length: u64, tag: u64) -> Vec<u8> {
     let mut record = vec![16, class as u8];
@@ -426,7 +433,7 @@ pub fn any_inner(random: &mut Random, tree: &Tree) -> usize {
 
 /// An unknown kind of plan record.
 pub fn unknown_plan_kind(random: &mut Random) -> u8 {
-    random.pick(&[3, 4, 15, 16, 17, 18, 127, 128, 254, 255])
+    random.pick(&[5, 4, 15, 16, 17, 18, 127, 128, 254, 255])
 }
 
 /// Class records of a good tree cut inside the body of a random record of the wanted sort.
@@ -438,6 +445,28 @@ pub fn cut_in_body(random: &mut Random, leaf: bool) -> Vec<u8> {
     let kept = random.from_to(1, record.len() as u64 - 1) as usize;
     bytes.extend(&record[..kept]);
     bytes
+}
+
+/// "rule 1, whole tree, or rule 2, active classes".
+pub fn good_rule(random: &mut Random) -> u8 {
+    random.pick(&[1, 2])
+}
+
+/// A rule byte that is neither.
+pub fn bad_rule(random: &mut Random) -> u8 {
+    random.pick(&[0, 3, 4, 16, 17, 127, 128, 255])
+}
+
+/// A record of kind 3, its rule byte good or bad.
+pub fn any_rule_record(random: &mut Random) -> Vec<u8> {
+    let rule = if random.chance(70) { good_rule(random) } else { bad_rule(random) };
+    rule_record(rule)
+}
+
+/// The class records of a tree up to a random one and with it, so that at least one class stands there.
+pub fn some_records(random: &mut Random, tree: &Tree) -> Vec<u8> {
+    let kept = any_class(random, tree);
+    class_records(&tree[..=kept].to_vec())
 }
 
 /// A good tree with 63 classes, more or less deep.
@@ -612,10 +641,45 @@ pub fn damaged_plan(random: &mut Random, fault: u64) -> Vec<u8> {
         // several faults in one record: 4 before 5 before 6, and 1 (cut) before them all
         28 => changed_plan(random, bad_parent_and_more),
         29 => changed_plan(random, bad_weight_and_longest),
-        _ => {
+        30 => {
             let record = class_record(&Class { leaf: true, parent: 255, weight: 0, longest: 0 });
             let kept = random.from_to(2, 7) as usize;
             return [class_records(&good_tree(random, 10)), record[..kept].to_vec()].concat();
+        }
+        // 17: kind 3 first, with a rule byte that is not 1 or 2
+        31 => [rule_record(bad_rule(random)), plan(&tree_with_inner(random))].concat(),
+        // 18: kind 3 behind a class, its rule byte good or bad, and a whole plan behind it
+        32 => {
+            let tree = tree_with_inner(random);
+            [some_records(random, &tree), any_rule_record(random), plan(&tree)].concat()
+        }
+        // 18: two records of kind 3, the first good
+        33 => [rule_record(good_rule(random)), any_rule_record(random), plan(&tree_with_inner(random))].concat(),
+        // 1: kind 3 cut after its kind byte: as the only byte, behind another of kind 3, behind classes, behind 63 classes
+        34 => {
+            let tree = tree_with_inner(random);
+            let before = match random.from_to(0, 3) {
+                0 => Vec::new(),
+                1 => rule_record(good_rule(random)),
+                2 => some_records(random, &tree),
+                _ => class_records(&full_tree(random)),
+            };
+            return [before, vec![3]].concat();
+        }
+        // 3: kind 3 takes no class number, so the 64th class behind it is one too many, and no class before
+        35 => {
+            let more = Class { leaf: true, parent: 0, weight: 1, longest: 1 };
+            [rule_record(good_rule(random)), class_records(&full_tree(random)), class_record(&more), vec![0]].concat()
+        }
+        // 18: kind 3 behind 63 classes
+        36 => [class_records(&full_tree(random)), any_rule_record(random), vec![0]].concat(),
+        // 9: kind 3 and the end record alone, whatever follows; or the input ends behind kind 3: 1
+        _ => {
+            let record = rule_record(good_rule(random));
+            if random.chance(30) {
+                return record;
+            }
+            [record, vec![0]].concat()
         }
     };
     // events after the fault must not run

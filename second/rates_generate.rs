@@ -7,7 +7,7 @@
 //!                  every mix meets every shape in 13 turns: one leaf, flat 63, a chain 62 deep, combs, even and random trees
 //!   slot  11       as mix 6, near the shares of one level, with a capacity near the sum of those shares
 //!   slot  12       a capacity at, one below or one above the total request
-//!   slots 13, 14   damaged or cut plan, one of 31 faults in turn (refusals 1 to 9), at times with numbers out of range too
+//!   slots 13, 14   damaged or cut plan, one of 38 faults in turn (refusals 1 to 9, 17, 18), at times with numbers out of range too
 //!   slot  15       inputs at the size limit: 65,535, 65,536, 65,537 bytes and above, good and bad behind it (refusal 10)
 //!   slot  16       a good plan with bytes changed, taken out, put in or cut off anywhere
 //!   slot  17       no word, or a bad word, on any input: good, damaged, too long
@@ -69,9 +69,12 @@ fn root_weights(tree: &Tree) -> u64 {
     children(tree, 0).iter().map(|&class| tree[class].weight).sum()
 }
 
-/// A plan, and at times bytes behind its end record, which nobody looks at.
+/// A plan, one in five with a record of kind 3 first, and at times bytes behind its end record, which nobody looks at.
 fn plan_and_more(random: &mut Random, tree: &Tree) -> Vec<u8> {
     let mut bytes = plan(tree);
+    if random.chance(20) {
+        bytes = [rule_record(good_rule(random)), bytes].concat();
+    }
     if random.chance(25) {
         for _ in 0..random.from_to(1, 40) {
             bytes.push(random.next() as u8);

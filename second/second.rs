@@ -43,10 +43,12 @@ impl Packet {
 }
 
 /// The whole state; the vectors are indexed by class number, and a queue's first packet is at position 0.
+/// `size` is Q, the whole-tree size; `in_force` is "the size in force, which a sound state keeps".
 #[derive(Clone, PartialEq, Eq, Debug)]
 struct Link {
     tree: Tree,
     size: u64,
+    in_force: u64,
     accounts: Vec<Account>,
     active: Vec<bool>,
     place: usize,
@@ -76,6 +78,7 @@ fn link_without_classes() -> Link {
     Link {
         tree: Tree::without_classes(),
         size: 0,
+        in_force: 0,
         accounts: vec![Account { balance: 0, residual: 0 }],
         active: vec![false],
         place: 0,
@@ -83,7 +86,8 @@ fn link_without_classes() -> Link {
     }
 }
 
-/// "root balance Q, every other B and R zero, queues empty, nothing active, place 64"; a bad tree: 11 at 0.
+/// "root balance Q, every other B and R zero, queues empty, nothing active, place 64"; "a fresh link starts with the whole-tree size", under
+/// both rules; a bad tree: 11 at 0.
 fn fresh_link(tree: &Tree) -> (Link, Option<Refusal>) {
     if !obeys_plan_rules(tree) {
         return (link_without_classes(), Some(Refusal { number: 11, place: 0 }));
@@ -95,6 +99,7 @@ fn fresh_link(tree: &Tree) -> (Link, Option<Refusal>) {
     let link = Link {
         tree: tree.clone(),
         size,
+        in_force: size,
         accounts,
         active: vec![false; all],
         place: LAST_PLACE,
@@ -109,7 +114,7 @@ impl Link {
         0..self.tree.classes.len()
     }
 
-    /// The sum of all B and R; it must stay Q.
+    /// The sum of all B and R; it must be the size in force.
     fn total(&self) -> u64 {
         self.accounts.iter().fold(0, |sum, a| add(sum, add(a.balance, a.residual)))
     }
@@ -127,6 +132,21 @@ impl Link {
     /// The weight sum of the active children only ("Summing all children's weights, active or not" is the slip).
     fn active_weight_sum(&self, parent: usize) -> u64 {
         self.active_children(parent).iter().fold(0, |sum, &c| add(sum, self.tree.classes[c].weight))
+    }
+
+    /// Rule 2's size, for the classes that are active now: "active weights plus active leaves' longest packets (charged ..)".
+    fn active_size(&self) -> u64 {
+        let mut size = 0;
+        for class in self.numbers() {
+            if self.active[class] {
+                // the root's weight is 0
+                size = add(size, self.tree.classes[class].weight);
+                if self.tree.is_leaf(class) {
+                    size = add(size, charge(self.tree.classes[class].longest));
+                }
+            }
+        }
+        size
     }
 
     /// Whether `above` is the class itself or lies on the way from the class to the root.
@@ -156,6 +176,12 @@ impl Link {
         if self.size != self.tree.round_size() {
             return Some("Q fits it");
         }
+        if self.tree.rule == WHOLE_TREE && self.in_force != self.size {
+            return Some("under rule 1 it is the whole-tree size");
+        }
+        if self.tree.rule == ACTIVE_CLASSES && self.in_force > self.size {
+            return Some("under rule 2 it is never above it");
+        }
         let all = self.tree.classes.len();
         if self.active.len() != all || self.accounts.len() != all || self.queues.len() != all {
             return Some("no number past the last class is active");
@@ -165,8 +191,8 @@ impl Link {
                 return Some(rule);
             }
         }
-        if self.total() != self.size {
-            return Some("all B and R add to Q");
+        if self.total() != self.in_force {
+            return Some("All B and R add to the size in force");
         }
         if self.place < 1 || self.place > LAST_PLACE {
             return Some("the place is 1 to 64");
@@ -208,7 +234,7 @@ impl Link {
 
     /// "Each call on a sound state gives a sound state": ends the program if this one isn't.
     fn assert_sound(&self, after: &str) {
-        assert_eq!(self.total(), self.size, "after {after}: all B and R add to Q");
+        assert_eq!(self.total(), self.in_force, "after {after}: all B and R add to the size in force");
         if let Some(rule) = self.broken_rule() {
             panic!("after {after}, this rule is broken: {rule}");
         }
@@ -333,6 +359,8 @@ fn open_round(link: &mut Link) -> Opening {
     let quotas = share_out(link, surplus);
     if !surplus {
         assert_gains(link, &before);
+        // "any size that at a main round's opening is at least rule 2's and at most rule 1's"
+        assert!(link.active_size() <= link.in_force && link.in_force <= link.size, "a main round opened with size {}", link.in_force);
     }
     Opening { surplus, quotas }
 }
@@ -376,14 +404,28 @@ fn share_out(link: &mut Link, surplus: bool) -> Vec<u64> {
     quotas
 }
 
-/// Step 4: main: "the root's residual joins its balance", quota B over the weight sum; surplus: "quota is 0 and its account stays".
+/// Step 4: main: "the root's residual joins its balance", quota B over the weight sum; surplus: "quota is 0 and its account stays", and
+/// so does the size in force: "The paper also adjusts at surplus rounds; we don't."
 fn open_root(link: &mut Link, surplus: bool) -> u64 {
     if surplus {
         return 0;
     }
     let account = link.accounts[ROOT];
     link.accounts[ROOT] = Account { balance: add(account.balance, account.residual), residual: 0 };
+    if link.tree.rule == ACTIVE_CLASSES {
+        set_size_anew(link);
+    }
     fair_quota(link, ROOT)
+}
+
+/// "Under rule 2 the size in force is set anew at each main round's opening and the root takes the difference once its residual has joined
+/// its balance". It comes before the root's quota, which then shares out what the new size gives; where the size shrinks the root gives up
+/// the difference, and never has less than that.
+fn set_size_anew(link: &mut Link) {
+    let new = link.active_size();
+    let with_new = add(link.accounts[ROOT].balance, new);
+    link.accounts[ROOT].balance = sub(with_new, link.in_force);
+    link.in_force = new;
 }
 
 /// Step 4: an active inner class "takes R .. into B, sets R to 0, and works out its own quota likewise" (its share came by hand_down).
@@ -422,7 +464,7 @@ fn assert_gains(link: &Link, before: &[u64]) {
 /// Counts for the statistics check; they have no part in the lines.
 #[derive(Default)]
 struct Counts {
-    refusals: [u64; 16],
+    refusals: [u64; 19],
     rounds: [u64; 3],
     surplus_sending: u64,
     surplus_idle: u64,
@@ -430,6 +472,9 @@ struct Counts {
     event_stops: [u64; 3],
     depth: usize,
     classes: usize,
+    /// The plan's rule, 0 where no plan was taken, and in how many sends the size in force changed.
+    rule: u64,
+    size_changes: u64,
     /// The largest share of its bound that a packet's wait took, in thousandths.
     wait_thousandths: u64,
 }
@@ -484,8 +529,10 @@ impl Run {
     /// Runs one send and prints `out` or, "for refusal 15", `none`.
     fn send(&mut self, link: &mut Link) {
         self.counts.events += 1;
+        let in_force = link.in_force;
         match send(link) {
             Ok(sent) => {
+                self.counts.size_changes += u64::from(link.in_force != in_force);
                 self.count_rounds(&sent);
                 self.left(sent.class, sent.length);
                 self.lines.push(format!("out {} {} {} {}", sent.class, sent.length, sent.tag, sent.rounds));
@@ -499,7 +546,7 @@ impl Run {
     }
 
     /// Demand 3: the link sends at most "(D/w rounded up, plus 1) times Q bytes" until the accepted packet has gone; D and
-    /// those bytes are charges.
+    /// those bytes are charges, and "Demand 3 keeps the whole-tree Q under both rules".
     fn watch(&mut self, link: &Link, class: usize) {
         let waiting: u64 = link.queues[class].iter().map(|packet| packet.charge()).sum();
         let bound = mul(add(waiting.div_ceil(link.tree.classes[class].weight), 1), link.size);
@@ -536,7 +583,7 @@ impl Run {
     fn counts_line(&self) -> String {
         let counts = &self.counts;
         let mut words = Vec::new();
-        for number in 1..16 {
+        for number in 1..19 {
             words.push(format!("refusal_{number}={}", counts.refusals[number]));
         }
         for rounds in 0..3 {
@@ -549,7 +596,13 @@ impl Run {
         words.push(format!("events={}", counts.events));
         words.push(format!("max_depth={}", counts.depth));
         words.push(format!("max_classes={}", counts.classes));
+        words.push(format!("rule={}", counts.rule));
+        words.push(format!("size_changes={}", counts.size_changes));
         words.push(format!("max_wait_thousandths={}", counts.wait_thousandths));
+        for rule in [WHOLE_TREE, ACTIVE_CLASSES] {
+            let nearest = if counts.rule == rule { counts.wait_thousandths } else { 0 };
+            words.push(format!("max_wait_thousandths_rule_{rule}={nearest}"));
+        }
         words.join(" ")
     }
 }
@@ -578,6 +631,8 @@ fn run(input: &[u8]) -> Run {
     link.assert_sound("the fresh link");
     run.counts.depth = tree.depth();
     run.counts.classes = tree.count();
+    run.counts.rule = tree.rule;
+    // "`link` prints the whole-tree size."
     run.lines.push(format!("link {} {}", tree.count(), link.size));
     run_events(run, &mut link, input, used)
 }
@@ -675,13 +730,32 @@ mod tests {
         link
     }
 
-    /// Tree P after the four arrivals of the listing.
-    fn loaded_p() -> Link {
-        let mut link = link_p();
-        for (class, length, tag) in [(2, 2, 1), (3, 10, 2), (3, 10, 3), (4, 10, 4)] {
+    /// These packets arrive and are taken.
+    fn arrivals(mut link: Link, packets: &[(usize, u64, u64)]) -> Link {
+        for &(class, length, tag) in packets {
             assert_eq!(arrival(&mut link, class, length, tag), Ok(()));
         }
         link
+    }
+
+    /// The four arrivals of the listing.
+    const LISTED: [(usize, u64, u64); 4] = [(2, 2, 1), (3, 10, 2), (3, 10, 3), (4, 10, 4)];
+
+    /// Tree P after the four arrivals of the listing.
+    fn loaded_p() -> Link {
+        arrivals(link_p(), &LISTED)
+    }
+
+    /// A plan with a record of kind 3 before it.
+    fn under(rule: u8, plan: Vec<u8>) -> Vec<u8> {
+        [vec![3, rule], plan].concat()
+    }
+
+    /// The fresh link of tree P under rule 2.
+    fn link_p_rule_2() -> Link {
+        let (tree, used) = read_plan(&under(2, plan_p(3))).unwrap();
+        assert_eq!((tree.rule, tree.count(), used), (ACTIVE_CLASSES, 4, 33));
+        fresh_link(&tree).0
     }
 
     /// All balances.
@@ -799,6 +873,153 @@ mod tests {
         assert_eq!(sends(&mut link, 2), [(1, 1, vec![false]), (3, 0, vec![])]);
         assert_eq!(residuals(&link), [0, 90, 0, 0, 0]);
         assert_eq!(sends(&mut link, 1), [(2, 1, vec![true])]);
+    }
+
+    #[test]
+    fn rule_2_tree_p_by_hand() {
+        // "a fresh link starts with the whole-tree size", and `link` prints it
+        let mut link = arrivals(link_p_rule_2(), &LISTED);
+        assert_eq!((link.size, link.in_force, link.accounts[ROOT].balance), (262, 262, 262));
+        // All are active: the size is 3 + 1 + 2 + 4 and three times 84, which is 262, and all goes as under rule 1; leaf 4 sends and gives
+        // its 64 to the root's residual.
+        assert_eq!(sends(&mut link, 1), [(4, 1, vec![false])]);
+        assert_eq!((link.in_force, balances(&link), residuals(&link)), (262, vec![87, 0, 37, 74, 0], vec![64, 0, 0, 0, 0]));
+        // Classes 1, 2 and 3 are active: 3 + 1 + 2 and twice 84 are 174. The root has 87 + 64 + 174 - 262 = 63, its quota is 63 / 3 = 21 and
+        // that of class 1 too; leaf 2 has 37 + 21, leaf 3 has 74 + 42.
+        let mut by_hand = link.clone();
+        assert_eq!(search(&mut by_hand), None);
+        assert_eq!(open_round(&mut by_hand), Opening { surplus: false, quotas: vec![21, 21, 0, 0, 0] });
+        assert_eq!((by_hand.in_force, balances(&by_hand), residuals(&by_hand)), (174, vec![0, 0, 58, 116, 0], vec![0; 5]));
+        // leaf 2 lacks 26; leaf 3 sends the first of its two
+        assert_eq!(sends(&mut link, 1), [(2, 1, vec![false])]);
+        assert_eq!((link.in_force, balances(&link), residuals(&link)), (174, vec![84, 0, 58, 32, 0], vec![0; 5]));
+        // The same classes, the same size: the root has 84, the quotas are 28 and 28; leaf 2 has 58 + 28, leaf 3 has 32 + 56.
+        let mut by_hand = link.clone();
+        assert_eq!(search(&mut by_hand), None);
+        assert_eq!(open_round(&mut by_hand), Opening { surplus: false, quotas: vec![28, 28, 0, 0, 0] });
+        assert_eq!((by_hand.in_force, balances(&by_hand), residuals(&by_hand)), (174, vec![0, 0, 86, 88, 0], vec![0; 5]));
+        assert_eq!(sends(&mut link, 2), [(1, 1, vec![false]), (3, 0, vec![])]);
+        // the 2 of leaf 2 and the 4 of leaf 3 went to class 1, and by it to the root
+        assert_eq!((link.in_force, balances(&link), residuals(&link)), (174, vec![168, 0, 0, 0, 0], vec![6, 0, 0, 0, 0]));
+        assert_eq!(send(&mut link), refuse(15, 0));
+        assert_eq!((link.size, link.broken_rule()), (262, None));
+    }
+
+    #[test]
+    fn rule_2_listing_of_tree_p() {
+        let input = [&[3, 2][..], include_bytes!("tree_p.bin")].concat();
+        let outs = ["out 4 10 4 1", "out 3 10 2 1", "out 2 2 1 1", "out 3 10 3 0", "none", "end 0"];
+        let run = run(&input);
+        assert_eq!(run.lines[0], "link 4 262");
+        assert_eq!(run.lines[5..], outs);
+        // the bounds are those of the whole-tree size: the nearest to its own is tag 3, which 336 of 85 times 262 were sent before
+        assert_eq!((run.counts.rule, run.counts.size_changes, run.counts.wait_thousandths), (2, 1, 15));
+        assert!(run.counts_line().ends_with("max_wait_thousandths=15 max_wait_thousandths_rule_1=0 max_wait_thousandths_rule_2=15"));
+        // leaf 2 sends alone, and the size is 88 when a packet comes to leaf 4: its bound is 22 times 262 all the same, and 84 is 14 of 1000
+        let (to_2, to_4) = ([16, 2, 0, 2, 0, 0, 0, 1], [16, 4, 0, 10, 0, 0, 0, 2]);
+        let input = [&under(2, plan_p(3))[..], &to_2, &[17], &to_4, &[17]].concat();
+        assert_eq!(super::run(&input).counts.wait_thousandths, 14);
+        assert_eq!(by_hand::waits(&input, 1)[1], "| 2 | 4 | 84 | 4 | (21 + 1) × 262 = 5764 | 84 |");
+    }
+
+    #[test]
+    fn rule_1_is_no_record() {
+        let listing = include_bytes!("tree_p.bin");
+        let input = [&[3, 1][..], listing].concat();
+        assert_eq!(run(&input).lines.join("\n") + "\n", include_str!("tree_p.txt"));
+        assert_eq!(read_plan(&input).unwrap().0, read_plan(listing).unwrap().0);
+        assert_eq!((read_plan(&input).unwrap().1, read_plan(listing).unwrap().1), (33, 31));
+        assert_ne!(read_plan(&under(2, plan_p(3))).unwrap().0, read_plan(listing).unwrap().0);
+    }
+
+    #[test]
+    fn rule_2_a_surplus_round_leaves_the_size() {
+        let mut link = arrivals(link_p_rule_2(), &[(2, 10, 1), (2, 10, 2), (3, 10, 3)]);
+        // 174: quotas 58 and 58, leaf 2 has 58 and leaf 3 has 116; leaf 3 sends, and its 32 go to class 1's residual
+        assert_eq!(sends(&mut link, 1), [(3, 1, vec![false])]);
+        assert_eq!((link.in_force, balances(&link), residuals(&link)), (174, vec![84, 0, 58, 0, 0], vec![0, 32, 0, 0, 0]));
+        // 32 is at or above 1: a surplus round, leaf 2 has 58 + 32 = 90; rule 2's size would be 3 + 1 + 84 = 88 now, but 174 stays
+        assert_eq!(sends(&mut link, 1), [(1, 1, vec![true])]);
+        assert_eq!((link.in_force, link.active_size()), (174, 88));
+        assert_eq!((balances(&link), residuals(&link)), (vec![168, 0, 6, 0, 0], vec![0; 5]));
+        // a main round: the root has 168 + 88 - 174 = 82 and keeps 1, class 1 hands down 81, leaf 2 has 6 + 81 = 87 and keeps 3
+        assert_eq!(sends(&mut link, 1), [(2, 1, vec![false])]);
+        assert_eq!((link.in_force, balances(&link), residuals(&link)), (88, vec![85, 0, 0, 0, 0], vec![3, 0, 0, 0, 0]));
+        // leaf 4 alone, 4 + 84 = 88: the root has 85 + 3, all of it is leaf 4's, which gives back 4
+        link = arrivals(link, &[(4, 10, 4)]);
+        assert_eq!(sends(&mut link, 1), [(4, 1, vec![false])]);
+        assert_eq!((link.in_force, balances(&link), residuals(&link)), (88, vec![84, 0, 0, 0, 0], vec![4, 0, 0, 0, 0]));
+        // all again: the size grows to 262, the root takes 174 more, and the first send is the listing's
+        link = arrivals(link, &LISTED);
+        assert_eq!(sends(&mut link, 1), [(4, 1, vec![false])]);
+        assert_eq!((link.in_force, balances(&link), residuals(&link)), (262, vec![87, 0, 37, 74, 0], vec![64, 0, 0, 0, 0]));
+    }
+
+    #[test]
+    fn rule_2_sound_states() {
+        let smaller: fn(&mut Link) = |l| (l.in_force, l.accounts[ROOT].balance) = (261, 261);
+        let nothing: fn(&mut Link) = |l| (l.in_force, l.accounts[ROOT].balance) = (0, 0);
+        let larger: fn(&mut Link) = |l| (l.in_force, l.accounts[ROOT].balance) = (263, 263);
+        let not_added: fn(&mut Link) = |l| l.in_force = 261;
+        let no_rule: fn(&mut Link) = |l| l.tree.rule = 0;
+        // which of the changes leave a state sound, under rule 1 and under rule 2
+        let cases = [(smaller, false, true), (nothing, false, true), (larger, false, false), (not_added, false, false), (no_rule, false, false)];
+        for (change, under_1, under_2) in cases {
+            for (mut link, sound) in [(link_p(), under_1), (link_p_rule_2(), under_2)] {
+                change(&mut link);
+                assert_eq!(link.broken_rule().is_none(), sound);
+                assert_eq!(arrival(&mut link, 2, 2, 1), if sound { Ok(()) } else { refuse(11, 0) });
+                // a sound state's next main round sets the size, whatever it was
+                assert_eq!(send(&mut link).map(|sent| sent.tag), if sound { Ok(1) } else { refuse(11, 0) });
+                assert!(!sound || link.in_force == 3 + 1 + 84);
+            }
+        }
+        // a fresh link asked of a tree with another rule
+        let mut tree = link_p().tree;
+        tree.rule = 3;
+        assert_eq!(fresh_link(&tree), (link_without_classes(), Some(Refusal { number: 11, place: 0 })));
+    }
+
+    #[test]
+    fn rule_records_refused() {
+        let most = leaf(0, 1, 1).repeat(63);
+        // 17 at 0, and 17 before anything that comes later
+        for rule in [0, 3, 4, 17, 128, 255] {
+            assert_eq!(plan_refusal(&under(rule, plan_p(3))), (17, 0));
+            assert_eq!(plan_refusal(&under(rule, vec![])), (17, 0));
+        }
+        // 18: second, with a good and with a bad rule byte; a second record of kind 3; as the last record; after 63 classes
+        for rule in [1, 2, 0, 3, 255] {
+            assert_eq!(plan_refusal(&[inner(0, 1), vec![3, rule], leaf(1, 1, 1), vec![0]].concat()), (18, 6));
+            assert_eq!(plan_refusal(&under(2, under(rule, plan_p(3)))), (18, 2));
+            assert_eq!(plan_refusal(&under(1, under(rule, plan_p(3)))), (18, 2));
+            assert_eq!(plan_refusal(&[leaf(0, 1, 1), vec![3, rule, 0]].concat()), (18, 8));
+            assert_eq!(plan_refusal(&[most.clone(), vec![3, rule, 0]].concat()), (18, 504));
+        }
+        // 17 comes before the 18 of a later record
+        assert_eq!(plan_refusal(&under(3, under(2, plan_p(3)))), (17, 0));
+        // 1 comes first: cut after the kind byte, first, second, after another of kind 3, after 63 classes; cut after the record
+        assert_eq!(plan_refusal(&[3]), (1, 0));
+        assert_eq!(plan_refusal(&[leaf(0, 1, 1), vec![3]].concat()), (1, 8));
+        assert_eq!(plan_refusal(&[3, 2, 3]), (1, 2));
+        assert_eq!(plan_refusal(&[most.clone(), vec![3]].concat()), (1, 504));
+        assert_eq!(plan_refusal(&[3, 2]), (1, 2));
+        // it is no class record: 9 at 0, 63 classes after it are taken, and the 64th is 3 at its place
+        assert_eq!(plan_refusal(&[3, 2, 0]), (9, 0));
+        assert_eq!(plan_refusal(&[3, 1, 0]), (9, 0));
+        let (tree, used) = read_plan(&under(2, [most.clone(), vec![0]].concat())).unwrap();
+        assert_eq!((tree.count(), used, tree.round_size()), (63, 507, 63 * 85));
+        assert_eq!(plan_refusal(&under(2, [most, leaf(0, 1, 1), vec![0]].concat())), (3, 506));
+        // class numbers begin at 1 after it: class 1 may not name 1 as its parent, and class 1 too light is 7 at 1
+        assert_eq!(plan_refusal(&under(2, leaf(1, 1, 1))), (4, 2));
+        assert_eq!(plan_refusal(&under(2, plan_p(2))), (7, 1));
+        // among events it is unknown
+        for (events, place) in [(vec![3], 33), (vec![3, 2], 33), (vec![17, 3, 2], 34)] {
+            let input = [under(2, plan_p(3)), events].concat();
+            assert_eq!(run(&input).lines.last(), Some(&format!("stop 2 {place}")));
+        }
+        assert_eq!(run(&[3, 7]).lines, ["stop 17 0"]);
+        assert_eq!(run(&[leaf(0, 1, 1), vec![3, 7]].concat()).lines, ["stop 18 8"]);
     }
 
     #[test]

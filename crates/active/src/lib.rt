@@ -13,7 +13,10 @@ ghost use Rattle.tree.specs.Class.{noWeight, isLeaf};
 ghost use Rattle.tree.specs.Rules.{PlanRules};
 ghost use Rattle.state.specs.Queue.{table};
 ghost use Rattle.active.specs.Known.{Raised, Kept};
+ghost use Rattle.rules.specs.Sizes.{activeSize};
+ghost use Rattle.units.specs.Cost.{costOf};
 use tree::Tree;
+use units::Bytes;
 use units::Weight;
 
 // The leaves that hold a packet.
@@ -132,4 +135,36 @@ pub fn sums_of(tree: Tree, active: u64, known: u64, kept: &[u32; 64]) -> [Weight
         return weights_of(kept);
     }
     weight_sums(tree, active)
+}
+
+// What the longest packet of a class costs, where it is an active leaf.
+fn active_longest(on: bool, leaf: bool, longest: u16) -> Bytes
+    ensures { λ r. ⌜ r .0 ≡ cond on (cond leaf (costOf longest) 0) 0 ⌝ }
+{
+    if !on {
+        return Bytes(0);
+    }
+    if leaf {
+        return units::cost(longest);
+    }
+    Bytes(0)
+}
+
+// Rule 2's size: the active classes' weights plus what the active leaves' longest packets cost.
+pub fn active_size(tree: Tree, active: u64) -> Bytes
+    requires { ⌜ PlanRules tree ⌝ }
+    ensures { λ r. ⌜ r .0 ≡ activeSize tree active ⌝ }
+{
+    let last = tree.count;
+    let mut weights = Weight(0);
+    let mut packets = Bytes(0);
+    let mut i: usize = 1;
+    while i <= last {
+        let w = tree.weight[i];
+        let counts = sets::has(active, i);
+        weights = with_active(weights, w, counts);
+        packets = packets.plus(active_longest(counts, sets::has(tree.leaves, i), tree.longest[i]));
+        i += 1;
+    }
+    units::size(weights, packets)
 }

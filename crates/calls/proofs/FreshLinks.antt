@@ -57,7 +57,7 @@ pub fresh-sound : (t : Tree) → PlanRules t → SoundLink (freshLink t)
 fresh-sound t rules = record {
   state =
       record {
-        fits = record { tree = rules; size = refl };
+        fits = record { tree = rules; size = record { most = omega arith; whole = λ e. refl } };
         holds = λ i u.
             let z = nothing-held t i u in
             record { few = λ f. omega (arith, z); range = λ f j h. absurd (omega (arith, z)); other = λ f. z };

@@ -39,6 +39,12 @@ pub const LENGTH: u8 = 13;
 pub const FULL: u8 = 14;
 // Send, and no packet waits.
 pub const NOTHING_WAITS: u8 = 15;
+// The buffer is shorter than the plan.
+pub const NO_ROOM: u8 = 16;
+// Rule byte not 1 or 2.
+pub const RULE: u8 = 17;
+// A rule record anywhere but first.
+pub const LATE_RULE: u8 = 18;
 // The capacity is outside its range.
 pub const CAPACITY: u8 = 20;
 // A leaf's request is outside its range.

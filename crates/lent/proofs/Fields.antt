@@ -157,16 +157,16 @@ module _ {M : Type 1} (𝓤 : URA M) (H : Heap 𝓤) (b o : ℕ) where
 module _ {M : Type 1} {𝓤 : URA M} {H : Heap 𝓤} {A : Atoms 𝓤} {K : Type 0} {W : Given 𝓤 H A} {Γ : List (Item 𝓤)} {G : Goal 𝓤 H} where
   pub apart : K → (h : Link) (b o : ℕ)
       → Step K W
-      (‵ (cell 0 0 b o (val-at 0 (h .tree))) ∷ ‵ (cell 1 464 b o (val-at 1 (h .size))) ∷ ‵ (cell 2 472 b o (val-at 2 (h .active)))
-      ∷ ‵ (cell 3 480 b o (val-at 3 (h .place))) ∷ ‵ (cell 4 488 b o (val-at 4 (h .accounts)))
-      ∷ ‵ (cell 5 1_512 b o (val-at 5 (h .start))) ∷ ‵ (cell 6 1_576 b o (val-at 6 (h .held)))
-      ∷ ‵ (cell 7 1_640 b o (val-at 7 (h .lengths))) ∷ ‵ (cell 8 5_736 b o (val-at 8 (h .tags))) ∷ raw (Way 𝓤 H b o) ∷ Γ) G
+      (‵ (cell 0 0 b o (val-at 0 (h .tree))) ∷ ‵ (cell 1 472 b o (val-at 1 (h .size))) ∷ ‵ (cell 2 480 b o (val-at 2 (h .active)))
+      ∷ ‵ (cell 3 488 b o (val-at 3 (h .place))) ∷ ‵ (cell 4 496 b o (val-at 4 (h .accounts)))
+      ∷ ‵ (cell 5 1_520 b o (val-at 5 (h .start))) ∷ ‵ (cell 6 1_584 b o (val-at 6 (h .held)))
+      ∷ ‵ (cell 7 1_648 b o (val-at 7 (h .lengths))) ∷ ‵ (cell 8 5_744 b o (val-at 8 (h .tags))) ∷ raw (Way 𝓤 H b o) ∷ Γ) G
       (‵ (cellAt fullShare (L.the-row .mir) (lval h ∷ []) b o) ∷ Γ) G
   apart t h b o = step (λ s.
-      use1 W ((‵ (cell 0 0 b o (val-at 0 (h .tree))) ⊛ ‵ (cell 1 464 b o (val-at 1 (h .size))) ⊛ ‵ (cell 2 472 b o (val-at 2 (h .active)))
-      ⊛ ‵ (cell 3 480 b o (val-at 3 (h .place))) ⊛ ‵ (cell 4 488 b o (val-at 4 (h .accounts)))
-      ⊛ ‵ (cell 5 1_512 b o (val-at 5 (h .start))) ⊛ ‵ (cell 6 1_576 b o (val-at 6 (h .held)))
-      ⊛ ‵ (cell 7 1_640 b o (val-at 7 (h .lengths))) ⊛ ‵ (cell 8 5_736 b o (val-at 8 (h .tags))) ⊛ ‵ ftrue) ⊛ raw (Way 𝓤 H b o))
+      use1 W ((‵ (cell 0 0 b o (val-at 0 (h .tree))) ⊛ ‵ (cell 1 472 b o (val-at 1 (h .size))) ⊛ ‵ (cell 2 480 b o (val-at 2 (h .active)))
+      ⊛ ‵ (cell 3 488 b o (val-at 3 (h .place))) ⊛ ‵ (cell 4 496 b o (val-at 4 (h .accounts)))
+      ⊛ ‵ (cell 5 1_520 b o (val-at 5 (h .start))) ⊛ ‵ (cell 6 1_584 b o (val-at 6 (h .held)))
+      ⊛ ‵ (cell 7 1_648 b o (val-at 7 (h .lengths))) ⊛ ‵ (cell 8 5_744 b o (val-at 8 (h .tags))) ⊛ ‵ ftrue) ⊛ raw (Way 𝓤 H b o))
       (W .laws .at-fields fullShare [] field-types b o (values h)) $
       split t $ split t $ move t (1 ∷ []) $ split t $ move t (1 ∷ []) $ split t $ move t (1 ∷ []) $ split t $ move t (1 ∷ []) $ split t $
       move t (1 ∷ []) $
@@ -175,9 +175,9 @@ module _ {M : Type 1} {𝓤 : URA M} {H : Heap 𝓤} {A : Atoms 𝓤} {K : Type 
 
   pub together : K → (m : Link) (b o : ℕ)
       → Step K W (‵ (cellAt fullShare (L.the-row .mir) (lval m ∷ []) b o) ∷ Γ) G
-      (‵ (cell 0 0 b o (val-at 0 (m .tree))) ∷ ‵ (cell 1 464 b o (val-at 1 (m .size))) ∷ ‵ (cell 2 472 b o (val-at 2 (m .active)))
-      ∷ ‵ (cell 3 480 b o (val-at 3 (m .place))) ∷ ‵ (cell 4 488 b o (val-at 4 (m .accounts))) ∷ ‵ (cell 5 1_512 b o (val-at 5 (m .start)))
-      ∷ ‵ (cell 6 1_576 b o (val-at 6 (m .held))) ∷ ‵ (cell 7 1_640 b o (val-at 7 (m .lengths))) ∷ ‵ (cell 8 5_736 b o (val-at 8 (m .tags)))
+      (‵ (cell 0 0 b o (val-at 0 (m .tree))) ∷ ‵ (cell 1 472 b o (val-at 1 (m .size))) ∷ ‵ (cell 2 480 b o (val-at 2 (m .active)))
+      ∷ ‵ (cell 3 488 b o (val-at 3 (m .place))) ∷ ‵ (cell 4 496 b o (val-at 4 (m .accounts))) ∷ ‵ (cell 5 1_520 b o (val-at 5 (m .start)))
+      ∷ ‵ (cell 6 1_584 b o (val-at 6 (m .held))) ∷ ‵ (cell 7 1_648 b o (val-at 7 (m .lengths))) ∷ ‵ (cell 8 5_744 b o (val-at 8 (m .tags)))
       ∷ raw (Way 𝓤 H b o) ∷ Γ) G
   together t m b o = step (λ s.
       nothing t $ move t (9 ∷ 0 ∷ []) $ join t $ move t (8 ∷ 0 ∷ []) $ join t $ move t (7 ∷ 0 ∷ []) $ join t $ move t (6 ∷ 0 ∷ []) $
@@ -218,23 +218,23 @@ abbrev pub to : (b o : ℕ) → GName → List ℕ → RefT (List ℕ)
 to b o γ xs = record { ptr = (b, o); name = γ; now = xs }
 
 abbrev lengths-at : ℕ → ℕ → List ℕ → Fml
-lengths-at b o xs = partAt Lengths fullShare xs b (o + 1_640)
+lengths-at b o xs = partAt Lengths fullShare xs b (o + 1_648)
 
 abbrev tags-at : ℕ → ℕ → List ℕ → Fml
-tags-at b o xs = partAt Tags fullShare xs b (o + 5_736)
+tags-at b o xs = partAt Tags fullShare xs b (o + 5_744)
 
 -- what a `&` and a `&mut` to them own
 abbrev pub shr-lengths : (b o α : ℕ) → GName → List ℕ → Fml
-shr-lengths b o α γ xs = ShrRef (named 0) (α ∷ []) Lengths .own (to b (o + 1_640) γ xs) (vptr b (o + 1_640) ∷ [])
+shr-lengths b o α γ xs = ShrRef (named 0) (α ∷ []) Lengths .own (to b (o + 1_648) γ xs) (vptr b (o + 1_648) ∷ [])
 
 abbrev pub shr-tags : (b o α : ℕ) → GName → List ℕ → Fml
-shr-tags b o α γ xs = ShrRef (named 0) (α ∷ []) Tags .own (to b (o + 5_736) γ xs) (vptr b (o + 5_736) ∷ [])
+shr-tags b o α γ xs = ShrRef (named 0) (α ∷ []) Tags .own (to b (o + 5_744) γ xs) (vptr b (o + 5_744) ∷ [])
 
 abbrev pub mut-lengths : (b o α : ℕ) → GName → List ℕ → Fml
-mut-lengths b o α γ xs = MutRef (named 0) (α ∷ []) Lengths .own (to b (o + 1_640) γ xs) (vptr b (o + 1_640) ∷ [])
+mut-lengths b o α γ xs = MutRef (named 0) (α ∷ []) Lengths .own (to b (o + 1_648) γ xs) (vptr b (o + 1_648) ∷ [])
 
 abbrev pub mut-tags : (b o α : ℕ) → GName → List ℕ → Fml
-mut-tags b o α γ xs = MutRef (named 0) (α ∷ []) Tags .own (to b (o + 5_736) γ xs) (vptr b (o + 5_736) ∷ [])
+mut-tags b o α γ xs = MutRef (named 0) (α ∷ []) Tags .own (to b (o + 5_744) γ xs) (vptr b (o + 5_744) ∷ [])
 
 module _ {M : Type 1} {𝓤 : URA M} {H : Heap 𝓤} {A : Atoms 𝓤} {K : Type 0} {W : Given 𝓤 H A} {Γ : List (Item 𝓤)} {G : Goal 𝓤 H} where
   -- both lent for one lifetime, as a law of lending has it: what the references own, and what the lender waits for
@@ -246,12 +246,12 @@ module _ {M : Type 1} {𝓤 : URA M} {H : Heap 𝓤} {A : Atoms 𝓤} {K : Type 
       → ((α : ℕ) (γ δ : GName)
       → Seq K W (‵ (flft (α ∷ []) fullShare) ∷ ‵ (Own₇ α γ) ∷ ‵ (Own₈ α δ) ∷ ‵ (flent (α ∷ []) (Held₇ α γ))
       ∷ ‵ (flent (α ∷ []) (Held₈ α δ)) ∷ Γ) G)
-      → Seq K W (‵ (cell 7 1_640 b o (val-at 7 xs)) ∷ ‵ (cell 8 5_736 b o (val-at 8 ys)) ∷ Γ) G
+      → Seq K W (‵ (cell 7 1_648 b o (val-at 7 xs)) ∷ ‵ (cell 8 5_744 b o (val-at 8 ys)) ∷ Γ) G
   both-lent t z xs ys b o isx isy Own₇ Own₈ Held₇ Held₈ lends₇ lends₈ k =
       use1 W (‵ (lengths-at b o (same xs)))
-      (lies 𝓤 H A W Lengths (same xs) b (o + 1_640) (array-makes 𝓤 H A W u16 (uint-makes 𝓤 H A W w16) 2_048) (val-at 7 xs) isx) $
+      (lies 𝓤 H A W Lengths (same xs) b (o + 1_648) (array-makes 𝓤 H A W u16 (uint-makes 𝓤 H A W w16) 2_048) (val-at 7 xs) isx) $
       move t (1 ∷ []) $ use1 W (‵ (tags-at b o (same ys)))
-      (lies 𝓤 H A W Tags (same ys) b (o + 5_736) (array-makes 𝓤 H A W u32 (uint-makes 𝓤 H A W w32) 2_048) (val-at 8 ys) isy) $
+      (lies 𝓤 H A W Tags (same ys) b (o + 5_744) (array-makes 𝓤 H A W u32 (uint-makes 𝓤 H A W w32) 2_048) (val-at 8 ys) isy) $
       lft-new t z (λ α. move t (1 ∷ []) $ use1 W (later (some (λ (δ : GName). ‵ (Own₈ α δ) ⊛ ‵ (flent (α ∷ []) (Held₈ α δ))))) (lends₈ α) $
       await t z $ pick t (λ δ. split t $
       move t (3 ∷ []) $ use1 W (later (some (λ (γ : GName). ‵ (Own₇ α γ) ⊛ ‵ (flent (α ∷ []) (Held₇ α γ))))) (lends₇ α) $ await t z $
@@ -261,14 +261,14 @@ module _ {M : Type 1} {𝓤 : URA M} {H : Heap 𝓤} {A : Atoms 𝓤} {K : Type 
 
   -- what lies there is in the cells
   in-cells : K → (xs ys : List ℕ) (b o : ℕ)
-      → (Fits 7 xs → Fits 8 ys → Seq K W (‵ (cell 7 1_640 b o (val-at 7 xs)) ∷ ‵ (cell 8 5_736 b o (val-at 8 ys)) ∷ Γ) G)
+      → (Fits 7 xs → Fits 8 ys → Seq K W (‵ (cell 7 1_648 b o (val-at 7 xs)) ∷ ‵ (cell 8 5_744 b o (val-at 8 ys)) ∷ Γ) G)
       → Seq K W (‵ (lengths-at b o (same xs)) ∷ ‵ (tags-at b o (same ys)) ∷ Γ) G
   in-cells t xs ys b o k =
-      use1 W (given (Fits 7 xs) (‵ (cell 7 1_640 b o (val-at 7 xs))))
-      (lay 𝓤 H A W Lengths (same xs) b (o + 1_640) lengths-vals (lawAt (L.the-type .parts) L′.the-laws 7 .tells)) $
+      use1 W (given (Fits 7 xs) (‵ (cell 7 1_648 b o (val-at 7 xs))))
+      (lay 𝓤 H A W Lengths (same xs) b (o + 1_648) lengths-vals (lawAt (L.the-type .parts) L′.the-laws 7 .tells)) $
       learn t (λ isx. move t (1 ∷ []) $
-      use1 W (given (Fits 8 ys) (‵ (cell 8 5_736 b o (val-at 8 ys))))
-      (lay 𝓤 H A W Tags (same ys) b (o + 5_736) tags-vals (lawAt (L.the-type .parts) L′.the-laws 8 .tells)) $
+      use1 W (given (Fits 8 ys) (‵ (cell 8 5_744 b o (val-at 8 ys))))
+      (lay 𝓤 H A W Tags (same ys) b (o + 5_744) tags-vals (lawAt (L.the-type .parts) L′.the-laws 8 .tells)) $
       learn t (λ isy. move t (1 ∷ 0 ∷ []) $ k isx isy))
 
 module _ {M : Type 1} {𝓤 : URA M} {H : Heap 𝓤} {A : Atoms 𝓤} {K : Type 0} {W : Given 𝓤 H A} {Γ : List (Item 𝓤)} {G : Goal 𝓤 H} where
@@ -277,16 +277,16 @@ module _ {M : Type 1} {𝓤 : URA M} {H : Heap 𝓤} {A : Atoms 𝓤} {K : Type 
       → ((α : ℕ) (γ δ : GName) → Seq K W
       (‵ (flft (α ∷ []) fullShare) ∷ ‵ (shr-lengths b o α γ (same xs)) ∷ ‵ (shr-tags b o α δ (same ys))
       ∷ ‵ (flent (α ∷ []) (lengths-at b o (same xs))) ∷ ‵ (flent (α ∷ []) (tags-at b o (same ys))) ∷ Γ) G)
-      → Seq K W (‵ (cell 7 1_640 b o (val-at 7 xs)) ∷ ‵ (cell 8 5_736 b o (val-at 8 ys)) ∷ Γ) G
+      → Seq K W (‵ (cell 7 1_648 b o (val-at 7 xs)) ∷ ‵ (cell 8 5_744 b o (val-at 8 ys)) ∷ Γ) G
   shared t z xs ys b o isx isy =
       both-lent t z xs ys b o isx isy (λ α γ. shr-lengths b o α γ (same xs)) (λ α γ. shr-tags b o α γ (same ys))
       (λ α γ. lengths-at b o (same xs)) (λ α γ. tags-at b o (same ys))
-      (λ α. lends-shr 𝓤 H A W Lengths (named 0) (α ∷ []) fullShare (same xs) b (o + 1_640))
-      (λ α. lends-shr 𝓤 H A W Tags (named 0) (α ∷ []) fullShare (same ys) b (o + 5_736))
+      (λ α. lends-shr 𝓤 H A W Lengths (named 0) (α ∷ []) fullShare (same xs) b (o + 1_648))
+      (λ α. lends-shr 𝓤 H A W Tags (named 0) (α ∷ []) fullShare (same ys) b (o + 5_744))
 
   -- and taken back, as they were
   pub unshared : K → Soaks G → (xs ys : List ℕ) (b o : ℕ) {α : ℕ}
-      → Step K W (‵ (cell 7 1_640 b o (val-at 7 xs)) ∷ ‵ (cell 8 5_736 b o (val-at 8 ys)) ∷ Γ) G
+      → Step K W (‵ (cell 7 1_648 b o (val-at 7 xs)) ∷ ‵ (cell 8 5_744 b o (val-at 8 ys)) ∷ Γ) G
       (‵ (flft (α ∷ []) fullShare) ∷ ‵ (flent (α ∷ []) (lengths-at b o (same xs))) ∷ ‵ (flent (α ∷ []) (tags-at b o (same ys))) ∷ Γ) G
   unshared t z xs ys b o {α} = step (λ s.
       lft-end t z $ use1 W (‵ (fdead (α ∷ [])) ⊛ ‵ (fdead (α ∷ []))) (W .lfts .dead-dup (α ∷ [])) $ split t $ move t (1 ∷ 3 ∷ []) $
@@ -297,24 +297,24 @@ module _ {M : Type 1} {𝓤 : URA M} {H : Heap 𝓤} {A : Atoms 𝓤} {K : Type 
   pub lent-out : K → Soaks G → (xs ys : List ℕ) (b o : ℕ) → Fits 7 xs → Fits 8 ys
       → ((α : ℕ) (γ δ : GName) → Seq K W
       (‵ (flft (α ∷ []) fullShare) ∷ ‵ (mut-lengths b o α γ (same xs)) ∷ ‵ (mut-tags b o α δ (same ys))
-      ∷ ‵ (flent (α ∷ []) (Body (mem Lengths) b (o + 1_640) γ)) ∷ ‵ (flent (α ∷ []) (Body (mem Tags) b (o + 5_736) δ)) ∷ Γ) G)
-      → Seq K W (‵ (cell 7 1_640 b o (val-at 7 xs)) ∷ ‵ (cell 8 5_736 b o (val-at 8 ys)) ∷ Γ) G
+      ∷ ‵ (flent (α ∷ []) (Body (mem Lengths) b (o + 1_648) γ)) ∷ ‵ (flent (α ∷ []) (Body (mem Tags) b (o + 5_744) δ)) ∷ Γ) G)
+      → Seq K W (‵ (cell 7 1_648 b o (val-at 7 xs)) ∷ ‵ (cell 8 5_744 b o (val-at 8 ys)) ∷ Γ) G
   lent-out t z xs ys b o isx isy =
       both-lent t z xs ys b o isx isy (λ α γ. mut-lengths b o α γ (same xs)) (λ α γ. mut-tags b o α γ (same ys))
-      (λ α γ. Body (mem Lengths) b (o + 1_640) γ) (λ α γ. Body (mem Tags) b (o + 5_736) γ)
-      (λ α. lends-ref 𝓤 H A W Lengths (named 0) (α ∷ []) (same xs) b (o + 1_640))
-      (λ α. lends-ref 𝓤 H A W Tags (named 0) (α ∷ []) (same ys) b (o + 5_736))
+      (λ α γ. Body (mem Lengths) b (o + 1_648) γ) (λ α γ. Body (mem Tags) b (o + 5_744) γ)
+      (λ α. lends-ref 𝓤 H A W Lengths (named 0) (α ∷ []) (same xs) b (o + 1_648))
+      (λ α. lends-ref 𝓤 H A W Tags (named 0) (α ∷ []) (same ys) b (o + 5_744))
 
   -- and taken back, at their last values
   pub come-back : K → Soaks G → (xs ys : List ℕ) (b o : ℕ) {α : ℕ} {γ δ : GName}
-      → (Fits 7 xs → Fits 8 ys → Seq K W (‵ (cell 7 1_640 b o (val-at 7 xs)) ∷ ‵ (cell 8 5_736 b o (val-at 8 ys)) ∷ Γ) G)
+      → (Fits 7 xs → Fits 8 ys → Seq K W (‵ (cell 7 1_648 b o (val-at 7 xs)) ∷ ‵ (cell 8 5_744 b o (val-at 8 ys)) ∷ Γ) G)
       → Seq K W (‵ (flft (α ∷ []) fullShare) ∷ ‵ (fres γ (Lengths .coded .code xs)) ∷ ‵ (fres δ (Tags .coded .code ys))
-      ∷ ‵ (flent (α ∷ []) (Body (mem Lengths) b (o + 1_640) γ)) ∷ ‵ (flent (α ∷ []) (Body (mem Tags) b (o + 5_736) δ)) ∷ Γ) G
+      ∷ ‵ (flent (α ∷ []) (Body (mem Lengths) b (o + 1_648) γ)) ∷ ‵ (flent (α ∷ []) (Body (mem Tags) b (o + 5_744) δ)) ∷ Γ) G
   come-back t z xs ys b o {α} {γ} {δ} k =
       lft-end t z $ use1 W (‵ (fdead (α ∷ [])) ⊛ ‵ (fdead (α ∷ []))) (W .lfts .dead-dup (α ∷ [])) $ split t $
       -- [dead; dead; the last values; the lender's parts]
-      move t (0 ∷ 5 ∷ 3 ∷ []) $ use3 W (later (‵ (tags-at b o ys))) (ref-back 𝓤 H A W Tags (α ∷ []) δ ys b (o + 5_736)) $ await t z $
-      move t (1 ∷ 3 ∷ 2 ∷ []) $ use3 W (later (‵ (lengths-at b o xs))) (ref-back 𝓤 H A W Lengths (α ∷ []) γ xs b (o + 1_640)) $ await t z $
+      move t (0 ∷ 5 ∷ 3 ∷ []) $ use3 W (later (‵ (tags-at b o ys))) (ref-back 𝓤 H A W Tags (α ∷ []) δ ys b (o + 5_744)) $ await t z $
+      move t (1 ∷ 3 ∷ 2 ∷ []) $ use3 W (later (‵ (lengths-at b o xs))) (ref-back 𝓤 H A W Lengths (α ∷ []) γ xs b (o + 1_648)) $ await t z $
       rewrite t 0 (λ (zs : List ℕ). ‵ (lengths-at b o zs)) (sym (map-id xs)) refl $
       rewrite t 1 (λ (zs : List ℕ). ‵ (tags-at b o zs)) (sym (map-id ys)) refl $
       in-cells t xs ys b o k

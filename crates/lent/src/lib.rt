@@ -49,5 +49,6 @@ pub fn send(link: &mut Link) -> Departure
     link.accounts = went.accounts;
     link.start = went.start;
     link.held = went.held;
+    link.size = went.size;
     went.answer
 }

@@ -59,7 +59,7 @@ module _ (l : Link) (i : ℕ) (p : Packet) (flag : Bool) (exactly : Exactly flag
 module _ (l : Link) (flag : Bool) (exactly : Exactly flag (SoundLink l)) (r : Changed) where
   -- a refused send changes no part
   pub stays-sends : (n : ℕ) → sendOf flag l ≡ sendGives (Refused n 0) l
-      → r ≡ changedTo (refused (Refused n 0)) (l .active) (l .place) (l .accounts) (l .start) (l .held) → SendsIn l r
+      → r ≡ changedTo (refused (Refused n 0)) (l .active) (l .place) (l .accounts) (l .start) (l .held) (l .size) → SendsIn l r
   stays-sends n gives said shape =
       sends-by l flag _ shape exactly (ap (λ (x : Changed). sendLeaves (x .answer) (changedLink l x)) said ∙ sym gives)
 

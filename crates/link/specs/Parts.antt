@@ -3,6 +3,7 @@ use mathlib.Core.List.{List}
 use Prim.Native.Nat.{ℕ}
 use lib.ListN.{set}
 use Rattle.checks.specs.declared.Verdict.{Verdict}
+use Rattle.units.specs.declared.Bytes.{Bytes}
 use Rattle.state.specs.declared.Account.{Account}
 use Rattle.state.specs.declared.Link.{Link}
 use Rattle.state.specs.declared.Packet.{Packet}
@@ -31,23 +32,24 @@ ArrivesIn l class p r = Shaped l → Arrives l class p (arrivalLeaves (r .answer
 abbrev pub ArrivesAt : Link → ℕ → Packet → Arrival → Link → Type 0
 ArrivesAt l class p answer after = Shaped l → Arrives l class p (arrivalLeaves answer after)
 
-abbrev pub changedTo : Departure → ℕ → ℕ → List Account → List ℕ → List ℕ → Changed
-changedTo answer active place accounts start held = record {
+abbrev pub changedTo : Departure → ℕ → ℕ → List Account → List ℕ → List ℕ → Bytes → Changed
+changedTo answer active place accounts start held size = record {
   answer = answer;
   active = active;
   place = place;
   accounts = accounts;
   start = start;
   held = held;
+  size = size;
 }
 
 -- a packet that goes, and the parts of the link after it
 abbrev pub goesBy : Moved → Changed
-goesBy m = changedTo (goes (m .class) (m .packet) (m .rounds)) (m .active) (m .place) (m .accounts) (m .start) (m .held)
+goesBy m = changedTo (goes (m .class) (m .packet) (m .rounds)) (m .active) (m .place) (m .accounts) (m .start) (m .held) (m .size)
 
 -- the link with the parts that a send may change
 abbrev pub changedLink : Link → Changed → Link
-changedLink l r = queued (linkInRound l (r .active) (r .place) (r .accounts)) (r .start) (r .held) (l .lengths) (l .tags)
+changedLink l r = queued (linkInRound l (r .size .0) (r .active) (r .place) (r .accounts)) (r .start) (r .held) (l .lengths) (l .tags)
 
 -- a send over the parts of a link
 abbrev pub SendsIn : Link → Changed → Type 0

@@ -43,6 +43,7 @@ pub struct Changed {
     pub accounts: [Account; Link::CLASSES],
     pub start: [u8; Link::CLASSES],
     pub held: [u8; Link::CLASSES],
+    pub size: Bytes,
     pub answer: Departure,
 }
 
@@ -191,13 +192,14 @@ pub fn arrive(link: Link, class: usize, packet: Packet) -> AfterArrival
 // A refused send: every part as it was, and all other numbers 0.
 fn stays(
     number: u8,
+    size: Bytes,
     active: u64,
     place: usize,
     accounts: [Account; Link::CLASSES],
     start: [u8; Link::CLASSES],
     held: [u8; Link::CLASSES],
 ) -> Changed
-    ensures { λ r. ⌜ r ≡ changedTo (refused (Refused number 0)) active place accounts start held ⌝ }
+    ensures { λ r. ⌜ r ≡ changedTo (refused (Refused number 0)) active place accounts start held size ⌝ }
 {
     let verdict = Verdict::Refused(number, 0);
     let answer = Departure {
@@ -214,6 +216,7 @@ fn stays(
         accounts,
         start,
         held,
+        size,
     }
 }
 
@@ -233,6 +236,7 @@ fn goes(moved: Moved) -> Changed
     let accounts = moved.accounts;
     let start = moved.start;
     let held = moved.held;
+    let size = moved.size;
     Changed {
         answer,
         active: moved.active,
@@ -240,6 +244,7 @@ fn goes(moved: Moved) -> Changed
         accounts,
         start,
         held,
+        size,
     }
 }
 
@@ -258,12 +263,38 @@ pub fn send_of<'a>(
     ensures { λ r. ⌜ SendsIn (linkOf tree size active place accounts start held (now (lengths .entry)) (now (tags .entry))) r ⌝ }
 {
     if !sound::is_sound_of(tree, size, active, place, accounts, start, held, lengths) {
-        return stays(checks::NOT_SOUND, active, place, accounts, start, held);
+        return stays(
+            checks::NOT_SOUND,
+            size,
+            active,
+            place,
+            accounts,
+            start,
+            held,
+        );
     }
-    let moved = steps::send_values(tree, active, place, accounts, start, held, lengths, tags);
+    let moved = steps::send_values(
+        tree,
+        size,
+        active,
+        place,
+        accounts,
+        start,
+        held,
+        lengths,
+        tags,
+    );
     let some = moved.some;
     if !some {
-        return stays(checks::NOTHING_WAITS, active, place, accounts, start, held);
+        return stays(
+            checks::NOTHING_WAITS,
+            size,
+            active,
+            place,
+            accounts,
+            start,
+            held,
+        );
     }
     goes(moved)
 }
@@ -292,12 +323,14 @@ pub fn send(link: Link) -> AfterSend
     let accounts_after = went.accounts;
     let start_after = went.start;
     let held_after = went.held;
+    let size_after = went.size;
     let mut after = link;
     after.active = went.active;
     after.place = went.place;
     after.accounts = accounts_after;
     after.start = start_after;
     after.held = held_after;
+    after.size = size_after;
     AfterSend {
         answer,
         link: after,

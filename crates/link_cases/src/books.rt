@@ -1,4 +1,4 @@
-// The books of a link record on a line: its place, active set and round size, and B and R of each class; they run, and are compared with
+// The books of a link record on a line: its place, active set and size in force, and B and R of each class; they run, and are compared with
 // the written-down ones.
 use shown::number;
 use shown::word;

@@ -8,7 +8,7 @@ use state::Link;
 use tree::Tree;
 use units::Bytes;
 
-// The link with another tree, round size, active set or place.
+// The link with another tree, size in force, active set or place.
 fn with_tree(mut link: Link, tree: Tree) -> Link {
     link.tree = tree;
     link
@@ -64,10 +64,10 @@ fn place_number(mut link: Link, field: u64, i: usize, value: u64) -> Link {
     link
 }
 
-// Any field, by its number: 0 to 4 are those of the tree.
+// Any field, by its number: 0 to 4 and 14 are those of the tree.
 pub(crate) fn stored(link: Link, field: u64, i: usize, value: u64) -> Link {
     match field {
-        0 | 1 | 2 | 3 | 4 => with_tree(link, tree_number(link.tree, field, i, value)),
+        0 | 1 | 2 | 3 | 4 | 14 => with_tree(link, tree_number(link.tree, field, i, value)),
         5 => with_size(link, value),
         6 => with_active(link, value),
         7 => with_place(link, value as usize),

@@ -42,9 +42,9 @@ fn same_places(a: Link, b: Link) -> bool {
     true
 }
 
-// The same count of classes and the same leaves.
+// The same count of classes, the same leaves and the same rule.
 fn same_tree(a: Tree, b: Tree) -> bool {
-    (a.count == b.count) & (a.leaves == b.leaves)
+    (a.count == b.count) & (a.leaves == b.leaves) & (a.follows == b.follows)
 }
 
 // The same link record.

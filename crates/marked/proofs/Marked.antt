@@ -8,14 +8,15 @@ use Rattle.tree.specs.Class.{isClass, isLeaf, isInner, isChild, childWeight, ch
 use Rattle.tree.specs.Sum.{sumTo, someTo}
 use Rattle.tree.specs.Rules.{tooMany, badParent, badWeight, badLongest, tooHeavy, childless, noClass}
 use Rattle.tree.specs.Size.{allWeights, longestCost, allLongest, roundSize}
+use Rattle.rules.specs.Sizes.{ifActive, activeWeights, activeLongest, activeSize, mainSize}
 use Rattle.plan.specs.Kind.{recordKind}
-use Rattle.plan.specs.Record.{kindAt, missing, unknown, cut, bodyOf, classAt}
-use Rattle.plan.specs.Reader.{recordChecks, after, treeOf, passes, inRow, passedOver, decidingChecks, planOf}
+use Rattle.plan.specs.Record.{kindAt, missing, unknown, cut, bodyOf, ruleOf, lateRule, badRule, classAt}
+use Rattle.plan.specs.Reader.{recordChecks, ruleFirst, after, followsOf, treeOf, passes, inRow, passedOver, decidingChecks, planOf}
 use Rattle.state.specs.Queue.{table, queueOf}
 use Rattle.tree.specs.Below.{climbs, atOrBelow}
 use Rattle.rules.specs.Active.{waits, someWaits, someBelow, setOf, upward, roundActive, activeChild, activeWeight, weightSum}
 use Rattle.rules.specs.Opening.{surplusAt, hasSurplus, kindOf, quotaIn, quota, due, handsDown, openedLeaf, openedInner, openedAccount}
-use Rattle.rules.specs.Opening.{openedAccounts, nextKind, opened}
+use Rattle.rules.specs.Opening.{openedAccounts, nextKind, nextSize, resizedAccounts, openedWith}
 use Rattle.rules.specs.Sending.{ready, firstFrom, nextLeaf, givenUp, turnsOff, paid, booksAfter, sentState, turnOf, sends, traceOf}
 use Rattle.calls.specs.Arrival.{noLeaf, badLength, full, arrivalOf}
 use Rattle.calls.specs.Send.{sendOf}
@@ -30,9 +31,11 @@ unfolding markedCases found expected readOf accountsOf openingOf classesIn calls
     firstBroken classByClass has with without costOf
     isClass isLeaf isInner isChild childWeight childrenWeight hasChild sumTo someTo allWeights longestCost allLongest roundSize
     tooMany badParent badWeight badLongest tooHeavy childless noClass
-    recordKind kindAt missing unknown cut bodyOf classAt recordChecks after treeOf passes inRow passedOver decidingChecks planOf
+    recordKind kindAt missing unknown cut bodyOf ruleOf lateRule badRule classAt recordChecks ruleFirst after followsOf treeOf passes
+    inRow passedOver decidingChecks planOf
     table queueOf climbs atOrBelow waits someWaits someBelow setOf upward roundActive activeChild activeWeight weightSum
-    surplusAt hasSurplus kindOf quotaIn quota due handsDown openedLeaf openedInner openedAccount openedAccounts nextKind opened
+    surplusAt hasSurplus kindOf quotaIn quota due handsDown openedLeaf openedInner openedAccount openedAccounts nextKind nextSize
+    ifActive activeWeights activeLongest activeSize mainSize resizedAccounts openedWith
     ready firstFrom nextLeaf givenUp turnsOff paid booksAfter sentState turnOf sends traceOf
     noLeaf badLength full arrivalOf sendOf runOf madeIn closedIn waitingIn
 computed = refl

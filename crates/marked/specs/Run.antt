@@ -46,11 +46,12 @@ pub record Accounts : Type 0 where
   pub B : List ℕ
   pub R : List ℕ
 
--- a round opened in a send: the accounts when the last one closed, the kind, the quotas of class 0 and of class 1, the accounts after the
--- opening
+-- a round opened in a send: the accounts when the last one closed, the kind, the size in force, the quotas of class 0 and of class 1, the
+-- accounts after the opening
 pub record Opening : Type 0 where
   pub closed : Accounts
   pub kind : Kind
+  pub size : ℕ
   pub quotas : List ℕ
   pub after : Accounts
 
@@ -70,8 +71,9 @@ accountsOf accounts = record { B = table (balanceOf accounts) 64; R = table (res
 
 unfoldable pub openingOf : Turn → Opening
 openingOf turn = record {
-  closed = accountsOf (turn .closed);
+  closed = accountsOf (turn .closed .accounts);
   kind = turn .kind;
+  size = turn .size;
   quotas = turn .quotas 0 ∷ turn .quotas 1 ∷ [];
   after = accountsOf (turn .after);
 }

@@ -1,5 +1,6 @@
--- The listing and the marked cases M1 to M12, worked with charges (R15, R16), and three more: two rounds in a send, a leaf that turned
--- inactive, a surplus round that sends. The input, the calls, and what each of them is to give. Demands 1 and 2.
+-- The listing and the marked cases M1 to M12, worked with charges (R15, R16), and five more: two rounds in a send, a leaf that turned
+-- inactive, a surplus round that sends, the listing under each rule of the round size (R222). The input, the calls, and what each of them
+-- is to give. Demands 1 and 2.
 use mathlib.Core.List.{List, [], _∷_, _++_}
 use Prim.Native.Nat.{ℕ}
 use lib.ListN.{replicate}
@@ -92,6 +93,7 @@ abbrev firstOpening : Opening
 firstOpening = record {
   closed = record { B = these (262 ∷ 0 ∷ 0 ∷ 0 ∷ 0 ∷ []); R = nothing };
   kind = main;
+  size = 262;
   quotas = 37 ∷ 37 ∷ [];
   after = record { B = these (3 ∷ 0 ∷ 37 ∷ 74 ∷ 148 ∷ []); R = nothing };
 }
@@ -129,6 +131,7 @@ abbrev secondOpening : Opening
 secondOpening = record {
   closed = record { B = these (87 ∷ 0 ∷ 37 ∷ 74 ∷ 0 ∷ []); R = these (64 ∷ 0 ∷ 0 ∷ 0 ∷ 0 ∷ []) };
   kind = main;
+  size = 262;
   quotas = 50 ∷ 50 ∷ [];
   after = record { B = these (1 ∷ 0 ∷ 87 ∷ 174 ∷ 0 ∷ []); R = nothing };
 }
@@ -144,6 +147,7 @@ abbrev surplusOpening : Opening
 surplusOpening = record {
   closed = record { B = these (253 ∷ 0 ∷ 3 ∷ 0 ∷ 0 ∷ []); R = these (0 ∷ 6 ∷ 0 ∷ 0 ∷ 0 ∷ []) };
   kind = surplus;
+  size = 262;
   quotas = 0 ∷ 6 ∷ [];
   after = record { B = these (253 ∷ 0 ∷ 9 ∷ 0 ∷ 0 ∷ []); R = nothing };
 }
@@ -152,6 +156,7 @@ abbrev mainOpening : Opening
 mainOpening = record {
   closed = record { B = these (253 ∷ 0 ∷ 9 ∷ 0 ∷ 0 ∷ []); R = nothing };
   kind = main;
+  size = 262;
   quotas = 84 ∷ 252 ∷ [];
   after = record { B = these (1 ∷ 0 ∷ 261 ∷ 0 ∷ 0 ∷ []); R = nothing };
 }
@@ -165,6 +170,7 @@ abbrev rejoins : Opening
 rejoins = record {
   closed = record { B = these (87 ∷ 0 ∷ 37 ∷ 74 ∷ 0 ∷ []); R = these (64 ∷ 0 ∷ 0 ∷ 0 ∷ 0 ∷ []) };
   kind = main;
+  size = 262;
   quotas = 21 ∷ 21 ∷ [];
   after = record { B = these (4 ∷ 0 ∷ 58 ∷ 116 ∷ 84 ∷ []); R = nothing };
 }
@@ -183,6 +189,7 @@ abbrev surplusSends : Opening
 surplusSends = record {
   closed = record { B = these (169 ∷ 0 ∷ 3 ∷ 0 ∷ 0 ∷ []); R = these (0 ∷ 90 ∷ 0 ∷ 0 ∷ 0 ∷ []) };
   kind = surplus;
+  size = 262;
   quotas = 0 ∷ 90 ∷ [];
   after = record { B = these (169 ∷ 0 ∷ 93 ∷ 0 ∷ 0 ∷ []); R = nothing };
 }
@@ -227,6 +234,45 @@ m12 = m1 then table (λ tag. arrival 4 10 tag ⟶ taken) 32 then
     ∷ arrival 4 10 33 ⟶ taken
     ∷ [])
 
+-- Rule 1 written out, tree P with the record 3 1 before it: the listing, with 33 bytes used.
+abbrev ruleOne : Entry
+ruleOne = record { input = 3 ∷ 1 ∷ treeWith 3; read = accepted 4 262 33; exchanges = listing .exchanges }
+
+-- Rule 2, tree P with the record 3 2 before it: the same four arrivals. The sends give tags 4, 2, 1, 3 with 1, 1, 1 and 0 rounds, all main
+-- rounds, with the sizes in force 262, 174 and 174. In the second the root has 87 + 64 + 174 − 262 = 63 to share out. At the end root B 168,
+-- R 6, which are the 174 in force.
+abbrev smallerOpening : Opening
+smallerOpening = record {
+  closed = record { B = these (87 ∷ 0 ∷ 37 ∷ 74 ∷ 0 ∷ []); R = these (64 ∷ 0 ∷ 0 ∷ 0 ∷ 0 ∷ []) };
+  kind = main;
+  size = 174;
+  quotas = 21 ∷ 21 ∷ [];
+  after = record { B = these (0 ∷ 0 ∷ 58 ∷ 116 ∷ 0 ∷ []); R = nothing };
+}
+
+abbrev sameSizeOpening : Opening
+sameSizeOpening = record {
+  closed = record { B = these (84 ∷ 0 ∷ 58 ∷ 32 ∷ 0 ∷ []); R = nothing };
+  kind = main;
+  size = 174;
+  quotas = 28 ∷ 28 ∷ [];
+  after = record { B = these (0 ∷ 0 ∷ 86 ∷ 88 ∷ 0 ∷ []); R = nothing };
+}
+
+abbrev ruleTwo : Entry
+ruleTwo = record { input = 3 ∷ 2 ∷ treeWith 3; read = accepted 4 262 33; exchanges = [] } then arrivals then
+    (look (opening 0) ⟶ (firstOpening ∷ []) ∷ [])
+    then firstSend then
+    (look (opening 0) ⟶ (smallerOpening ∷ [])
+    ∷ send ⟶ out 3 10 2 1
+    ∷ look (opening 0) ⟶ (sameSizeOpening ∷ [])
+    ∷ send ⟶ out 2 2 1 1
+    ∷ [])
+    then fourthSend then lastSend then
+    (look show ⟶ shown [] (record { B = these (168 ∷ 0 ∷ 0 ∷ 0 ∷ 0 ∷ []); R = these (6 ∷ 0 ∷ 0 ∷ 0 ∷ 0 ∷ []) }) ∷ look end ⟶ 0 ∷ [])
+
 -- the table
 unfoldable pub markedCases : List Entry
-markedCases = listing ∷ m1 ∷ m2 ∷ m3 ∷ m4 ∷ m5 ∷ m6 ∷ m7 ∷ twoRounds ∷ nextRound ∷ surplusRound ∷ m8 ∷ m9 ∷ m10 ∷ m11 ∷ m12 ∷ []
+markedCases =
+    listing ∷ m1 ∷ m2 ∷ m3 ∷ m4 ∷ m5 ∷ m6 ∷ m7 ∷ twoRounds ∷ nextRound ∷ surplusRound ∷ ruleOne ∷ ruleTwo
+    ∷ m8 ∷ m9 ∷ m10 ∷ m11 ∷ m12 ∷ []

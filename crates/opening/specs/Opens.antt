@@ -9,7 +9,7 @@ use Rattle.tree.specs.declared.Tree.{Tree}
 use Rattle.state.specs.declared.Account.{Account}
 use Rattle.state.specs.Account.{fundsOf, tookQuota, handedDown}
 use Rattle.state.specs.Queue.{table}
-use Rattle.rules.specs.Opening.{Kind, quota, openedAccount}
+use Rattle.rules.specs.Opening.{Kind, kindOf, sizeIn, resized, quota, openedAccount, openedAccounts}
 use Rattle.opening.specs.declared.Shared.{Shared}
 use Rattle.opening.specs.Parts.{zipAccounts}
 
@@ -27,6 +27,13 @@ rootShared surplus sum a = cond surplus (record { account = a; quota = 0 }) (sha
 abbrev pub classShared : Bool → Bool → ℕ → ℕ → Account → Shared
 classShared on leaf sum due a =
     cond on (cond leaf (record { account = tookQuota a due; quota = 0 }) (sharedOut sum a due)) (record { account = a; quota = 0 })
+
+-- a round has opened on these accounts with this size in force: what is in force then, and the accounts
+pub record OpensWith (t : Tree) (active size : ℕ) (accounts : List Account) (new : ℕ) (after : List Account) : Type 0 where
+  pub size-is : new ≡ sizeIn (kindOf t active accounts) t active size
+  pub accounts-are : after
+      ≡ openedAccounts (kindOf t active accounts) t active
+      (resized (kindOf t active accounts) size (sizeIn (kindOf t active accounts) t active size) accounts)
 
 -- the opening has come to class i
 pub record Opening (kind : Kind) (t : Tree) (active : ℕ) (accounts : List Account) (i : ℕ) (quotas balance residual : List ℕ) : Type 0 where

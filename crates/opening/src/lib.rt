@@ -9,16 +9,19 @@ pub use accounts::keep_balance;
 pub use accounts::residuals;
 pub use accounts::zipped;
 ghost use mathlib.Core.Path.{_≡_};
-ghost use mathlib.Core.Bool.{not, _&&_};
-ghost use Prim.Native.Nat.{_*_, _≤_};
-ghost use Rattle.state.specs.Account.{fundsOf};
-ghost use Rattle.rules.specs.Steps.{CanOpen};
+ghost use mathlib.Core.Bool.{false, not, _&&_};
+ghost use lib.ListN.{length};
+ghost use Prim.Native.Nat.{_+_, _*_, _≤_};
+ghost use Rattle.state.specs.Account.{accountOf, fundsOf};
+ghost use Rattle.rules.specs.Steps.{CanOpen, CanResize};
+ghost use Rattle.tree.specs.Rules.{PlanRules};
 ghost use Rattle.rules.specs.Active.{weightSums};
-ghost use Rattle.tree.specs.Size.{mostSize};
-ghost use Rattle.rules.specs.Opening.{kindIs, kindOf, openedAccounts};
-ghost use Rattle.opening.specs.Opens.{sharedOut, rootShared, classShared};
+ghost use Rattle.tree.specs.Size.{mostSize, SizeRight};
+ghost use Rattle.rules.specs.Opening.{kindIs, kindOf, sizeIn, resized, openedAccounts};
+ghost use Rattle.opening.specs.Opens.{sharedOut, rootShared, classShared, OpensWith};
 ghost use Rattle.units.specs.Unit.{surplusOf};
 ghost use Rattle.opening.specs.Parts.{zipAccounts};
+use active::active_size;
 use state::Account;
 use state::Link;
 use tree::Tree;
@@ -157,19 +160,51 @@ fn is_surplus(
     false
 }
 
-// A round opens: the accounts are shared out, in a main round or a surplus round.
+// The size in force when a round has opened: a main round sets it by the tree's rule, a surplus round leaves it.
+fn size_after(surplus: bool, tree: Tree, active: u64, size: Bytes) -> Bytes
+    requires { ⌜ PlanRules tree × SizeRight tree (size .0) ⌝ }
+    ensures { λ r. ⌜ r .0 ≡ sizeIn (kindIs surplus) tree active (size .0) ⌝ }
+{
+    if surplus {
+        return size;
+    }
+    if tree.follows {
+        return active_size(tree, active);
+    }
+    size
+}
+
+// In a main round the root takes the difference between two sizes.
+fn resize(surplus: bool, old: Bytes, size: Bytes, balance: &mut [u64; 64], residual: &mut [u64; 64])
+    requires { ⌜ (length (zipAccounts (now balance) (now residual)) ≡ 64)
+        × (fundsOf (accountOf (zipAccounts (now balance) (now residual)) 0) ≤ mostSize) × (size .0 ≤ mostSize)
+        × (surplus ≡ false → old .0 ≤ fundsOf (accountOf (zipAccounts (now balance) (now residual)) 0) + size .0) ⌝ }
+    ensures { λ _. ⌜ zipAccounts (now (balance .exit)) (now (residual .exit))
+        ≡ resized (kindIs surplus) (old .0) (size .0) (zipAccounts (now (balance .entry)) (now (residual .entry))) ⌝ }
+{
+    if surplus {
+        return;
+    }
+    let root = account_of(0, balance, residual);
+    keep(0, root.take_size(old, size), balance, residual);
+}
+
+// A round opens: the accounts are shared out, in a main round or a surplus round, and the size in force is handed back.
 pub fn open_round(
     tree: Tree,
     active: u64,
     sums: [Weight; Link::CLASSES],
+    size: Bytes,
     balance: &mut [u64; 64],
     residual: &mut [u64; 64],
-)
-    requires { ⌜ CanOpen tree active (zipAccounts (now balance) (now residual)) × (sums ≡ weightSums tree active) ⌝ }
-    ensures { λ _. ⌜ zipAccounts (now (balance .exit)) (now (residual .exit))
-        ≡ openedAccounts (kindOf tree active (zipAccounts (now (balance .entry)) (now (residual .entry)))) tree active
-        (zipAccounts (now (balance .entry)) (now (residual .entry))) ⌝ }
+) -> Bytes
+    requires { ⌜ CanResize tree active (size .0) (zipAccounts (now balance) (now residual)) × (sums ≡ weightSums tree active) ⌝ }
+    ensures { λ r. ⌜ OpensWith tree active (size .0) (zipAccounts (now (balance .entry)) (now (residual .entry))) (r .0)
+        (zipAccounts (now (balance .exit)) (now (residual .exit))) ⌝ }
 {
     let surplus = is_surplus(tree, active, sums, balance, residual);
+    let after = size_after(surplus, tree, active, size);
+    resize(surplus, size, after, balance, residual);
     open_accounts(tree, active, surplus, sums, balance, residual);
+    after
 }

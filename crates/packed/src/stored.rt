@@ -23,7 +23,8 @@ pub fn cut_32(value: u64) -> u32
     (value % 4_294_967_296) as u32
 }
 
-// Fields 0 to 4: the count of classes or the leaves of the tree, or at a class number its parent, weight or longest packet.
+// Fields 0 to 4: the count of classes or the leaves of the tree, or at a class number its parent, weight or longest packet. Field 14: the
+// rule of the round size, 2 or any other value for rule 1.
 pub fn tree_number(mut tree: Tree, field: u64, i: usize, value: u64) -> Tree {
     if field == 0 {
         tree.count = value as usize;
@@ -31,6 +32,10 @@ pub fn tree_number(mut tree: Tree, field: u64, i: usize, value: u64) -> Tree {
     }
     if field == 1 {
         tree.leaves = value;
+        return tree;
+    }
+    if field == 14 {
+        tree.follows = value == 2;
         return tree;
     }
     if 63 < i {

@@ -8,6 +8,7 @@ use Rattle.checks.specs.declared.Verdict.{Verdict}
 use Rattle.checks.specs.declared.Verdict.the-variants.{Passed, Refused}
 use Rattle.checks.specs.Check.{Exactly, check, firstBroken}
 use Rattle.checks.proofs.Laws.{decides}
+use Rattle.units.specs.declared.Bytes.{Bytes}
 use Rattle.tree.specs.declared.Tree.{Tree}
 use Rattle.tree.specs.Class.{longestOf, isLeaf}
 use Rattle.tree.specs.Sum.{sumTo}
@@ -137,10 +138,10 @@ call-shaped l send false exactly shape = subst (λ (x : AfterSend). Shaped (x .l
 
 module _ (l : Link) (input : List ℕ) (place : ℕ) (shape : Shaped l) (at : ℕ) (before : List ℕ) (r : ℕ) (out : List ℕ) where
   -- the normal end, and a refused record
-  pub end-in-place : (n active visit : ℕ) → eventAt (drop place input) place ≡ NoMore → n ≡ sumTo (λ i. getD (l .held) i 0) 63
+  pub end-in-place : (n active visit : ℕ) (size : Bytes) → eventAt (drop place input) place ≡ NoMore → n ≡ sumTo (λ i. getD (l .held) i 0) 63
       → LaysLine at (End n) before r out
-      → Happens l input place at before (record { laid = r; more = false; place = place; active = active; visit = visit }) out l
-  end-in-place n active visit told e lays = record {
+      → Happens l input place at before (record { laid = r; more = false; place = place; active = active; visit = visit; size = size }) out l
+  end-in-place n active visit size told e lays = record {
     line = End n;
     lays = lays;
     goes = gives-by l input place NoMore _ told
@@ -148,9 +149,9 @@ module _ (l : Link) (input : List ℕ) (place : ℕ) (shape : Shaped l) (at : �
     shape = shape;
   }
 
-  pub stop-in-place : (n p active visit : ℕ) → eventAt (drop place input) place ≡ Fault n p → LaysLine at (Stop n p) before r out
-      → Happens l input place at before (record { laid = r; more = false; place = place; active = active; visit = visit }) out l
-  stop-in-place n p active visit told lays = record {
+  pub stop-in-place : (n p active visit : ℕ) (size : Bytes) → eventAt (drop place input) place ≡ Fault n p → LaysLine at (Stop n p) before r out
+      → Happens l input place at before (record { laid = r; more = false; place = place; active = active; visit = visit; size = size }) out l
+  stop-in-place n p active visit size told lays = record {
     line = Stop n p;
     lays = lays;
     goes = gives-by l input place (Fault n p) _ told refl;
@@ -159,10 +160,11 @@ module _ (l : Link) (input : List ℕ) (place : ℕ) (shape : Shaped l) (at : �
 
   module _ (sound : Bool) (exactly : Exactly sound (SoundLink l)) (after : Link) where
     -- an arrival
-    pub arrival-in-place : (a : Arrived) (active visit : ℕ) → eventAt (drop place input) place ≡ Arrive a
+    pub arrival-in-place : (a : Arrived) (active visit : ℕ) (size : Bytes) → eventAt (drop place input) place ≡ Arrive a
         → ArrivesAs sound l a at before r out after
-        → Happens l input place at before (record { laid = r; more = true; place = place + 8; active = active; visit = visit }) out after
-    arrival-in-place a active visit told is =
+        → Happens l input place at before
+        (record { laid = r; more = true; place = place + 8; active = active; visit = visit; size = size }) out after
+    arrival-in-place a active visit size told is =
         let call = arrival (a .class) (packetIn a) in
         record {
           line = callLine (makes sound l call);
@@ -179,8 +181,8 @@ module _ (l : Link) (input : List ℕ) (place : ℕ) (shape : Shaped l) (at : �
     -- a send
     pub send-in-place : (w : Went) → eventAt (drop place input) place ≡ SendNext → DepartsAs sound l w after
         → LaysLine at (wentSays w) before r out
-        → Happens l input place at before (record { laid = r; more = true; place = place + 1; active = w .active; visit = w .place }) out
-        after
+        → Happens l input place at before
+        (record { laid = r; more = true; place = place + 1; active = w .active; visit = w .place; size = w .size }) out after
     send-in-place w told is lays = record {
       line = wentSays w;
       lays = lays;

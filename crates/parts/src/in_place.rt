@@ -7,7 +7,6 @@ ghost use lib.ListN.{length};
 ghost use Rattle.checks.specs.Check.{Exactly};
 ghost use Rattle.tree.specs.Rules.{PlanRules};
 ghost use Rattle.lines.specs.Line.{lineRoom};
-ghost use Rattle.units.specs.declared.Bytes.{Bytes};
 ghost use Rattle.state.specs.declared.Link.{Link};
 ghost use Rattle.state.specs.Queue.{Shaped, queued};
 ghost use Rattle.sound.specs.Sound.{SoundLink};
@@ -24,15 +23,17 @@ use state::Link;
 use state::Packet;
 use steps::Went;
 use tree::Tree;
+use units::Bytes;
 
 // What an event gives beside the arrays and the buffer: where its line ends, whether the run goes on and at which place of the input, who
-// is active, the round's place.
+// is active, the round's place, the size in force.
 pub struct Did {
     pub laid: usize,
     pub more: bool,
     pub place: usize,
     pub active: u64,
     pub visit: usize,
+    pub size: Bytes,
 }
 
 // An arrival is judged, and put where it is taken; its line is laid.
@@ -84,8 +85,10 @@ fn departs(
     parent: &[u8; 64],
     weight: &[u32; 64],
     longest: &[u16; 64],
+    follows: bool,
     known: u64,
     kept: &[u32; 64],
+    size: Bytes,
     active: u64,
     visit: usize,
     balance: &mut [u64; 64],
@@ -95,26 +98,20 @@ fn departs(
     lengths: &[u16; 2048],
     tags: &[u32; 2048],
 ) -> Went
-    requires { ⌜ ((size : Bytes)
-        × Exactly sound (SoundLink (lentLink (lentTree count leaves (now parent) (now weight) (now longest)) size active visit (now balance)
-        (now residual) (now start) (now held) (now lengths) (now tags)))
-        × Shaped (lentLink (lentTree count leaves (now parent) (now weight) (now longest)) size active visit (now balance)
-        (now residual) (now start) (now held) (now lengths) (now tags)))
-        × (sound ≡ true → Kept (lentTree count leaves (now parent) (now weight) (now longest)) known (now kept)) ⌝ }
-    ensures { λ r. ⌜ ((size : Bytes)
-        → Exactly sound (SoundLink (lentLink
-        (lentTree count leaves (now (parent .entry)) (now (weight .entry)) (now (longest .entry))) size active visit
-        (now (balance .entry)) (now (residual .entry)) (now (start .entry)) (now (held .entry)) (now (lengths .entry)) (now (tags .entry))))
-        → Shaped (lentLink (lentTree count leaves (now (parent .entry)) (now (weight .entry)) (now (longest .entry))) size active visit
+    requires { ⌜ Exactly sound (SoundLink (lentLink (lentTree count leaves (now parent) (now weight) (now longest) follows) size active visit
+        (now balance) (now residual) (now start) (now held) (now lengths) (now tags)))
+        × Shaped (lentLink (lentTree count leaves (now parent) (now weight) (now longest) follows) size active visit (now balance)
+        (now residual) (now start) (now held) (now lengths) (now tags))
+        × (sound ≡ true → Kept (lentTree count leaves (now parent) (now weight) (now longest) follows) known (now kept)) ⌝ }
+    ensures { λ r. ⌜ DepartsAs sound (lentLink
+        (lentTree count leaves (now (parent .entry)) (now (weight .entry)) (now (longest .entry)) follows) size active visit
         (now (balance .entry)) (now (residual .entry)) (now (start .entry)) (now (held .entry)) (now (lengths .entry)) (now (tags .entry)))
-        → DepartsAs sound (lentLink
-        (lentTree count leaves (now (parent .entry)) (now (weight .entry)) (now (longest .entry))) size active visit
-        (now (balance .entry)) (now (residual .entry)) (now (start .entry)) (now (held .entry)) (now (lengths .entry)) (now (tags .entry)))
-        r (lentLink (lentTree count leaves (now (parent .entry)) (now (weight .entry)) (now (longest .entry))) size (r .active) (r .place)
-        (now (balance .exit)) (now (residual .exit)) (now (start .exit)) (now (held .exit)) (now (lengths .entry)) (now (tags .entry)))) ⌝ }
+        r (lentLink (lentTree count leaves (now (parent .entry)) (now (weight .entry)) (now (longest .entry)) follows) (r .size) (r .active)
+        (r .place) (now (balance .exit)) (now (residual .exit)) (now (start .exit)) (now (held .exit)) (now (lengths .entry))
+        (now (tags .entry))) ⌝ }
 {
     if !sound {
-        return steps::nothing(active, visit);
+        return steps::nothing(size, active, visit);
     }
     steps::send(
         count,
@@ -122,8 +119,10 @@ fn departs(
         parent,
         weight,
         longest,
+        follows,
         known,
         kept,
+        size,
         active,
         visit,
         balance,
@@ -155,8 +154,8 @@ fn lay_went(went: Went, at: usize, out: &mut [u8]) -> usize
 }
 
 // What an event gives, as one record.
-fn outcome(laid: usize, more: bool, place: usize, active: u64, visit: usize) -> Did
-    ensures { λ r. ⌜ r ≡ record { laid = laid; more = more; place = place; active = active; visit = visit } ⌝ }
+fn outcome(laid: usize, more: bool, place: usize, active: u64, visit: usize, size: Bytes) -> Did
+    ensures { λ r. ⌜ r ≡ record { laid = laid; more = more; place = place; active = active; visit = visit; size = size } ⌝ }
 {
     Did {
         laid,
@@ -164,6 +163,7 @@ fn outcome(laid: usize, more: bool, place: usize, active: u64, visit: usize) -> 
         place,
         active,
         visit,
+        size,
     }
 }
 
@@ -175,8 +175,10 @@ fn event(
     parent: &[u8; 64],
     weight: &[u32; 64],
     longest: &[u16; 64],
+    follows: bool,
     known: u64,
     kept: &[u32; 64],
+    size: Bytes,
     active: u64,
     visit: usize,
     balance: &mut [u64; 64],
@@ -190,31 +192,26 @@ fn event(
     at: usize,
     out: &mut [u8],
 ) -> Did
-    requires { ⌜ ((size : Bytes)
-        × Exactly sound (SoundLink (lentLink (lentTree count leaves (now parent) (now weight) (now longest)) size active visit (now balance)
-        (now residual) (now start) (now held) (now lengths) (now tags)))
-        × Shaped (lentLink (lentTree count leaves (now parent) (now weight) (now longest)) size active visit (now balance)
-        (now residual) (now start) (now held) (now lengths) (now tags)))
-        × (sound ≡ true → Kept (lentTree count leaves (now parent) (now weight) (now longest)) known (now kept))
+    requires { ⌜ Exactly sound (SoundLink (lentLink (lentTree count leaves (now parent) (now weight) (now longest) follows) size active visit
+        (now balance) (now residual) (now start) (now held) (now lengths) (now tags)))
+        × Shaped (lentLink (lentTree count leaves (now parent) (now weight) (now longest) follows) size active visit (now balance)
+        (now residual) (now start) (now held) (now lengths) (now tags))
+        × (sound ≡ true → Kept (lentTree count leaves (now parent) (now weight) (now longest) follows) known (now kept))
         × (at + lineRoom ≤ length (now out)) ⌝ }
-    ensures { λ r. ⌜ ((size : Bytes)
-        → Exactly sound (SoundLink (lentLink
-        (lentTree count leaves (now (parent .entry)) (now (weight .entry)) (now (longest .entry))) size active visit
-        (now (balance .entry)) (now (residual .entry)) (now (start .entry)) (now (held .entry)) (now (lengths .entry)) (now (tags .entry))))
-        → Shaped (lentLink (lentTree count leaves (now (parent .entry)) (now (weight .entry)) (now (longest .entry))) size active visit
-        (now (balance .entry)) (now (residual .entry)) (now (start .entry)) (now (held .entry)) (now (lengths .entry)) (now (tags .entry)))
-        → Happens (lentLink (lentTree count leaves (now (parent .entry)) (now (weight .entry)) (now (longest .entry))) size active visit
+    ensures { λ r. ⌜ Happens (lentLink
+        (lentTree count leaves (now (parent .entry)) (now (weight .entry)) (now (longest .entry)) follows) size active visit
         (now (balance .entry)) (now (residual .entry)) (now (start .entry)) (now (held .entry)) (now (lengths .entry)) (now (tags .entry)))
         (now (input .entry)) place at (now (out .entry)) r (now (out .exit))
-        (lentLink (lentTree count leaves (now (parent .entry)) (now (weight .entry)) (now (longest .entry))) size (r .active) (r .visit)
-        (now (balance .exit)) (now (residual .exit)) (now (start .exit)) (now (held .exit)) (now (lengths .exit)) (now (tags .exit)))) ⌝ }
+        (lentLink (lentTree count leaves (now (parent .entry)) (now (weight .entry)) (now (longest .entry)) follows) (r .size) (r .active)
+        (r .visit) (now (balance .exit)) (now (residual .exit)) (now (start .exit)) (now (held .exit)) (now (lengths .exit))
+        (now (tags .exit))) ⌝ }
 {
     let rest = plan::events_after(input, place);
     let read = plan::read_event(rest, place);
     match read {
         EventRead::NoMore => {
             let laid = lines::lay_at(Line::End(run::waiting(held)), at, out);
-            outcome(laid, false, place, active, visit)
+            outcome(laid, false, place, active, visit, size)
         }
         EventRead::Arrive(a) => {
             let laid = arrives(
@@ -229,7 +226,7 @@ fn event(
                 at,
                 out,
             );
-            outcome(laid, true, place + 8, active, visit)
+            outcome(laid, true, place + 8, active, visit, size)
         }
         EventRead::SendNext => {
             let went = departs(
@@ -239,8 +236,10 @@ fn event(
                 parent,
                 weight,
                 longest,
+                follows,
                 known,
                 kept,
+                size,
                 active,
                 visit,
                 balance,
@@ -251,11 +250,11 @@ fn event(
                 tags,
             );
             let laid = lay_went(went, at, out);
-            outcome(laid, true, place + 1, went.active, went.place)
+            outcome(laid, true, place + 1, went.active, went.place, went.size)
         }
         EventRead::Fault(n, p) => {
             let laid = lines::lay_at(Line::Stop(n as u64, p as u64), at, out);
-            outcome(laid, false, place, active, visit)
+            outcome(laid, false, place, active, visit, size)
         }
     }
 }
@@ -288,7 +287,6 @@ pub fn part_of(sound: bool, link: Link, input: &[u8], place: usize, out: &mut [u
     ensures { λ r. ⌜ Taken link (now (input .entry)) place (now (out .entry)) r (now (out .exit)) ⌝ }
 {
     let tree = link.tree;
-    let size = link.size;
     let parent = tree.parent;
     let weights = tree.weight;
     let weight = steps::weight_numbers(weights);
@@ -302,6 +300,7 @@ pub fn part_of(sound: bool, link: Link, input: &[u8], place: usize, out: &mut [u
     let mut tags = link.tags;
     let sums = sums_now(sound, tree, &held);
     let kept = sums.kept;
+    let mut size = link.size;
     let mut active = link.active;
     let mut visit = link.place;
     let mut laid: usize = 0;
@@ -315,8 +314,10 @@ pub fn part_of(sound: bool, link: Link, input: &[u8], place: usize, out: &mut [u
             &parent,
             &weight,
             &longest,
+            tree.follows,
             sums.known,
             &kept,
+            size,
             active,
             visit,
             &mut balance,
@@ -335,6 +336,7 @@ pub fn part_of(sound: bool, link: Link, input: &[u8], place: usize, out: &mut [u
         from = did.place;
         active = did.active;
         visit = did.visit;
+        size = did.size;
     }
     let accounts = steps::zipped(&balance, &residual);
     let after = Link {

@@ -1,5 +1,5 @@
 -- The reader gives a number at a place exactly when its row says so and no earlier check is broken. Demand 1.
-use mathlib.Core.Bool.{Bool, true, false}
+use mathlib.Core.Bool.{Bool, true, false, cond}
 use mathlib.Core.List.{List, []}
 use mathlib.Core.Logic.{_⊎_, inl, inr, ⊎-elim, _↔_}
 use mathlib.Core.Path.{_≡_, refl, sym, ap, subst, _∙_}
@@ -25,15 +25,20 @@ use Rattle.plan.specs.declared.EventRead.{EventRead}
 use Rattle.plan.specs.Event.{eventAt}
 use Rattle.plan.specs.declared.kind.Section.the-variants.{Plan}
 use Rattle.plan.specs.Kind.{givesClass}
-use Rattle.plan.specs.Record.{kindAt, missing, unknown, cut, classAt}
-use Rattle.plan.specs.Reader.{newClassChecks, recordChecks, after, treeOf, checksOf, passes, inRow, passedOver, decidingChecks}
-use Rattle.plan.specs.Reader.{outcome, planOf}
+use Rattle.plan.specs.Record.{kindAt, missing, unknown, cut, lateRule, badRule, classAt}
+use Rattle.plan.specs.Reader.{newClassChecks, recordChecks, followsOf, after, treeOf, checksOf, passes, inRow, passedOver, decidingChecks}
+use Rattle.plan.specs.Reader.{wholeChecks, outcome, planOf}
 use Rattle.plan.specs.Rows.{restOf, Reached, WholeRecord, ClassRecord, EndRecord, ClosedBelow, Row, row1-before, row2, row1-inside}
-use Rattle.plan.specs.Rows.{row3, row4, row5, row6, row7, row8, row9}
+use Rattle.plan.specs.Rows.{row18, row17, row3, row4, row5, row6, row7, row8, row9}
 use Rattle.plan.proofs.Reading.{tree-count, pass-yes, room-left, plan-refused, plan-ended, record-missing, record-unknown}
-use Rattle.plan.proofs.Reading.{record-cut, record-class, record-end, row-of, tree-passes, tree-grown}
+use Rattle.plan.proofs.Reading.{record-cut, record-whole, record-class, record-end, whole-late, whole-bad, no-rule-here, row-of, tree-passes, tree-grown}
 
 -- ---- from a row to the number
+
+-- the checks of a whole record
+whole-checks : (s : List ℕ) (k : ℕ) → WholeRecord s k
+    → firstBroken (checksOf s k) ≡ firstBroken (wholeChecks (restOf s k) (after s k) (treeOf s k))
+whole-checks s k r = record-whole s (after s k) (treeOf s k) (r .there) (r .known) (r .whole)
 
 -- the checks of the class that a class record gives
 class-checks : (s : List ℕ) (k : ℕ) → ClassRecord s k
@@ -56,7 +61,7 @@ closed-at s k r =
     let w = r .record′ in
     ap (λ (x : PlanRead). x .verdict)
     (plan-ended s k (w .reached .most) (w .reached .below)
-    (record-end s (after s k) (treeOf s k) (w .there) (w .known) (w .whole) (r .end)) (r .end))
+    (record-end s (after s k) (treeOf s k) (w .there) (w .known) (w .whole) (r .end) (r .rule)) (r .end))
     ∙ outcome-verdict (firstBroken (closingChecks (treeOf s k))) (treeOf s k) (after s k + 1)
 
 -- class k + 1 is the last class of its tree
@@ -71,6 +76,10 @@ pub row-gives : (s : List ℕ) (n p : ℕ) → Row s n p → planOf s .verdict �
 row-gives s n p (row1-before k r a) = refused-at s k r (record-missing s (after s k) (treeOf s k) a)
 row-gives s n p (row2 k r a b) = refused-at s k r (record-unknown s (after s k) (treeOf s k) a b)
 row-gives s n p (row1-inside k r a b d) = refused-at s k r (record-cut s (after s k) (treeOf s k) a b d)
+row-gives s n p (row18 k r a) =
+    refused-at s k (r .reached) (whole-checks s k r ∙ whole-late (restOf s k) (after s k) (treeOf s k) a)
+row-gives s n p (row17 k r a b) =
+    refused-at s k (r .reached) (whole-checks s k r ∙ whole-bad (restOf s k) (after s k) (treeOf s k) a b)
 row-gives s n p (row3 k r a) = refused-at s k (r .record′ .reached) (class-checks s k r ∙ decides _ _ a)
 row-gives s n p (row4 k r a b) =
     refused-at s k (r .record′ .reached) (class-checks s k r ∙ pass-over _ _ a ∙ decides _ _ (last-class s k badParent true b))
@@ -131,6 +140,13 @@ whole-record s k reached e =
     let d = passed-parts (check 1 (cut (restOf s k)) (after s k)) _ (b .1) in
     record { reached = reached; there = a .0; known = b .0; whole = d .0 }
 
+-- and one that gives no class is the end record
+end-record : (s : List ℕ) (k : ℕ) → Reached s k → firstBroken (checksOf s k) ≡ Passed → givesClass (kindAt (restOf s k)) ≡ false
+    → EndRecord s k
+end-record s k reached e g =
+    let w = whole-record s k reached e in
+    record { record′ = w; end = g; rule = no-rule-here s k (w .there) (w .known) (w .whole) e }
+
 module _ (s : List ℕ) (k : ℕ) {n p : ℕ} where
   -- after the end record
   from-closing : EndRecord s k → firstBroken (closingChecks (treeOf s k)) ≡ Refused n p → Row s n p
@@ -182,6 +198,24 @@ module _ (s : List ℕ) (k : ℕ) {n p : ℕ} where
       last : (f : Tree → ℕ → Bool) (b : Bool) → f t (t .count) ≡ b → f t (suc k) ≡ b
       last f b h = ap (f t) (sym (tree-count s (suc k))) ∙ h
 
+  -- a whole record
+  from-whole : WholeRecord s k → passes s k ≡ false → firstBroken (checksOf s k) ≡ Refused n p → Row s n p
+  from-whole w off e =
+      ⊎-elim (λ h. same-row s (h .1) (row18 k w (h .0)))
+      (λ h18.
+      ⊎-elim (λ h. same-row s (h .1) (row17 k w (h18 .0) (h .0)))
+      (λ h17. left (givesClass (kindAt (restOf s k))) refl (h17 .1))
+      (broken-or-later (check 17 (badRule (restOf s k)) (after s k)) _ (h18 .1)))
+      (broken-or-later (check 18 (lateRule (restOf s k) (after s k)) (after s k)) _ (sym (whole-checks s k w) ∙ e))
+    where
+      t : Tree
+      t = added (treeOf s k) (classAt (restOf s k))
+
+      left : (b : Bool) → givesClass (kindAt (restOf s k)) ≡ b
+          → firstBroken (cond (givesClass (kindAt (restOf s k))) (newClassChecks t (after s k)) []) ≡ Refused n p → Row s n p
+      left true g h = from-class (record { record′ = w; class = g }) off e
+      left false g h = absurd (not-both none-broken (rw g at h))
+
   -- its head
   from-head : Reached s k → passes s k ≡ false → firstBroken (checksOf s k) ≡ Refused n p → Row s n p
   unfolding recordChecks
@@ -191,14 +225,10 @@ module _ (s : List ℕ) (k : ℕ) {n p : ℕ} where
       ⊎-elim (λ h. same-row s (h .1) (row2 k reached (h1 .0) (h .0)))
       (λ h2.
       ⊎-elim (λ h. same-row s (h .1) (row1-inside k reached (h1 .0) (h2 .0) (h .0)))
-      (λ h3. whole (record { reached = reached; there = h1 .0; known = h2 .0; whole = h3 .0 }) (givesClass (kindAt (restOf s k))) refl)
+      (λ h3. from-whole (record { reached = reached; there = h1 .0; known = h2 .0; whole = h3 .0 }) off e)
       (broken-or-later (check 1 (cut (restOf s k)) (after s k)) _ (h2 .1)))
       (broken-or-later (check 2 (unknown Plan (restOf s k)) (after s k)) _ (h1 .1)))
       (broken-or-later (check 1 (missing (restOf s k)) (length s)) _ e)
-    where
-      whole : WholeRecord s k → (b : Bool) → givesClass (kindAt (restOf s k)) ≡ b → Row s n p
-      whole w true g = from-class (record { record′ = w; class = g }) off e
-      whole w false g = absurd (not-both (record-end s (after s k) (treeOf s k) (w .there) (w .known) (w .whole) g) e)
 
   -- the record that decides
   from-record : Reached s k → passes s k ≡ false → firstBroken (decidingChecks s k) ≡ Refused n p → Row s n p
@@ -208,7 +238,7 @@ module _ (s : List ℕ) (k : ℕ) {n p : ℕ} where
       ended : firstBroken (checksOf s k) ≡ Passed → (b : Bool) → givesClass (kindAt (restOf s k)) ≡ b → Row s n p
       ended h true g = absurd (not-true-and-false (pass-yes s k g h) off)
       ended h false g =
-          from-closing (record { record′ = whole-record s k reached h; end = g })
+          from-closing (end-record s k reached h g)
           (sym (after-passed (checksOf s k) (closingChecks (treeOf s k)) h) ∙ e)
 
       go : (firstBroken (checksOf s k) ≡ Passed) ⊎ ((m : ℕ) × (q : ℕ) × (firstBroken (checksOf s k) ≡ Refused m q)) → Row s n p
@@ -272,6 +302,12 @@ plan-order s (suc k) u j l = go (decLt j k) (λ m. plan-order s k (omega arith) 
           leaf = leaf-new t c g room;
         })
 
+-- the rule is 2 exactly where the plan begins with a rule record that says so; class records leave it (R222)
+pub tree-follows : (s : List ℕ) (k : ℕ) → treeOf s k .follows ≡ followsOf s
+unfolding treeOf
+tree-follows s zero = refl
+tree-follows s (suc k) = tree-follows s k
+
 -- the tree of records that pass, with an end record after which the closing checks pass, obeys the plan rules
 pub tree-rules : (s : List ℕ) (k : ℕ) → Reached s k → firstBroken (closingChecks (treeOf s k)) ≡ Passed → PlanRules (treeOf s k)
 unfolding tooMany
@@ -299,8 +335,7 @@ accepted s e =
     let parts = passed-both (checksOf s k) (closingChecks (treeOf s k)) all in
     record {
       answer = ap (λ (v : Verdict). outcome v (treeOf s k) (after s k + 1)) all;
-      ended =
-          record { record′ = whole-record s k (d .0) (parts .0); end = no-class (givesClass (kindAt (restOf s k))) refl (parts .0) (d .1) };
+      ended = end-record s k (d .0) (parts .0) (no-class (givesClass (kindAt (restOf s k))) refl (parts .0) (d .1));
       rules = tree-rules s k (d .0) (parts .1);
     }
   where

@@ -5,7 +5,7 @@ use Prim.Native.Nat.{ℕ}
 use lib.Dec.{eqb}
 use Rattle.plan.specs.declared.kind.RecordKind.{RecordKind}
 use Rattle.plan.specs.declared.kind.Given.{Given}
-use Rattle.plan.specs.declared.kind.Given.the-variants.{End, Inner, Leaf, Arrival, Send, Nothing}
+use Rattle.plan.specs.declared.kind.Given.the-variants.{End, Inner, Leaf, Rule, Arrival, Send, Nothing}
 use Rattle.plan.specs.declared.kind.Section.{Section}
 use Rattle.plan.specs.declared.kind.Section.the-variants.{Plan, Events}
 
@@ -13,27 +13,29 @@ use Rattle.plan.specs.declared.kind.Section.the-variants.{Plan, Events}
 abbrev pub kindRow : ℕ → Bool → Bool → Given → RecordKind
 kindRow body plan events gives = record { body = body; plan = plan; events = events; gives = gives }
 
--- the kind of a kind byte. Bodies: of an inner class parent 1, weight 4; of a leaf parent 1, weight 4, longest 2; of an arrival
--- class 1, length 2, tag 4; of the others none. Any other byte is unknown (R40 to R47)
+-- the kind of a kind byte. Bodies: of an inner class parent 1, weight 4; of a leaf parent 1, weight 4, longest 2; of a rule the rule 1;
+-- of an arrival class 1, length 2, tag 4; of the others none. Any other byte is unknown (R40 to R47, R221)
 unfoldable pub recordKind : ℕ → RecordKind
 recordKind byte =
     cond (eqb byte 0) (kindRow 0 true false End)
     (cond (eqb byte 1) (kindRow 5 true false Inner)
     (cond (eqb byte 2) (kindRow 7 true false Leaf)
+    (cond (eqb byte 3) (kindRow 1 true false Rule)
     (cond (eqb byte 16) (kindRow 7 false true Arrival)
     (cond (eqb byte 17) (kindRow 0 false true Send)
-    (kindRow 0 false false Nothing)))))
+    (kindRow 0 false false Nothing))))))
 
 -- where a kind may stand (R47)
 abbrev pub standsIn : Section → RecordKind → Bool
 standsIn Plan k = k .plan
 standsIn Events k = k .events
 
--- what is a class, what is a leaf, and what is an arrival
+-- what is a class, what is a leaf, what is a rule, and what is an arrival
 abbrev pub classGiven : Given → Bool
 classGiven End = false
 classGiven Inner = true
 classGiven Leaf = true
+classGiven Rule = false
 classGiven Arrival = false
 classGiven Send = false
 classGiven Nothing = false
@@ -42,24 +44,38 @@ abbrev pub leafGiven : Given → Bool
 leafGiven End = false
 leafGiven Inner = false
 leafGiven Leaf = true
+leafGiven Rule = false
 leafGiven Arrival = false
 leafGiven Send = false
 leafGiven Nothing = false
+
+abbrev pub ruleGiven : Given → Bool
+ruleGiven End = false
+ruleGiven Inner = false
+ruleGiven Leaf = false
+ruleGiven Rule = true
+ruleGiven Arrival = false
+ruleGiven Send = false
+ruleGiven Nothing = false
 
 abbrev pub arrivalGiven : Given → Bool
 arrivalGiven End = false
 arrivalGiven Inner = false
 arrivalGiven Leaf = false
+arrivalGiven Rule = false
 arrivalGiven Arrival = true
 arrivalGiven Send = false
 arrivalGiven Nothing = false
 
--- so of the record of a kind (R43, R44, R50)
+-- so of the record of a kind (R43, R44, R50, R221)
 abbrev pub givesClass : RecordKind → Bool
 givesClass k = classGiven (k .gives)
 
 abbrev pub givesLeaf : RecordKind → Bool
 givesLeaf k = leafGiven (k .gives)
+
+abbrev pub givesRule : RecordKind → Bool
+givesRule k = ruleGiven (k .gives)
 
 abbrev pub givesArrival : RecordKind → Bool
 givesArrival k = arrivalGiven (k .gives)

@@ -1,6 +1,6 @@
 -- One record: one byte of kind, then a body whose length the kind fixes (R42 to R55). Demand 1.
 -- A record is read off the rest of the input, which begins with the record's first byte.
-use mathlib.Core.Bool.{Bool, true, false, cond, not}
+use mathlib.Core.Bool.{Bool, true, false, cond, _&&_, _||_, not}
 use mathlib.Core.List.{List}
 use Prim.Native.Nat.{ℕ, _+_, _*_}
 use lib.Dec.{eqb, ltb}
@@ -8,7 +8,7 @@ use lib.ListN.{length, getD, take, drop}
 use Rattle.tree.specs.declared.Class.{Class}
 use Rattle.plan.specs.declared.kind.RecordKind.{RecordKind}
 use Rattle.plan.specs.declared.kind.Section.{Section}
-use Rattle.plan.specs.Kind.{recordKind, standsIn, givesLeaf}
+use Rattle.plan.specs.Kind.{recordKind, standsIn, givesLeaf, givesRule}
 
 -- numbers are big-endian (R48)
 abbrev pub byteAt : List ℕ → ℕ → ℕ
@@ -39,6 +39,18 @@ cut rest = ltb (length rest) (1 + kindAt rest .body)
 -- the body is the part after the kind byte (R49)
 unfoldable pub bodyOf : List ℕ → List ℕ
 bodyOf rest = take (kindAt rest .body) (drop 1 rest)
+
+-- the rule of a rule record's body: 1, whole tree, or 2, active classes (R221, R222)
+unfoldable pub ruleOf : List ℕ → ℕ
+ruleOf rest = byteAt (bodyOf rest) 0
+
+-- 18: a rule record anywhere but first; the first record stands at 0 (R224)
+unfoldable pub lateRule : List ℕ → ℕ → Bool
+lateRule rest place = givesRule (kindAt rest) && not (eqb place 0)
+
+-- 17: rule byte not 1 or 2 (R225)
+unfoldable pub badRule : List ℕ → Bool
+badRule rest = givesRule (kindAt rest) && not (eqb (ruleOf rest) 1 || eqb (ruleOf rest) 2)
 
 -- the class of a body: parent 1, weight 4, and of a leaf longest 2 (R35, R42, R43)
 abbrev pub innerClass : List ℕ → Class

@@ -1,4 +1,4 @@
--- When each of the numbers 1 to 9 is given, and where (R53 to R60, R63): each with no earlier check broken. Demand 1.
+-- When each of the numbers 1 to 9, 17 and 18 is given, and where (R53 to R60, R63, R224, R225): each with no earlier check broken. Demand 1.
 -- The reader gives a number at a place exactly when its row says so here (proofs/Numbers.antt).
 use mathlib.Core.Bool.{true, false}
 use mathlib.Core.List.{List}
@@ -9,15 +9,15 @@ use Rattle.tree.specs.declared.Tree.{Tree}
 use Rattle.tree.specs.Class.{isClass}
 use Rattle.tree.specs.Rules.{tooMany, badParent, badWeight, badLongest, tooHeavy, childless, noClass}
 use Rattle.plan.specs.declared.kind.Section.the-variants.{Plan}
-use Rattle.plan.specs.Kind.{givesClass}
-use Rattle.plan.specs.Record.{kindAt, missing, unknown, cut}
+use Rattle.plan.specs.Kind.{givesClass, givesRule}
+use Rattle.plan.specs.Record.{kindAt, missing, unknown, cut, lateRule, badRule}
 use Rattle.plan.specs.Reader.{after, treeOf, passes}
 
--- the input from the record after the first k on
+-- the input from the record after the first k class records on
 abbrev pub restOf : List ℕ → ℕ → List ℕ
 restOf s k = drop (after s k) s
 
--- the first k records give classes and break no rule (R63)
+-- the first k records after a rule record, where there is one, give classes and break no rule (R63)
 pub record Reached (s : List ℕ) (k : ℕ) : Type 0 where
   pub most : k ≤ 63
   pub below : (j : ℕ) → j < k → passes s j ≡ true
@@ -34,10 +34,11 @@ pub record ClassRecord (s : List ℕ) (k : ℕ) : Type 0 where
   pub record′ : WholeRecord s k
   pub class : givesClass (kindAt (restOf s k)) ≡ true
 
--- or it is the end record (R63)
+-- or it is the end record, which gives no rule either (R63)
 pub record EndRecord (s : List ℕ) (k : ℕ) : Type 0 where
   pub record′ : WholeRecord s k
   pub end : givesClass (kindAt (restOf s k)) ≡ false
+  pub rule : givesRule (kindAt (restOf s k)) ≡ false
 
 -- no class numbered below c breaks 8 or 7 (R63)
 pub record ClosedBelow (t : Tree) (c : ℕ) : Type 0 where
@@ -53,7 +54,11 @@ pub data Row (s : List ℕ) : ℕ → ℕ → Type 0 where
   -- 1: the input ends inside a body; the record's first byte
   row1-inside : (k : ℕ) → Reached s k → missing (restOf s k) ≡ false → unknown Plan (restOf s k) ≡ false → cut (restOf s k) ≡ true
       → Row s 1 (after s k)
-  -- 3: a 64th class record; the same place
+  -- 18: a rule record anywhere but first; the same place
+  row18 : (k : ℕ) → WholeRecord s k → lateRule (restOf s k) (after s k) ≡ true → Row s 18 (after s k)
+  -- 17: rule byte not 1 or 2; the same
+  row17 : (k : ℕ) → WholeRecord s k → lateRule (restOf s k) (after s k) ≡ false → badRule (restOf s k) ≡ true → Row s 17 (after s k)
+  -- 3: a 64th class record; the same
   row3 : (k : ℕ) → ClassRecord s k → tooMany (treeOf s (suc k)) ≡ true → Row s 3 (after s k)
   -- 4: parent not lower than the class, or a leaf; the same
   row4 : (k : ℕ) → ClassRecord s k → tooMany (treeOf s (suc k)) ≡ false → badParent (treeOf s (suc k)) (suc k) ≡ true → Row s 4 (after s k)

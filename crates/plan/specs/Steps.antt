@@ -1,22 +1,24 @@
 -- What the inner functions of the reader say, in terms of the rules; no rule of its own.
-use mathlib.Core.Bool.{true, false}
+use mathlib.Core.Bool.{true, false, cond}
 use mathlib.Core.List.{List}
 use mathlib.Core.Path.{_≡_}
 use Prim.Native.Nat.{ℕ, _+_, _≤_}
+use lib.Dec.{eqb}
 use lib.ListN.{length, drop}
 use Rattle.checks.specs.declared.Verdict.the-variants.{Passed, Refused}
 use Rattle.checks.specs.Check.{firstBroken}
 use Rattle.tree.specs.declared.Tree.{Tree}
 use Rattle.tree.specs.declared.Class.{Class}
 use Rattle.tree.specs.Class.{added}
+use Rattle.plan.specs.declared.kind.RecordKind.{RecordKind}
 use Rattle.plan.specs.declared.kind.Section.{Section}
 use Rattle.plan.specs.declared.record.Head.{Head}
 use Rattle.plan.specs.declared.record.Head.the-variants.{Missing, Strange, Cut, Whole}
 use Rattle.plan.specs.declared.reader.Following.{Following}
 use Rattle.plan.specs.declared.reader.Following.the-variants.{Stop, Ended, Onward}
-use Rattle.plan.specs.Kind.{givesClass}
-use Rattle.plan.specs.Record.{kindAt, missing, unknown, cut, classAt}
-use Rattle.plan.specs.Reader.{recordChecks, newClassChecks}
+use Rattle.plan.specs.Kind.{givesClass, givesRule}
+use Rattle.plan.specs.Record.{kindAt, missing, unknown, cut, lateRule, badRule, classAt}
+use Rattle.plan.specs.Reader.{recordChecks, wholeChecks, newClassChecks}
 
 -- the head of a record: the first of the numbers 1, 2, 1 that is broken, or the kind
 abbrev pub HeadSays : Section → List ℕ → Head → Type 0
@@ -31,11 +33,20 @@ ClassSays t c place to t′ (Stop n p) = firstBroken (newClassChecks (added t c)
 ClassSays t c place to t′ Ended = ⊥
 ClassSays t c place to t′ (Onward next) = (firstBroken (newClassChecks (added t c) place) ≡ Passed) × (next ≡ to) × (t′ ≡ added t c)
 
--- a whole record at a place: a class put to the tree, or the end of the plan
+-- a whole record that gives no class: a rule record, which stops the reader, or the end record
+abbrev pub PlainSays : RecordKind → ℕ → Following → Type 0
+PlainSays k place (Stop n p) = (givesRule k ≡ true) × (n ≡ cond (eqb place 0) 17 18) × (p ≡ place)
+PlainSays k place Ended = givesRule k ≡ false
+PlainSays k place (Onward next) = ⊥
+
+-- a rule record that stands here breaks 18 or 17: one that breaks neither was read before the others
+abbrev pub RuleStops : List ℕ → ℕ → Type 0
+RuleStops rest place = givesRule (kindAt rest) ≡ true → lateRule rest place ≡ false → badRule rest ≡ true
+
+-- a whole record at a place: refused, a class put to the tree, or the end of the plan
 abbrev pub WholeSays : List ℕ → ℕ → Tree → Tree → Following → Type 0
-WholeSays rest place t t′ (Stop n p) =
-    (givesClass (kindAt rest) ≡ true) × (firstBroken (newClassChecks (added t (classAt rest)) place) ≡ Refused n p)
-WholeSays rest place t t′ Ended = givesClass (kindAt rest) ≡ false
+WholeSays rest place t t′ (Stop n p) = firstBroken (wholeChecks rest place t) ≡ Refused n p
+WholeSays rest place t t′ Ended = (givesClass (kindAt rest) ≡ false) × (givesRule (kindAt rest) ≡ false)
 WholeSays rest place t t′ (Onward next) =
     (givesClass (kindAt rest) ≡ true)
     × (firstBroken (newClassChecks (added t (classAt rest)) place) ≡ Passed)

@@ -3,13 +3,14 @@
 // Serves demand 1.
 ghost use mathlib.Core.Path.{_≡_};
 ghost use Prim.Native.Nat.{_+_, _≤_};
-ghost use Rattle.plan.specs.Kind.{kindRow, recordKind, standsIn, givesClass, givesLeaf, givesArrival};
+ghost use Rattle.plan.specs.Kind.{kindRow, recordKind, standsIn, givesClass, givesLeaf, givesRule, givesArrival};
 
-// What a record gives: the end of the plan, a class, an arrival, a send, or nothing where its kind is unknown.
+// What a record gives: the end of the plan, a class, a rule, an arrival, a send, or nothing where its kind is unknown.
 pub enum Given {
     End,
     Inner,
     Leaf,
+    Rule,
     Arrival,
     Send,
     Nothing,
@@ -50,6 +51,7 @@ pub(crate) fn record_kind(byte: u8) -> RecordKind
         0 => kind_row(0, true, false, Given::End),
         1 => kind_row(5, true, false, Given::Inner),
         2 => kind_row(7, true, false, Given::Leaf),
+        3 => kind_row(1, true, false, Given::Rule),
         16 => kind_row(7, false, true, Given::Arrival),
         17 => kind_row(0, false, true, Given::Send),
         _ => kind_row(0, false, false, Given::Nothing),
@@ -66,7 +68,7 @@ pub(crate) fn stands_in(section: Section, kind: RecordKind) -> bool
     }
 }
 
-// Whether a record gives a class, whether that class is a leaf, and whether it gives an arrival.
+// Whether a record gives a class, whether that class is a leaf, whether it gives a rule, and whether an arrival.
 pub(crate) fn gives_class(kind: RecordKind) -> bool
     ensures { λ r. ⌜ r ≡ givesClass kind ⌝ }
 {
@@ -75,6 +77,7 @@ pub(crate) fn gives_class(kind: RecordKind) -> bool
         Given::End => false,
         Given::Inner => true,
         Given::Leaf => true,
+        Given::Rule => false,
         Given::Arrival => false,
         Given::Send => false,
         Given::Nothing => false,
@@ -89,6 +92,22 @@ pub(crate) fn gives_leaf(kind: RecordKind) -> bool
         Given::End => false,
         Given::Inner => false,
         Given::Leaf => true,
+        Given::Rule => false,
+        Given::Arrival => false,
+        Given::Send => false,
+        Given::Nothing => false,
+    }
+}
+
+pub(crate) fn gives_rule(kind: RecordKind) -> bool
+    ensures { λ r. ⌜ r ≡ givesRule kind ⌝ }
+{
+    let gives = kind.gives;
+    match gives {
+        Given::End => false,
+        Given::Inner => false,
+        Given::Leaf => false,
+        Given::Rule => true,
         Given::Arrival => false,
         Given::Send => false,
         Given::Nothing => false,
@@ -103,6 +122,7 @@ pub(crate) fn gives_arrival(kind: RecordKind) -> bool
         Given::End => false,
         Given::Inner => false,
         Given::Leaf => false,
+        Given::Rule => false,
         Given::Arrival => true,
         Given::Send => false,
         Given::Nothing => false,

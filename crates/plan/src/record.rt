@@ -4,7 +4,7 @@ ghost use mathlib.Core.Path.{_≡_};
 ghost use mathlib.Core.Bool.{cond};
 ghost use Prim.Native.Nat.{_+_, _≤_, _<_};
 ghost use lib.ListN.{length};
-ghost use Rattle.plan.specs.Record.{innerClass, leafClass, classOf, number16, number32};
+ghost use Rattle.plan.specs.Record.{byteAt, innerClass, leafClass, classOf, number16, number32};
 ghost use Rattle.plan.specs.Steps.{HeadSays};
 use crate::kind;
 use crate::kind::RecordKind;
@@ -87,6 +87,14 @@ pub(crate) fn read_class(leaf: bool, body: &[u8]) -> Class
         return leaf_class(body);
     }
     inner_class(body)
+}
+
+// Kind 3: the rule 1.
+pub(crate) fn read_rule(body: &[u8]) -> u8
+    requires { ⌜ length (now body) ≡ 1 ⌝ }
+    ensures { λ r. ⌜ r ≡ byteAt (now (body .entry)) 0 ⌝ }
+{
+    body[0]
 }
 
 // Numbers 1 and 2 of the record at the front of the rest.

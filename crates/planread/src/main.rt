@@ -58,12 +58,16 @@ fn round_size(tree: Tree) -> u64 {
     0
 }
 
-// An accepted plan.
+// An accepted plan: its first line ends with the rule of the round size where that is rule 2.
 fn accepted(tree: Tree, used: usize) {
     number(b"plan ", tree.count as u64);
     number(b" classes, Q ", round_size(tree));
     number(b", ", used as u64);
-    word(b" bytes used\n");
+    word(b" bytes used");
+    if tree.follows {
+        word(b", rule 2");
+    }
+    word(b"\n");
     class_lines(tree);
 }
 

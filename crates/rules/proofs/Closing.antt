@@ -17,7 +17,8 @@ use Rattle.units.proofs.Laws.{cost-positive, cost-grows}
 use Rattle.tree.specs.declared.Tree.{Tree}
 use Rattle.tree.specs.Class.{weightOf, longestOf, isClass, isLeaf, isInner}
 use Rattle.tree.specs.Rules.{PlanRules}
-use Rattle.tree.specs.Size.{allWeights, longestCost, allLongest, roundSize}
+use Rattle.tree.specs.Size.{longestCost}
+use Rattle.rules.specs.Sizes.{ifActive, activeWeights, activeLongest, activeSize}
 use Rattle.tree.specs.Sum.{sumTo, someTo}
 use Rattle.tree.proofs.Classes.{both-true, class-in, class-range}
 use Rattle.tree.proofs.Rules.{few-classes, longest-range}
@@ -147,35 +148,38 @@ main-where s short = go (someTo (hasSurplus (s .tree) (roundActive s) (s .accoun
         let d = inner-parts (s .tree) (w .0) (h .0) in
         absurd (omega (arith, short (w .0) (d .0) (d .1) (h .1), h .2))
 
--- ---- the root's part of all B and R
+-- ---- what all but the root hold
 
--- the weight sums of all classes together are within all weights
-sums-within : (t : Tree) (active : ℕ) → PlanRules t → weightSum t active 0 + sumTo (weightSum t active) (t .count) ≤ allWeights t
-unfolding allWeights
-sums-within t active rules =
+-- the weight sums of all classes together are what the active classes weigh
+sums-active : (t : Tree) (active : ℕ) → PlanRules t → weightSum t active 0 + sumTo (weightSum t active) (t .count) ≡ activeWeights t active
+unfolding activeWeights ifActive
+sums-active t active rules =
     let own : sumTo (λ p. weightSum t active p * 1) (t .count) ≡ sumTo (weightSum t active) (t .count) =
     sum-same (λ p. weightSum t active p * 1) (weightSum t active) (t .count) (λ p l u. mul-one (weightSum t active p))
     in
-    let most =
-    sum-within (λ i. cond (has active i) (weightOf t i * 1) 0) (weightOf t) (t .count) (λ i l u. once i (has active i))
+    let each =
+    sum-same (λ i. cond (has active i) (weightOf t i * 1) 0) (λ i. cond (has active i) (weightOf t i) 0) (t .count)
+    (λ i l u. once i (has active i))
     in
-    omega (arith, own, most, sum-by-parent t active (λ p. 1) rules)
+    omega (arith, own, each, sum-by-parent t active (λ p. 1) rules)
   where
-    once : (i : ℕ) (b : Bool) → cond b (weightOf t i * 1) 0 ≤ weightOf t i
-    once i true = omega arith
-    once i false = zero-le
+    once : (i : ℕ) (b : Bool) → cond b (weightOf t i * 1) 0 ≡ cond b (weightOf t i) 0
+    once i true = mul-one (weightOf t i)
+    once i false = refl
 
 module _ (s : State) (sound : Sound s) (closed : nextLeaf s ≡ 64) (kind : nextKind s ≡ main) where
-  -- at a closing without a surplus a class holds at most its longest packet's cost, or its weight sum
+  -- at a closing without a surplus an active class holds at most its longest packet's cost, or its weight sum; any other nothing
   most : (i : ℕ) → isClass (s .tree) i ≡ true
-      → fundsOf (accountOf (s .accounts) i) ≤ longestCost (s .tree) i + weightSum (s .tree) (roundActive s) i
-  most i is = go (isLeaf (s .tree) i) (has (roundActive s) i) refl refl
+      → fundsOf (accountOf (s .accounts) i)
+      ≤ ifActive (roundActive s) (longestCost (s .tree)) i + weightSum (s .tree) (roundActive s) i
+  unfolding ifActive
+  most i is = go (has (roundActive s) i) (isLeaf (s .tree) i) refl refl
     where
-      go : (b d : Bool) → isLeaf (s .tree) i ≡ b → has (roundActive s) i ≡ d
-          → fundsOf (accountOf (s .accounts) i) ≤ longestCost (s .tree) i + weightSum (s .tree) (roundActive s) i
-      go true d leaf e = omega (arith, leaf-short s sound closed i is leaf)
-      go false true leaf e = omega (arith, no-surplus s kind i is leaf e)
-      go false false leaf e =
+      go : (d b : Bool) → has (roundActive s) i ≡ d → isLeaf (s .tree) i ≡ b
+          → fundsOf (accountOf (s .accounts) i) ≤ cond d (longestCost (s .tree) i) 0 + weightSum (s .tree) (roundActive s) i
+      go true true e leaf = omega (arith, leaf-short s sound closed i is leaf)
+      go true false e leaf = omega (arith, no-surplus s kind i is leaf e)
+      go false b e leaf =
           let u = class-few (s .tree) i (sound .fits .tree) is in
           let l = class-range (s .tree) i is .0 in
           let z = taken-off s sound i e in
@@ -187,13 +191,13 @@ module _ (s : State) (sound : Sound s) (closed : nextLeaf s ≡ 64) (kind : next
       let z = sound .past .past i l in
       omega (arith, sound .zero i (omega arith) .balance (omega arith) z, sound .zero i (omega arith) .residual (omega arith) z)
 
-  -- so all but the root hold at most all longest packets' cost and all weight sums
-  others-most : sumTo (λ i. fundsOf (accountOf (s .accounts) i)) 63 ≤ allLongest (s .tree) + sumTo (weightSum (s .tree) (roundActive s))
-      (s .tree .count)
-  unfolding allLongest
+  -- so all but the root hold at most all active leaves' longest packets' cost and all weight sums
+  others-most : sumTo (λ i. fundsOf (accountOf (s .accounts) i)) 63
+      ≤ activeLongest (s .tree) (roundActive s) + sumTo (weightSum (s .tree) (roundActive s)) (s .tree .count)
+  unfolding activeLongest
   others-most =
       rw past
-      (rw (sum-add (longestCost (s .tree)) (weightSum (s .tree) (roundActive s)) (s .tree .count)) at parts)
+      (rw (sum-add (ifActive (roundActive s) (longestCost (s .tree))) (weightSum (s .tree) (roundActive s)) (s .tree .count)) at parts)
     where
       few : s .tree .count ≤ 63
       few = few-classes (s .tree) (sound .fits .tree)
@@ -202,11 +206,16 @@ module _ (s : State) (sound : Sound s) (closed : nextLeaf s ≡ 64) (kind : next
       past = sum-longer (λ i. fundsOf (accountOf (s .accounts) i)) (s .tree .count) 63 few past-none
 
       parts : sumTo (λ i. fundsOf (accountOf (s .accounts) i)) (s .tree .count)
-          ≤ sumTo (λ i. longestCost (s .tree) i + weightSum (s .tree) (roundActive s) i) (s .tree .count)
+          ≤ sumTo (λ i. ifActive (roundActive s) (longestCost (s .tree)) i + weightSum (s .tree) (roundActive s) i) (s .tree .count)
       parts = sum-within _ _ (s .tree .count) (λ i l u. most i (class-in (s .tree) i l u))
 
-  -- and the root holds the rest of Q, its weight sum at least
-  pub root-has : weightSum (s .tree) (roundActive s) 0 ≤ fundsOf (accountOf (s .accounts) 0)
-  unfolding total roundSize
-  root-has =
-      omega (arith, sound .adds .adds, sound .fits .size, others-most, sums-within (s .tree) (roundActive s) (sound .fits .tree))
+  -- and with the root's weight sum that is within rule 2's size, whatever size is in force
+  pub others-less : weightSum (s .tree) (roundActive s) 0 + sumTo (λ i. fundsOf (accountOf (s .accounts) i)) 63
+      ≤ activeSize (s .tree) (roundActive s)
+  unfolding activeSize
+  others-less = omega (arith, others-most, sums-active (s .tree) (roundActive s) (sound .fits .tree))
+
+  -- so where the size in force is no smaller, the root holds its weight sum at least
+  pub root-has : activeSize (s .tree) (roundActive s) ≤ s .size → weightSum (s .tree) (roundActive s) 0 ≤ fundsOf (accountOf (s .accounts) 0)
+  unfolding total
+  root-has low = omega (arith, low, sound .adds .adds, others-less)

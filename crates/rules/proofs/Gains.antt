@@ -18,11 +18,12 @@ use Rattle.sound.specs.Below.{Above}
 use Rattle.sound.specs.Sound.{Sound}
 use Rattle.sound.proofs.Active.{parent-above}
 use Rattle.rules.specs.Active.{activeChild, activeWeight, weightSum, roundActive}
-use Rattle.rules.specs.Opening.{main, quota, nextKind, opened}
+use Rattle.rules.specs.Opening.{main, quota, nextKind, resizedAccounts, openedWith, Resizes}
 use Rattle.rules.specs.Sending.{nextLeaf}
 use Rattle.rules.proofs.Shares.{quota-root, quota-step}
 use Rattle.rules.specs.Wide.{Wide}
-use Rattle.rules.proofs.Closing.{class-few, root-has}
+use Rattle.rules.proofs.Closing.{class-few}
+use Rattle.rules.proofs.Resized.{resized-has}
 use Rattle.tree.proofs.Sums.{sum-within}
 use Rattle.rules.proofs.Opened.{opened-leaf}
 use Rattle.rules.proofs.Taken.{taken-up, sum-some}
@@ -48,28 +49,30 @@ sum-weight t active i rules is inner =
 one-each : (h w : ℕ) → 1 ≤ w → w ≤ h → 1 ≤ h / w
 one-each h w l u = le-div-iff-mul-le {k = w} {x = 1} {y = h} l .1 (omega arith)
 
-module _ (s : State) (sound : Sound s) (closed : nextLeaf s ≡ 64) (kind : nextKind s ≡ main) where
+module _
+    (s : State) (size : ℕ) (sound : Sound s) (wide : Wide s) (fit : Resizes s size) (closed : nextLeaf s ≡ 64)
+    (kind : nextKind s ≡ main) where
   rules : PlanRules (s .tree)
   rules = sound .fits .tree
 
   -- the quota of a class in the main round that opens
   share : ℕ → ℕ
-  share p = quota main (s .tree) (roundActive s) (s .accounts) p
+  share p = quota main (s .tree) (roundActive s) (resizedAccounts size s) p
 
-  -- the root's is from its part of Q
+  -- the root's is from its part of the size
   root-share : Above (s .tree) 0 → has (roundActive s) 0 ≡ true → 1 ≤ share 0
   unfolding share
   root-share ab on =
-      rw (quota-root main (s .tree) (roundActive s) (s .accounts))
-      (one-each (fundsOf (accountOf (s .accounts) 0)) (weightSum (s .tree) (roundActive s) 0) (sum-some s rules 0 ab on)
-      (root-has s sound closed kind))
+      rw (quota-root main (s .tree) (roundActive s) (resizedAccounts size s))
+      (one-each (fundsOf (accountOf (resizedAccounts size s) 0)) (weightSum (s .tree) (roundActive s) 0) (sum-some s rules 0 ab on)
+      (resized-has s size sound wide fit closed kind))
 
   -- an inner class has at least its weight from its parent, which covers its weight sum
   inner-share : (i : ℕ) → isClass (s .tree) i ≡ true → Above (s .tree) i → has (roundActive s) i ≡ true → 1 ≤ share (parentOf (s .tree) i)
       → 1 ≤ share i
   unfolding share
   inner-share i is ab on up =
-      rw (quota-step main (s .tree) (roundActive s) (s .accounts) rules i (class-range (s .tree) i is .0) (class-few (s .tree) i rules is))
+      rw (quota-step main (s .tree) (roundActive s) (resizedAccounts size s) rules i (class-range (s .tree) i is .0) (class-few (s .tree) i rules is))
       (one-each _ (weightSum (s .tree) (roundActive s) i) (sum-some s rules i ab on)
       (omega (arith, sum-weight (s .tree) (roundActive s) i rules is (ab .inner), le-mul-of-pos-right (weightOf (s .tree) i) up)))
 
@@ -89,18 +92,18 @@ module _ (s : State) (sound : Sound s) (closed : nextLeaf s ≡ 64) (kind : next
           (ih (parentOf (s .tree) p) (omega arith) (parent-above (s .tree) (roundActive s) rules p is) (taken-up s rules p is on))
 
   -- every active class above has a quota
-  pub main-quota : (p : ℕ) → Above (s .tree) p → has (roundActive s) p ≡ true → 1 ≤ quota main (s .tree) (roundActive s) (s .accounts) p
+  pub main-quota : (p : ℕ) → Above (s .tree) p → has (roundActive s) p ≡ true → 1 ≤ quota main (s .tree) (roundActive s) (resizedAccounts size s) p
   unfolding share
   main-quota p ab on = share-down p p (omega arith) ab on
 
 -- and every active leaf gains at least its weight (R150)
-pub main-gains : (s : State) → Sound s → Wide s → nextLeaf s ≡ 64 → nextKind s ≡ main → (i : ℕ) → isClass (s .tree) i ≡ true
+pub main-gains : (s : State) (size : ℕ) → Sound s → Wide s → Resizes s size → nextLeaf s ≡ 64 → nextKind s ≡ main → (i : ℕ) → isClass (s .tree) i ≡ true
     → isLeaf (s .tree) i ≡ true
-    → has (roundActive s) i ≡ true → balanceOf (s .accounts) i + weightOf (s .tree) i ≤ balanceOf (opened s .accounts) i
-main-gains s sound wide closed kind i is leaf on =
+    → has (roundActive s) i ≡ true → balanceOf (s .accounts) i + weightOf (s .tree) i ≤ balanceOf (openedWith size s .accounts) i
+main-gains s size sound wide fit closed kind i is leaf on =
     let tree = sound .fits .tree in
     let up =
-    main-quota s sound closed kind (parentOf (s .tree) i) (parent-above (s .tree) (roundActive s) tree i is) (taken-up s tree i is on)
+    main-quota s size sound wide fit closed kind (parentOf (s .tree) i) (parent-above (s .tree) (roundActive s) tree i is) (taken-up s tree i is on)
     in
-    let after = rw kind at (opened-leaf s sound wide i is leaf on .1) in
+    let after = rw kind at (opened-leaf s size sound wide i is leaf on .1) in
     omega (arith, after, le-mul-of-pos-right (weightOf (s .tree) i) up)

@@ -1,5 +1,6 @@
 -- The laws of the rules of sending.
 pub mod Sums
+pub mod Sizes
 pub mod Shares
 pub mod Waiting
 pub mod Searches
@@ -15,7 +16,9 @@ pub mod Sent
 pub mod ByParent
 pub mod Taken
 pub mod Opened
+pub mod WholeTree
 pub mod Closing
+pub mod Resized
 pub mod Gains
 pub mod Rounds
 pub mod Within

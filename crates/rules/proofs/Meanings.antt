@@ -26,10 +26,10 @@ use Rattle.state.proofs.Tables.{table-length}
 use Rattle.state.proofs.Meaning.{meaning-held, meaning-take, meaning-first}
 use Rattle.sound.specs.Sound.{Sound, SoundLink}
 use Rattle.tree.proofs.Rules.{few-classes, size-ceiling}
-use Rattle.rules.specs.Opening.{opened}
-use Rattle.rules.specs.Sending.{firstOf, sentState, paidBy, paid, booksAfter, turnsOff}
+use Rattle.rules.specs.Opening.{openedWith, opened, nextSize, Covers}
+use Rattle.rules.specs.Sending.{nextLeaf, firstOf, sentState, paidBy, paid, booksAfter, turnsOff}
 use Rattle.rules.specs.Wide.{Wide}
-use Rattle.rules.proofs.Opened.{opened-sound}
+use Rattle.rules.proofs.Opened.{next-covered}
 use Rattle.rules.proofs.Sender.{Sender, next-sender}
 use Rattle.rules.specs.After.{linkIn, openedLink, sentLink}
 use Rattle.rules.specs.Steps.{Fit, SendsNext}
@@ -46,15 +46,15 @@ start-low l k sound u = omega (arith, sound .starts k u .start)
 pub sound-fit : (l : Link) → length (l .accounts) ≡ 64 → SoundLink l → Fit (l .accounts)
 sound-fit l many sound =
     let st = sound .state in
-    record { many = many; small = omega (arith, st .adds .adds, st .fits .size, size-ceiling (l .tree) (st .fits .tree)) }
+    record { many = many; small = omega (arith, st .adds .adds, st .fits .size .most, size-ceiling (l .tree) (st .fits .tree)) }
 
 -- a link in another state means that state
-pub meaning-in : (l : Link) (s : State) → l .tree ≡ s .tree → l .size .0 ≡ s .size → meaning l .queues ≡ s .queues
+pub meaning-in : (l : Link) (s : State) → l .tree ≡ s .tree → meaning l .queues ≡ s .queues
     → meaning (linkIn l s) ≡ s
 unfolding queueOf
-meaning-in l s tree size queues = λ k. record {
+meaning-in l s tree queues = λ k. record {
   tree = tree k;
-  size = size k;
+  size = s .size;
   active = s .active;
   place = s .place;
   accounts = s .accounts;
@@ -63,12 +63,12 @@ meaning-in l s tree size queues = λ k. record {
 
 -- an opening
 pub opened-means : (l : Link) → meaning (openedLink l) ≡ opened (meaning l)
-unfolding opened
-opened-means l = meaning-in l (opened (meaning l)) refl refl refl
+unfolding openedWith
+opened-means l = meaning-in l (opened (meaning l)) refl refl
 
-pub opened-link-sound : (l : Link) → Wide (meaning l) → SoundLink l → SoundLink (openedLink l)
-opened-link-sound l wide sound = record {
-  state = subst Sound (sym (opened-means l)) (opened-sound (meaning l) (sound .state) wide);
+pub opened-link-sound : (l : Link) → Wide (meaning l) → SoundLink l → Covers (meaning l) (nextSize (meaning l)) → SoundLink (openedLink l)
+opened-link-sound l wide sound covers = record {
+  state = subst Sound (sym (opened-means l)) (next-covered (meaning l) (sound .state) wide covers);
   starts = λ i u. record { start = sound .starts i u .start };
 }
 

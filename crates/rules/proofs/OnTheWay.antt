@@ -14,7 +14,8 @@ use Rattle.rules.specs.Opening.{opened}
 use Rattle.rules.specs.Sending.{firstOf, nextLeaf, sentState, turnOf, sends, traceOf}
 use Rattle.rules.specs.Waits.{Waits}
 use Rattle.rules.specs.Within.{Within}
-use Rattle.rules.proofs.Opened.{opened-wide}
+use Rattle.rules.proofs.Resized.{closing-covers}
+use Rattle.rules.proofs.Opened.{next-wide}
 use Rattle.rules.proofs.Rounds.{leaf-most, sends-now, sends-closed}
 use Rattle.rules.proofs.Within.{within-two, within-less, within-none}
 use Rattle.rules.specs.After.{linkIn, openedLink, sentLink, sentBy}
@@ -58,8 +59,8 @@ way-on l₀ at l rounds l′ at′ w closed e next =
     let fuel : 64 - rounds ≡ suc (64 - (rounds + 1)) = omega (arith, left) in
     let rest : 2 - rounds ≡ suc (2 - (rounds + 1)) = omega (arith, left) in
     record {
-      sound = subst SoundLink (sym e) (opened-link-sound l wide (w .sound));
-      many = ap (λ (x : Link). length (x .accounts)) e ∙ opened-wide (meaning l) (w .sound .state) wide .accounts;
+      sound = subst SoundLink (sym e) (opened-link-sound l wide (w .sound) (closing-covers (meaning l) (w .sound .state) wide shut));
+      many = ap (λ (x : Link). length (x .accounts)) e ∙ next-wide (meaning l) (w .sound .state) wide .accounts;
       next = next;
       few = omega (arith, left);
       within =

@@ -1,15 +1,18 @@
--- A state when a round has opened: its accounts, that they still add to the size, and that it is sound. Demand 2.
+-- A state when a round has opened, with any size that it may open with: its accounts, that they add to that size, and that it is sound.
+-- Demand 2.
 use mathlib.Core.Bool.{Bool, true, false, cond}
 use mathlib.Core.List.{List}
 use mathlib.Core.Path.{_≡_, refl, sym, ap, ap₂, _∙_}
 use Prim.Native.Nat.{ℕ, zero, _+_, _-_, _*_, _/_, _≤_, _<_}
 use native.Mathlib.Nat.{mul-zero, zero-mul, mod-def, mod-lt}
 use native.Mathlib.Omega.{arith}
+use native.Mathlib.Decide.{ℕ-discrete}
 use borrow.Author.Tests.{ne-eqb}
 use Rattle.sets.specs.Set.{has}
 use Rattle.tree.specs.declared.Tree.{Tree}
 use Rattle.tree.specs.Class.{parentOf, weightOf, isClass, isLeaf}
 use Rattle.tree.specs.Rules.{PlanRules}
+use Rattle.tree.specs.Size.{mostSize}
 use Rattle.tree.specs.Sum.{sumTo}
 use Rattle.tree.proofs.Classes.{root-no-class, class-range}
 use Rattle.tree.proofs.Rules.{few-classes, size-ceiling}
@@ -24,11 +27,13 @@ use Rattle.tree.proofs.Sums.{sum-same, sum-longer, sum-add}
 use Rattle.sound.proofs.Totals.{total-part}
 use Rattle.rules.specs.Active.{roundActive, weightSum}
 use Rattle.rules.specs.Opening.{Kind, main, surplus, quota, due, handsDown, rootQuota, openedLeaf, openedInner, openedAccount}
-use Rattle.rules.specs.Opening.{openedAccounts, nextKind, opened}
-use Rattle.rules.specs.Steps.{CanOpen}
+use Rattle.rules.specs.Opening.{openedAccounts, nextKind, nextSize, resizedAccounts, openedWith, opened, Resizes, Covers}
+use Rattle.rules.specs.Steps.{CanOpen, CanResize}
 use Rattle.rules.proofs.Shares.{quota-root, quota-step, quota-back, quota-inactive, down-within}
 use Rattle.rules.proofs.Sums.{sum-without}
 use Rattle.rules.specs.Wide.{Wide}
+use Rattle.rules.specs.Sending.{nextLeaf}
+use Rattle.rules.proofs.Resized.{resized-surplus, resized-other, resized-length, root-most, resized-total, main-or-surplus, next-resizes, closing-covers}
 use Rattle.rules.proofs.ByParent.{sum-by-parent}
 use Rattle.rules.proofs.Taken.{leaf-class, leaf-childless, taken-past, taken-fits, taken-waits, taken-up, taken-by-leaf, taken-off}
 use Rattle.rules.proofs.Taken.{sum-some}
@@ -172,111 +177,132 @@ module _ (kind : Kind) (t : Tree) (active : ℕ) (accounts : List Account) (can 
 
 -- ---- the state
 
-module _ (s : State) (sound : Sound s) (wide : Wide s) where
-  -- a round can open on a sound state
-  pub can-open : CanOpen (s .tree) (roundActive s) (s .accounts)
-  can-open = record {
+module _ (s : State) (size : ℕ) (sound : Sound s) (wide : Wide s) where
+  -- a round can open on a sound state, once the root has taken the difference
+  pub can-open : Resizes s size → CanOpen (s .tree) (roundActive s) (resizedAccounts size s)
+  can-open fit = record {
     rules = sound .fits .tree;
-    many = wide .accounts;
-    small = λ i u. omega (
-      arith,
-      total-part (s .accounts) i u,
-      sound .adds .adds,
-      sound .fits .size,
-      size-ceiling (s .tree)
-          (sound .fits .tree),
-    );
+    many = resized-length s size ∙ wide .accounts;
+    small = λ i u. small i u (ℕ-discrete i 0);
     upward = taken-up s (sound .fits .tree);
   }
+    where
+      small : (i : ℕ) → i < 64 → Dec (i ≡ 0) → fundsOf (accountOf (resizedAccounts size s) i) ≤ mostSize
+      small i u (yes e) =
+          rw e (omega (arith, root-most s size sound wide fit, fit .right .most, size-ceiling (s .tree) (sound .fits .tree)))
+      small i u (no e) =
+          omega (
+            arith,
+            ap fundsOf (resized-other s size i (omega arith)),
+            total-part (s .accounts) i u,
+            sound .adds .adds,
+            sound .fits .size .most,
+            size-ceiling (s .tree) (sound .fits .tree),
+          )
 
   -- the account of each class is what the rules say
   pub opened-account : (i : ℕ) → i < 64
-      → accountOf (opened s .accounts) i ≡ openedAccount (nextKind s) (s .tree) (roundActive s) (s .accounts) i
-  unfolding opened openedAccounts
-  opened-account i u = table-at (openedAccount (nextKind s) (s .tree) (roundActive s) (s .accounts)) noAccount 64 i u
+      → accountOf (openedWith size s .accounts) i ≡ openedAccount (nextKind s) (s .tree) (roundActive s) (resizedAccounts size s) i
+  unfolding openedWith openedAccounts
+  opened-account i u = table-at (openedAccount (nextKind s) (s .tree) (roundActive s) (resizedAccounts size s)) noAccount 64 i u
 
-  -- all B and R add to the size through an opening
-  pub opened-total : total (opened s .accounts) ≡ total (s .accounts)
-  unfolding opened
-  opened-total = total-kept (nextKind s) (s .tree) (roundActive s) (s .accounts) can-open (taken-past s (sound .fits .tree))
+  -- all B and R add to the size that the round opens with
+  pub opened-total : Resizes s size → Covers s size → total (openedWith size s .accounts) ≡ size
+  unfolding openedWith
+  opened-total fit covers =
+      total-kept (nextKind s) (s .tree) (roundActive s) (resizedAccounts size s) (can-open fit) (taken-past s (sound .fits .tree))
+      ∙ resized-total s size sound wide fit covers
 
   -- every class number keeps an account and a queue
-  pub opened-wide : Wide (opened s)
-  unfolding opened openedAccounts
+  pub opened-wide : Wide (openedWith size s)
+  unfolding openedWith openedAccounts
   opened-wide = record {
-    accounts = table-length (openedAccount (nextKind s) (s .tree) (roundActive s) (s .accounts)) 64;
+    accounts = table-length (openedAccount (nextKind s) (s .tree) (roundActive s) (resizedAccounts size s)) 64;
     queues = wide .queues;
   }
 
   -- an inactive class's account stays
-  pub opened-idle : (i : ℕ) → 1 ≤ i → i < 64 → has (roundActive s) i ≡ false → accountOf (opened s .accounts) i ≡ accountOf (s .accounts) i
-  opened-idle i l u off = opened-account i u ∙ idle-account (nextKind s) (s .tree) (roundActive s) (s .accounts) i l off
+  pub opened-idle : (i : ℕ) → 1 ≤ i → i < 64 → has (roundActive s) i ≡ false → accountOf (openedWith size s .accounts) i ≡ accountOf (s .accounts) i
+  opened-idle i l u off =
+      opened-account i u
+      ∙ idle-account (nextKind s) (s .tree) (roundActive s) (resizedAccounts size s) i l off
+      ∙ resized-other s size i l
 
   -- in a surplus round the root's does too
-  pub opened-root-stays : nextKind s ≡ surplus → accountOf (opened s .accounts) 0 ≡ accountOf (s .accounts) 0
+  pub opened-root-stays : nextKind s ≡ surplus → accountOf (openedWith size s .accounts) 0 ≡ accountOf (s .accounts) 0
   opened-root-stays e =
       opened-account 0 (omega arith)
-      ∙ ap (λ (k : Kind). openedAccount k (s .tree) (roundActive s) (s .accounts) 0) e
-      ∙ surplus-root (s .tree) (roundActive s) (s .accounts)
+      ∙ ap (λ (k : Kind). openedAccount k (s .tree) (roundActive s) (resizedAccounts size s) 0) e
+      ∙ surplus-root (s .tree) (roundActive s) (resizedAccounts size s)
+      ∙ ap (λ (xs : List Account). accountOf xs 0) (resized-surplus s size e)
 
   -- in a main round it has no residual left, and less than the weight sum of its active children
   pub opened-root-main : nextKind s ≡ main → has (roundActive s) 0 ≡ true
-      → (residualOf (opened s .accounts) 0 ≡ 0) × (balanceOf (opened s .accounts) 0 < weightSum (s .tree) (roundActive s) 0)
+      → (residualOf (openedWith size s .accounts) 0 ≡ 0) × (balanceOf (openedWith size s .accounts) 0 < weightSum (s .tree) (roundActive s) 0)
   opened-root-main e on =
       let is =
       opened-account 0 (omega arith)
-      ∙ ap (λ (k : Kind). openedAccount k (s .tree) (roundActive s) (s .accounts) 0) e
-      ∙ main-root (s .tree) (roundActive s) (s .accounts)
+      ∙ ap (λ (k : Kind). openedAccount k (s .tree) (roundActive s) (resizedAccounts size s) 0) e
+      ∙ main-root (s .tree) (roundActive s) (resizedAccounts size s)
       in
       let above : Above (s .tree) 0 = record { class = omega arith; inner = root-no-leaf (s .tree) (sound .fits .tree) } in
-      let left = left-over (fundsOf (accountOf (s .accounts) 0)) (weightSum (s .tree) (roundActive s) 0) _
+      let left = left-over (fundsOf (accountOf (resizedAccounts size s) 0)) (weightSum (s .tree) (roundActive s) 0) _
       (sum-some s (sound .fits .tree) 0 above on) refl in
       (ap (λ (a : Account). a .residual .0) is, omega (arith, ap (λ (a : Account). a .balance .0) is, left))
 
   -- an active inner class likewise, in both kinds of rounds
   pub opened-inner : (i : ℕ) → 1 ≤ i → Above (s .tree) i → has (roundActive s) i ≡ true
-      → (residualOf (opened s .accounts) i ≡ 0) × (balanceOf (opened s .accounts) i < weightSum (s .tree) (roundActive s) i)
+      → (residualOf (openedWith size s .accounts) i ≡ 0) × (balanceOf (openedWith size s .accounts) i < weightSum (s .tree) (roundActive s) i)
   opened-inner i l ab on =
       let u : i < 64 = omega (arith, ab .class, few-classes (s .tree) (sound .fits .tree)) in
-      let is = opened-account i u ∙ inner-account (nextKind s) (s .tree) (roundActive s) (s .accounts) i l on (ab .inner) in
-      let step = quota-step (nextKind s) (s .tree) (roundActive s) (s .accounts) (sound .fits .tree) i l u in
+      let is = opened-account i u ∙ inner-account (nextKind s) (s .tree) (roundActive s) (resizedAccounts size s) i l on (ab .inner) in
+      let step = quota-step (nextKind s) (s .tree) (roundActive s) (resizedAccounts size s) (sound .fits .tree) i l u in
       let left = left-over _ (weightSum (s .tree) (roundActive s) i) _ (sum-some s (sound .fits .tree) i ab on) step in
       (ap (λ (a : Account). a .residual .0) is, omega (arith, ap (λ (a : Account). a .balance .0) is, left))
 
   -- an active leaf gains its weight times its parent's quota, and has no residual
   pub opened-leaf : (i : ℕ) → isClass (s .tree) i ≡ true → isLeaf (s .tree) i ≡ true → has (roundActive s) i ≡ true
-      → (residualOf (opened s .accounts) i ≡ 0)
-      × (balanceOf (opened s .accounts) i
-      ≡ balanceOf (s .accounts) i + weightOf (s .tree) i * quota (nextKind s) (s .tree) (roundActive s) (s .accounts)
+      → (residualOf (openedWith size s .accounts) i ≡ 0)
+      × (balanceOf (openedWith size s .accounts) i
+      ≡ balanceOf (s .accounts) i + weightOf (s .tree) i * quota (nextKind s) (s .tree) (roundActive s) (resizedAccounts size s)
       (parentOf (s .tree) i))
   opened-leaf i is leaf on =
       let r = class-range (s .tree) i is in
       let u : i < 64 = omega (arith, few-classes (s .tree) (sound .fits .tree)) in
-      let same = opened-account i u ∙ leaf-account (nextKind s) (s .tree) (roundActive s) (s .accounts) i (r .0) on leaf in
-      (ap (λ (a : Account). a .residual .0) same, omega (arith, ap (λ (a : Account). a .balance .0) same, sound .zero i u .leaf leaf))
+      let same = opened-account i u ∙ leaf-account (nextKind s) (s .tree) (roundActive s) (resizedAccounts size s) i (r .0) on leaf in
+      let own = resized-other s size i (r .0) in (
+        ap (λ (a : Account). a .residual .0) same,
+        omega (
+          arith,
+          ap (λ (a : Account). a .balance .0) same,
+          ap (λ (a : Account). a .balance .0) own,
+          ap (λ (a : Account). a .residual .0) own,
+          sound .zero i u .leaf leaf,
+        ),
+      )
 
   -- ---- an opening on a sound state gives a sound state
 
   -- the queues stay
-  opened-holds : (i : ℕ) → i < 64 → HoldsRight (opened s) i
-  unfolding opened
+  opened-holds : (i : ℕ) → i < 64 → HoldsRight (openedWith size s) i
+  unfolding openedWith
   opened-holds i u = record { few = sound .holds i u .few; range = sound .holds i u .range; other = sound .holds i u .other }
 
   -- active leaves hold a packet
-  opened-waiting : (i : ℕ) → i < 64 → ActiveHolds (opened s) i
-  unfolding opened
+  opened-waiting : (i : ℕ) → i < 64 → ActiveHolds (openedWith size s) i
+  unfolding openedWith
   opened-waiting i u =
       record { waits = λ leaf on. taken-waits s (sound .fits .tree) i (leaf-class (s .tree) i (sound .fits .tree) u leaf) leaf on }
 
   -- a class above is active exactly when an active leaf is below it
-  opened-above : (i : ℕ) → i < 64 → AboveActive (opened s) i
-  unfolding opened
+  opened-above : (i : ℕ) → i < 64 → AboveActive (openedWith size s) i
+  unfolding openedWith
   opened-above i u =
       record { leaf-below = taken-by-leaf s (sound .fits .tree) .has-leaf i; active = taken-by-leaf s (sound .fits .tree) .from-leaf i }
 
   -- so an inactive class has B = R = 0, and leaves have R = 0
-  opened-zero : (i : ℕ) → i < 64 → ZeroWhere (opened s) i
-  unfolding opened
+  opened-zero : (i : ℕ) → i < 64 → ZeroWhere (openedWith size s) i
+  unfolding openedWith
   opened-zero i u = record {
     balance = λ l off. ap (λ (a : Account). a .balance .0) (opened-idle i l u off) ∙ sound .zero i u .balance l (taken-off s sound i off);
     residual = λ l off. ap (λ (a : Account). a .residual .0) (opened-idle i l u off)
@@ -284,30 +310,66 @@ module _ (s : State) (sound : Sound s) (wide : Wide s) where
     leaf = λ leaf. go leaf (has (roundActive s) i) refl;
   }
     where
-      go : isLeaf (s .tree) i ≡ true → (b : Bool) → has (roundActive s) i ≡ b → residualOf (opened s .accounts) i ≡ 0
+      go : isLeaf (s .tree) i ≡ true → (b : Bool) → has (roundActive s) i ≡ b → residualOf (openedWith size s .accounts) i ≡ 0
       go leaf true on = opened-leaf i (leaf-class (s .tree) i (sound .fits .tree) u leaf) leaf on .0
       go leaf false off =
           let is = leaf-class (s .tree) i (sound .fits .tree) u leaf in
           ap (λ (a : Account). a .residual .0) (opened-idle i (class-range (s .tree) i is .0) u off) ∙ sound .zero i u .leaf leaf
 
   -- no leaf is below the place
-  opened-behind : (i : ℕ) → i < 64 → BehindPlace (opened s) i
-  unfolding opened
+  opened-behind : (i : ℕ) → i < 64 → BehindPlace (openedWith size s) i
+  unfolding openedWith
   opened-behind i u = record {
     lacks = λ leaf on below. absurd (omega (arith, class-range (s .tree) i (leaf-class (s .tree) i (sound .fits .tree) u leaf) .0));
   }
 
   -- every clause together
-  pub opened-sound : Sound (opened s)
-  unfolding opened
-  opened-sound = record {
-    fits = record { tree = sound .fits .tree; size = sound .fits .size };
+  pub opened-sound : Resizes s size → Covers s size → Sound (openedWith size s)
+  unfolding openedWith
+  opened-sound fit covers = record {
+    fits = record { tree = sound .fits .tree; size = fit .right };
     holds = opened-holds;
     waiting = opened-waiting;
     past = record { word = taken-fits s (sound .fits .tree); past = taken-past s (sound .fits .tree) };
     above = opened-above;
     zero = opened-zero;
-    adds = record { adds = opened-total ∙ sound .adds .adds };
+    adds = record { adds = opened-total fit covers };
     place = record { low = omega arith; high = omega arith };
     behind = opened-behind;
   }
+
+-- ---- with the size that the tree's rule gives
+
+pub next-covered : (s : State) → Sound s → Wide s → Covers s (nextSize s) → Sound (opened s)
+next-covered s sound wide covers = opened-sound s (nextSize s) sound wide (next-resizes s sound) covers
+
+pub next-sound : (s : State) → Sound s → Wide s → nextLeaf s ≡ 64 → Sound (opened s)
+next-sound s sound wide closed = next-covered s sound wide (closing-covers s sound wide closed)
+
+pub next-wide : (s : State) → Sound s → Wide s → Wide (opened s)
+next-wide s sound wide = opened-wide s (nextSize s) sound wide
+
+-- what the code that opens a round asks
+pub can-resize : (s : State) → Sound s → Wide s → Covers s (nextSize s) → CanResize (s .tree) (roundActive s) (s .size) (s .accounts)
+unfolding nextKind nextSize resizedAccounts
+can-resize s sound wide covers =
+    let fit = next-resizes s sound in
+    record {
+      before =
+          record {
+            rules = sound .fits .tree;
+            many = wide .accounts;
+            small =
+                λ i u. omega (
+                  arith,
+                  total-part (s .accounts) i u,
+                  sound .adds .adds,
+                  sound .fits .size .most,
+                  size-ceiling (s .tree) (sound .fits .tree),
+                );
+            upward = taken-up s (sound .fits .tree);
+          };
+      right = sound .fits .size;
+      covers = λ e. rw e at (covers e);
+      after = can-open s (nextSize s) sound wide fit;
+    }

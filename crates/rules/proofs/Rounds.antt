@@ -2,7 +2,7 @@
 -- (R147). Demands 2 and 3.
 use mathlib.Core.Bool.{true, false}
 use mathlib.Core.List.{List, [], _∷_, _++_, append-assoc, append-nil}
-use mathlib.Core.Path.{_≡_, refl, sym, ap, ap₂, _∙_}
+use mathlib.Core.Path.{_≡_, refl, sym, ap, ap₂, subst, _∙_}
 use Prim.Native.Nat.{ℕ, zero, suc, _-_, _≤_, _<_}
 use native.Mathlib.Decide.{decLt}
 use native.Mathlib.Omega.{arith}
@@ -11,54 +11,58 @@ use borrow.Author.Tests.{lt-ltb, le-ltb}
 use Rattle.sets.specs.Set.{has}
 use Rattle.tree.specs.declared.Tree.{Tree}
 use Rattle.tree.specs.Class.{isClass, isLeaf}
+use Rattle.rules.specs.Sizes.{activeSize}
 use Rattle.tree.proofs.Classes.{class-range}
 use Rattle.state.specs.Account.{accountOf, fundsOf}
 use Rattle.state.specs.State.{State}
 use Rattle.sound.specs.Sound.{Sound}
 use Rattle.rules.specs.Active.{roundActive, weightSum}
-use Rattle.rules.specs.Opening.{main, surplus, nextKind, opened}
+use Rattle.rules.specs.Opening.{main, surplus, nextKind, nextSize, openedWith, opened, Resizes}
 use Rattle.rules.specs.Sending.{firstOf, ready, nextLeaf, sentState, Turn, turnOf, Trace, sends, traceOf}
 use Rattle.rules.specs.Waits.{Waits}
 use Rattle.rules.specs.Wide.{Wide}
 use Rattle.rules.proofs.Closing.{main-where, root-has}
-use Rattle.rules.proofs.Opened.{opened-inner, opened-root-main, opened-sound, opened-wide}
+use Rattle.rules.proofs.Opened.{opened-inner, opened-root-main, opened-sound, next-sound, next-wide}
+use Rattle.rules.proofs.Resized.{never-below, next-resizes}
 use Rattle.rules.proofs.Searches.{first-range}
 use Rattle.rules.proofs.Taken.{taken-root, taken-same}
 
 -- ---- which rounds follow
 
--- an opening keeps the tree, the size and the queues, so the weight sums too
-pub opened-tree : (s : State) → opened s .tree ≡ s .tree
-unfolding opened
-opened-tree s = refl
+-- an opening keeps the tree and the queues, so the weight sums too, and rule 2's size
+pub opened-tree : (size : ℕ) (s : State) → openedWith size s .tree ≡ s .tree
+unfolding openedWith
+opened-tree size s = refl
 
-pub opened-size : (s : State) → opened s .size ≡ s .size
-unfolding opened
-opened-size s = refl
+pub opened-queues : (size : ℕ) (s : State) → openedWith size s .queues ≡ s .queues
+unfolding openedWith
+opened-queues size s = refl
 
-pub opened-queues : (s : State) → opened s .queues ≡ s .queues
-unfolding opened
-opened-queues s = refl
+pub opened-sum : (size : ℕ) (s : State) (i : ℕ)
+    → weightSum (openedWith size s .tree) (roundActive (openedWith size s)) i ≡ weightSum (s .tree) (roundActive s) i
+opened-sum size s i = ap₂ (λ (t : Tree) (active : ℕ). weightSum t active i) (opened-tree size s) (taken-same size s)
 
-pub opened-sum : (s : State) (i : ℕ) → weightSum (opened s .tree) (roundActive (opened s)) i ≡ weightSum (s .tree) (roundActive s) i
-opened-sum s i = ap₂ (λ (t : Tree) (active : ℕ). weightSum t active i) (opened-tree s) (taken-same s)
+opened-low : (size : ℕ) (s : State) → activeSize (s .tree) (roundActive s) ≤ size
+    → activeSize (openedWith size s .tree) (roundActive (openedWith size s)) ≤ openedWith size s .size
+unfolding openedWith
+opened-low size s low = subst (λ (active : ℕ). activeSize (s .tree) active ≤ size) (sym (taken-same size s)) low
 
-module _ (s : State) (sound : Sound s) (wide : Wide s) where
+module _ (s : State) (size : ℕ) (sound : Sound s) (wide : Wide s) where
   -- after an opening no active inner class has a surplus, so the next round is a main round
   inner-less : (i : ℕ) → isClass (s .tree) i ≡ true → isLeaf (s .tree) i ≡ false → has (roundActive s) i ≡ true
-      → fundsOf (accountOf (opened s .accounts) i) < weightSum (opened s .tree) (roundActive (opened s)) i
+      → fundsOf (accountOf (openedWith size s .accounts) i) < weightSum (openedWith size s .tree) (roundActive (openedWith size s)) i
   inner-less i is inner on =
       let r = class-range (s .tree) i is in
-      let h = opened-inner s sound wide i (r .0) (record { class = r .1; inner = inner }) on in
-      omega (arith, h .0, h .1, opened-sum s i)
+      let h = opened-inner s size sound wide i (r .0) (record { class = r .1; inner = inner }) on in
+      omega (arith, h .0, h .1, opened-sum size s i)
 
-  pub next-main : nextKind (opened s) ≡ main
+  pub next-main : nextKind (openedWith size s) ≡ main
   next-main =
-      main-where (opened s)
+      main-where (openedWith size s)
       (λ i is inner on. inner-less i (rw opened-tree at is) (rw opened-tree at inner) (rw taken-same at on))
 
   -- a surplus round that sends nothing is followed by a main round
-  pub surplus-main : nextKind s ≡ surplus → nextLeaf (opened s) ≡ 64 → nextKind (opened s) ≡ main
+  pub surplus-main : nextKind s ≡ surplus → nextLeaf (openedWith size s) ≡ 64 → nextKind (openedWith size s) ≡ main
   surplus-main kind closed = next-main
 
 -- the search ends at a class, or at 64
@@ -67,24 +71,34 @@ unfolding nextLeaf
 leaf-most s sound = omega (arith, first-range (ready s) (64 - s .place) (s .place) .1, sound .place .high)
 
 -- what a state has waiting, it has waiting when a round has opened
-pub opened-waits : (s : State) → Waits s → Waits (opened s)
-unfolding opened
-opened-waits s w = record { leaf = w .leaf; class = w .class; is-leaf = w .is-leaf; holds = w .holds }
+pub opened-waits : (size : ℕ) (s : State) → Waits s → Waits (openedWith size s)
+unfolding openedWith
+opened-waits size s w = record { leaf = w .leaf; class = w .class; is-leaf = w .is-leaf; holds = w .holds }
 
 -- a main round sends: the root and the active inner classes keep less than their weight sums, so the leaves hold too much for none to send
-pub main-sends : (s : State) → Sound s → Wide s → Waits s → nextKind s ≡ main → nextLeaf (opened s) < 64
-main-sends s sound wide w kind = go (decLt (nextLeaf (opened s)) 64)
+pub main-sends : (s : State) (size : ℕ) → Sound s → Wide s → Resizes s size → nextLeaf s ≡ 64 → Waits s → nextKind s ≡ main
+    → nextLeaf (openedWith size s) < 64
+main-sends s size sound wide fit shut w kind = go (decLt (nextLeaf (openedWith size s)) 64)
   where
-    after : Sound (opened s)
-    after = opened-sound s sound wide
+    after : Sound (openedWith size s)
+    after = opened-sound s size sound wide fit (never-below s size sound wide fit shut)
 
-    go : Dec (nextLeaf (opened s) < 64) → nextLeaf (opened s) < 64
+    go : Dec (nextLeaf (openedWith size s) < 64) → nextLeaf (openedWith size s) < 64
     go (yes h) = h
     go (no h) =
-        let closed : nextLeaf (opened s) ≡ 64 = omega (arith, leaf-most (opened s) after) in
-        let keeps = root-has (opened s) after closed (next-main s sound wide) in
-        let less = opened-root-main s sound wide kind (taken-root s (sound .fits .tree) (w .leaf) (w .class) (w .is-leaf) (w .holds)) in
-        absurd (omega (arith, keeps, less .0, less .1, opened-sum s 0))
+        let closed : nextLeaf (openedWith size s) ≡ 64 = omega (arith, leaf-most (openedWith size s) after) in
+        let keeps = root-has (openedWith size s) after closed (next-main s size sound wide) (opened-low size s (fit .low kind)) in
+        let less = opened-root-main s size sound wide kind
+        (taken-root s (sound .fits .tree) (w .leaf) (w .class) (w .is-leaf) (w .holds)) in
+        absurd (omega (arith, keeps, less .0, less .1, opened-sum size s 0))
+
+-- so a round that opens on one only just opened, which sent nothing, sends: it is a main round
+pub second-sends : (s : State) → Sound s → Wide s → Waits s → nextLeaf s ≡ 64 → nextLeaf (opened s) ≡ 64
+    → nextLeaf (opened (opened s)) < 64
+second-sends s sound wide w closed again =
+    let after = next-sound s sound wide closed in
+    main-sends (opened s) (nextSize (opened s)) after (next-wide s sound wide) (next-resizes (opened s) after) again
+    (opened-waits (nextSize s) s w) (next-main s (nextSize s) sound wide)
 
 -- ---- a send, step by step
 
@@ -109,7 +123,6 @@ pub record Goes (s : State) : Type 0 where
   pub wide : Wide after
   pub tree : after .tree ≡ s .tree
   pub queues : after .queues ≡ s .queues
-  pub size : after .size ≡ s .size
   pub leaf : nextLeaf after < 64
   pub few : length more ≤ 2
   pub gives : (n : ℕ) (turns : List Turn)
@@ -136,7 +149,6 @@ module _ (s : State) (sound : Sound s) (wide : Wide s) where
     wide = wide;
     tree = refl;
     queues = refl;
-    size = refl;
     leaf = found;
     few = omega arith;
     gives = λ n turns. sends-now (suc (suc n)) turns s found ∙ ap (gone s) (sym (append-nil turns));
@@ -147,11 +159,10 @@ module _ (s : State) (sound : Sound s) (wide : Wide s) where
   one-opened closed found = record {
     after = opened s;
     more = turnOf s ∷ [];
-    sound = opened-sound s sound wide;
-    wide = opened-wide s sound wide;
-    tree = opened-tree s;
-    queues = opened-queues s;
-    size = opened-size s;
+    sound = next-sound s sound wide closed;
+    wide = next-wide s sound wide;
+    tree = opened-tree (nextSize s) s;
+    queues = opened-queues (nextSize s) s;
     leaf = found;
     few = omega arith;
     gives = λ n turns. sends-closed (suc n) turns s closed ∙ sends-now (suc n) (turns ++ (turnOf s ∷ [])) (opened s) found;
@@ -162,11 +173,10 @@ module _ (s : State) (sound : Sound s) (wide : Wide s) where
   two-opened closed again found = record {
     after = opened (opened s);
     more = turnOf s ∷ turnOf (opened s) ∷ [];
-    sound = opened-sound (opened s) (opened-sound s sound wide) (opened-wide s sound wide);
-    wide = opened-wide (opened s) (opened-sound s sound wide) (opened-wide s sound wide);
-    tree = opened-tree (opened s) ∙ opened-tree s;
-    queues = opened-queues (opened s) ∙ opened-queues s;
-    size = opened-size (opened s) ∙ opened-size s;
+    sound = next-sound (opened s) (next-sound s sound wide closed) (next-wide s sound wide) again;
+    wide = next-wide (opened s) (next-sound s sound wide closed) (next-wide s sound wide);
+    tree = opened-tree (nextSize (opened s)) (opened s) ∙ opened-tree (nextSize s) s;
+    queues = opened-queues (nextSize (opened s)) (opened s) ∙ opened-queues (nextSize s) s;
     leaf = found;
     few = omega arith;
     gives = λ n turns.
@@ -183,8 +193,8 @@ module _ (s : State) (sound : Sound s) (wide : Wide s) where
       second : nextLeaf s ≡ 64 → Dec (nextLeaf (opened s) < 64) → Goes s
       second closed (yes found) = one-opened closed found
       second closed (no none) =
-          two-opened closed (omega (arith, leaf-most (opened s) (opened-sound s sound wide)))
-          (main-sends (opened s) (opened-sound s sound wide) (opened-wide s sound wide) (opened-waits s w) (next-main s sound wide))
+          let again : nextLeaf (opened s) ≡ 64 = omega (arith, leaf-most (opened s) (next-sound s sound wide closed)) in
+          two-opened closed again (second-sends s sound wide w closed again)
 
       first : Dec (nextLeaf s < 64) → Goes s
       first (yes found) = none-opened found

@@ -22,7 +22,7 @@ use Rattle.sound.specs.Below.{Below, child, under, Above}
 use Rattle.sound.specs.Sound.{Sound}
 use Rattle.sound.proofs.Active.{ActiveChild, ByChild, ByLeaf, child-to-leaf}
 use Rattle.rules.specs.Active.{waits, someWaits, someBelow, upward, roundActive, weightSum}
-use Rattle.rules.specs.Opening.{opened}
+use Rattle.rules.specs.Opening.{openedWith}
 use Rattle.rules.proofs.Sums.{within-sum}
 use Rattle.rules.proofs.Waiting.{set-has, set-past, set-fits, some-self, some-parent, Parts, some-parts}
 
@@ -214,6 +214,6 @@ taken-off s sound i off = go (has (s .active) i) refl
     go false e = refl
 
 -- two openings in one call see the same queues, so the same active set
-pub taken-same : (s : State) → roundActive (opened s) ≡ roundActive s
-unfolding roundActive upward someBelow waits opened
-taken-same s = refl
+pub taken-same : (size : ℕ) (s : State) → roundActive (openedWith size s) ≡ roundActive s
+unfolding roundActive upward someBelow waits openedWith
+taken-same size s = refl

@@ -49,7 +49,7 @@ module _ (l : Link) (shape : Shaped l) (sound : SoundLink l) (waits : someWaits 
 
   last-means : meaning last ≡ goes .after
   unfolding last
-  last-means = meaning-in l (goes .after) (sym (goes .tree)) (sym (goes .size)) (sym (goes .queues))
+  last-means = meaning-in l (goes .after) (sym (goes .tree)) (sym (goes .queues))
 
   trace-is : traceOf (meaning l)
       ≡ record { turns = goes .more; class = leaf; packet = firstOf (goes .after) leaf; state = sentState (goes .after) leaf }

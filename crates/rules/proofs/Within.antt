@@ -8,14 +8,13 @@ use Rattle.rules.specs.Sending.{nextLeaf}
 use Rattle.rules.specs.Wide.{Wide}
 use Rattle.rules.specs.Waits.{Waits}
 use Rattle.rules.specs.Within.{Within}
-use Rattle.rules.proofs.Opened.{opened-sound, opened-wide}
-use Rattle.rules.proofs.Rounds.{next-main, main-sends, opened-waits}
+use Rattle.rules.proofs.Rounds.{second-sends}
 
 -- a leaf sends before a third round would open
 pub within-two : (s : State) → Sound s → Wide s → Waits s → Within 2 s
 unfolding Within
 within-two s sound wide waits closed again =
-    main-sends (opened s) (opened-sound s sound wide) (opened-wide s sound wide) (opened-waits s waits) (next-main s sound wide)
+    second-sends s sound wide waits closed again
 
 -- one round less
 pub within-less : (n : ℕ) (s : State) → Within (suc n) s → nextLeaf s ≡ 64 → Within n (opened s)

@@ -8,9 +8,9 @@ use Rattle.state.specs.State.{State, meaning, linkInRound}
 use Rattle.rules.specs.Opening.{opened}
 use Rattle.rules.specs.Sending.{sentState, Trace}
 
--- the link in another state that has the same tree, size and queues
+-- the link in another state that has the same tree and queues
 abbrev pub linkIn : Link → State → Link
-linkIn l s = linkInRound l (s .active) (s .place) (s .accounts)
+linkIn l s = linkInRound l (s .size) (s .active) (s .place) (s .accounts)
 
 -- the link when a round has opened
 abbrev pub openedLink : Link → Link

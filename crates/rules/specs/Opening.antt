@@ -1,18 +1,22 @@
 -- Opening a round (R124 to R134; equations (4) to (9) of the published HLS paper). Demand 2.
 use mathlib.Core.Bool.{Bool, true, false, cond, _&&_}
 use mathlib.Core.List.{List}
-use Prim.Native.Nat.{ℕ, zero, suc, _+_}
+use mathlib.Core.Path.{_≡_}
+use Prim.Native.Nat.{ℕ, zero, suc, _+_, _≤_}
 use lib.Dec.{eqb}
+use lib.ListN.{set}
 use Rattle.sets.specs.Set.{has}
 use Rattle.units.specs.Unit.{dueOf, quotaOf, surplusOf}
 use Rattle.tree.specs.declared.Tree.{Tree}
 use Rattle.tree.specs.Class.{parentOf, weightOf, isLeaf, isInner}
+use Rattle.tree.specs.Size.{SizeRight}
 use Rattle.tree.specs.Sum.{someTo}
 use Rattle.state.specs.declared.Account.{Account}
-use Rattle.state.specs.Account.{accountOf, fundsOf, tookQuota, handedDown}
+use Rattle.state.specs.Account.{accountOf, fundsOf, tookSize, tookQuota, handedDown}
 use Rattle.state.specs.Queue.{table}
 use Rattle.state.specs.State.{State, inRound}
 use Rattle.rules.specs.Active.{roundActive, weightSum}
+use Rattle.rules.specs.Sizes.{activeSize, mainSize}
 
 -- the two kinds of rounds (R125)
 pub data Kind : Type 0 where
@@ -34,6 +38,17 @@ hasSurplus t active accounts i = surplusAt t active (accountOf accounts i) i
 -- a surplus round if some active inner class has a surplus; otherwise a main round (R124, R125)
 unfoldable pub kindOf : Tree → ℕ → List Account → Kind
 kindOf t active accounts = cond (someTo (hasSurplus t active accounts) (t .count)) surplus main
+
+-- the size in force when the round has opened: a main round sets it anew, a surplus round leaves it (R229)
+abbrev pub sizeIn : Kind → Tree → ℕ → ℕ → ℕ
+sizeIn main t active size = mainSize t active
+sizeIn surplus t active size = size
+
+-- the accounts that the round shares out: in a main round the root takes the difference between the new size and the old one, once its
+-- residual has joined its balance (R230)
+abbrev pub resized : Kind → ℕ → ℕ → List Account → List Account
+resized main old new accounts = set accounts 0 (tookSize (accountOf accounts 0) old new)
+resized surplus old new accounts = accounts
 
 -- the root's fair quota: in a main round B + R over its active children's weight sum, rounded down; in a surplus round 0 (R126, R127)
 abbrev pub rootShare : Kind → Tree → ℕ → Account → ℕ
@@ -93,6 +108,30 @@ openedAccounts kind t active accounts = table (openedAccount kind t active accou
 unfoldable pub nextKind : State → Kind
 nextKind s = kindOf (s .tree) (roundActive s) (s .accounts)
 
--- the state when the round has opened: the place becomes 1 (R133, R134)
-unfoldable pub opened : State → State
-opened s = inRound s (roundActive s) 1 (openedAccounts (nextKind s) (s .tree) (roundActive s) (s .accounts))
+-- the size in force when it has opened (R229)
+unfoldable pub nextSize : State → ℕ
+nextSize s = sizeIn (nextKind s) (s .tree) (roundActive s) (s .size)
+
+-- the accounts that it shares out with this size in force (R230)
+unfoldable pub resizedAccounts : ℕ → State → List Account
+resizedAccounts size s = resized (nextKind s) (s .size) size (s .accounts)
+
+-- the state when the round has opened with this size in force: the place becomes 1 (R133, R134, R229)
+unfoldable pub openedWith : ℕ → State → State
+openedWith size s =
+    inRound s size (roundActive s) 1 (openedAccounts (nextKind s) (s .tree) (roundActive s) (resizedAccounts size s))
+
+-- and with the size that the tree's rule gives (R133, R134)
+abbrev pub opened : State → State
+opened s = openedWith (nextSize s) s
+
+-- a size that a round may open with: never above rule 1's; in a main round at least rule 2's, in a surplus round the one in force. What is
+-- said of an opening holds for each such size, and the tree's rule gives one of them (`next-resizes`, proofs/Resized) (R233)
+pub record Resizes (s : State) (size : ℕ) : Type 0 where
+  pub right : SizeRight (s .tree) size
+  pub low : nextKind s ≡ main → activeSize (s .tree) (roundActive s) ≤ size
+  pub kept : nextKind s ≡ surplus → size ≡ s .size
+
+-- the root can take the difference: B + R + new is not below old (at every closing, `never-below`, proofs/Resized) (R231)
+abbrev pub Covers : State → ℕ → Type 0
+Covers s size = nextKind s ≡ main → s .size ≤ fundsOf (accountOf (s .accounts) 0) + size

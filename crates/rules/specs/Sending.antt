@@ -15,7 +15,7 @@ use Rattle.state.specs.Account.{accountOf, balanceOf, fundsOf, sentFrom, gained
 use Rattle.state.specs.Queue.{noPacket}
 use Rattle.state.specs.State.{State, queueAt, withQueue, inRound}
 use Rattle.rules.specs.Active.{activeChild, roundActive}
-use Rattle.rules.specs.Opening.{Kind, nextKind, quota, opened}
+use Rattle.rules.specs.Opening.{Kind, nextKind, nextSize, resizedAccounts, quota, opened}
 
 -- the first packet of class i (R136)
 abbrev pub firstOf : State → ℕ → Packet
@@ -100,20 +100,23 @@ booksAfter s i =
 unfoldable pub sentState : State → ℕ → State
 sentState s i =
     let b = booksAfter s i in
-    withQueue (inRound s (b .active) i (b .accounts)) i (drop 1 (queueAt s i))
+    withQueue (inRound s (s .size) (b .active) i (b .accounts)) i (drop 1 (queueAt s i))
 
--- a round that closed and the one that opened in its place (R145, R146)
+-- the state in which a round closed, and the round that opened in its place: its kind, the size in force, the quotas, and the accounts
+-- after the opening (R145, R146, R235)
 pub record Turn : Type 0 where
-  pub closed : List Account
+  pub closed : State
   pub kind : Kind
+  pub size : ℕ
   pub quotas : ℕ → ℕ
   pub after : List Account
 
 unfoldable pub turnOf : State → Turn
 turnOf s = record {
-  closed = s .accounts;
+  closed = s;
   kind = nextKind s;
-  quotas = quota (nextKind s) (s .tree) (roundActive s) (s .accounts);
+  size = nextSize s;
+  quotas = quota (nextKind s) (s .tree) (roundActive s) (resizedAccounts (nextSize s) s);
   after = opened s .accounts;
 }
 

@@ -2,19 +2,21 @@
 use mathlib.Core.Bool.{Bool, true, _&&_}
 use mathlib.Core.List.{List}
 use mathlib.Core.Path.{_≡_}
-use Prim.Native.Nat.{ℕ, _-_, _≤_, _<_}
+use Prim.Native.Nat.{ℕ, _+_, _-_, _≤_, _<_}
 use lib.Dec.{leb}
 use lib.ListN.{length, getD}
 use Rattle.sets.specs.Set.{has}
 use Rattle.tree.specs.declared.Tree.{Tree}
 use Rattle.tree.specs.Class.{parentOf, isClass, isLeaf}
 use Rattle.tree.specs.Rules.{PlanRules}
-use Rattle.tree.specs.Size.{mostSize}
+use Rattle.tree.specs.Size.{mostSize, SizeRight}
 use Rattle.state.specs.declared.Account.{Account}
 use Rattle.state.specs.declared.Link.{Link}
 use Rattle.state.specs.Account.{accountOf, fundsOf}
 use Rattle.state.specs.State.{meaning}
 use Rattle.sound.specs.Sound.{total, SoundLink}
+use Rattle.rules.specs.Sizes.{mainSize}
+use Rattle.rules.specs.Opening.{main, kindOf, sizeIn, resized}
 use Rattle.rules.specs.Sending.{nextLeaf, Turn, sends, traceOf}
 use Rattle.rules.specs.Within.{Within}
 use Rattle.rules.specs.After.{linkIn}
@@ -25,6 +27,13 @@ pub record CanOpen (t : Tree) (active : ℕ) (accounts : List Account) : Type 0 
   pub many : length accounts ≡ 64
   pub small : (i : ℕ) → i < 64 → fundsOf (accountOf accounts i) ≤ mostSize
   pub upward : (i : ℕ) → isClass t i ≡ true → has active i ≡ true → has active (parentOf t i) ≡ true
+
+-- accounts on which a round can open with a size in force: the root can take the difference, and then they can open
+pub record CanResize (t : Tree) (active size : ℕ) (accounts : List Account) : Type 0 where
+  pub before : CanOpen t active accounts
+  pub right : SizeRight t size
+  pub covers : kindOf t active accounts ≡ main → size ≤ fundsOf (accountOf accounts 0) + mainSize t active
+  pub after : CanOpen t active (resized (kindOf t active accounts) size (sizeIn (kindOf t active accounts) t active size) accounts)
 
 -- class i is a leaf that holds a packet, in the numbers of the record
 unfoldable pub holdsSome : Tree → List ℕ → ℕ → Bool

@@ -12,7 +12,7 @@ use Rattle.sets.specs.Set.{has}
 use Rattle.sets.proofs.Laws.{has-past}
 use Rattle.tree.specs.Class.{parentOf, longestOf, isLeaf}
 use Rattle.tree.specs.Rules.{PlanRules}
-use Rattle.tree.specs.Size.{roundSize}
+use Rattle.tree.specs.Size.{SizeRight}
 use Rattle.tree.proofs.Classes.{class-in, class-range, class-past, root-no-class}
 use Rattle.tree.proofs.Rules.{few-classes, parent-lower}
 use Rattle.state.proofs.Queues.{queue-at}
@@ -119,7 +119,7 @@ module _ (l : Link) (rules : PlanRules (l .tree)) where
   packet-is : (i j : ℕ) → i < 64 → j < heldOf l i → getD (queueAt (meaning l) i) j noPacket ≡ packetAt l i j
   packet-is i j u h = ap (λ (q : List Packet). getD q j noPacket) (meaning-queue l i u) ∙ queue-at l i j h
 
-  pub right-to-sound : l .size .0 ≡ roundSize (l .tree) → PlaceRight (meaning l) → l .active < 2 ^ 64 → ClassesRight l → SoundLink l
+  pub right-to-sound : SizeRight (l .tree) (l .size .0) → PlaceRight (meaning l) → l .active < 2 ^ 64 → ClassesRight l → SoundLink l
   unfolding viewOf after NoneActive
   right-to-sound size place word right =
       let view : (i : ℕ) → i < 64 → ViewRight (viewOf l i) = λ i u. right .at i u .view in

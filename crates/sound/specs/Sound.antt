@@ -9,7 +9,7 @@ use Rattle.units.specs.Cost.{costOf}
 use Rattle.tree.specs.declared.Tree.{Tree}
 use Rattle.tree.specs.Class.{longestOf, isLeaf}
 use Rattle.tree.specs.Rules.{PlanRules}
-use Rattle.tree.specs.Size.{roundSize}
+use Rattle.tree.specs.Size.{SizeRight}
 use Rattle.tree.specs.Sum.{sumTo}
 use Rattle.state.specs.declared.Account.{Account}
 use Rattle.state.specs.declared.Link.{Link}
@@ -19,10 +19,10 @@ use Rattle.state.specs.Queue.{noPacket, startOf}
 use Rattle.state.specs.State.{State, meaning, queueAt}
 use Rattle.sound.specs.Below.{Above, ActiveLeafBelow}
 
--- its tree obeys the plan rules and Q fits it (R101, R102)
+-- its tree obeys the plan rules, and its size is one that may be in force (R101, R102)
 pub record TreeFits (s : State) : Type 0 where
   pub tree : PlanRules (s .tree)
-  pub size : s .size ≡ roundSize (s .tree)
+  pub size : SizeRight (s .tree) (s .size)
 
 -- a packet is within the range of class i (R17, R104)
 pub record InRange (t : Tree) (i : ℕ) (p : Packet) : Type 0 where
@@ -64,7 +64,7 @@ pub record ZeroWhere (s : State) (i : ℕ) : Type 0 where
 unfoldable pub total : List Account → ℕ
 total xs = fundsOf (accountOf xs 0) + sumTo (λ i. fundsOf (accountOf xs i)) 63
 
--- all B and R add to Q (R112)
+-- all B and R add to the size in force (R112)
 pub record AddsUp (s : State) : Type 0 where
   pub adds : total (s .accounts) ≡ s .size
 

@@ -1,5 +1,5 @@
 -- What the inner functions of the decision say, in numbers; no rule of its own.
-use mathlib.Core.Bool.{true, false, cond}
+use mathlib.Core.Bool.{Bool, true, false, cond}
 use mathlib.Core.List.{List}
 use mathlib.Core.Path.{_≡_}
 use Prim.Native.Nat.{ℕ, zero, suc, _+_, _-_, _%_, _≤_, _<_}
@@ -77,6 +77,11 @@ pub record ViewRight (v : View) : Type 0 where
   pub residual : v .account .residual .0 ≤ v .size .0
   pub leaf : v .leaf ≡ true → LeafRight v
   pub other : v .leaf ≡ false → OtherRight v
+
+-- a size that may be in force, in numbers: whether it follows who is active, and the whole tree's size
+pub record SizeWithin (follows : Bool) (whole size : ℕ) : Type 0 where
+  pub most : size ≤ whole
+  pub same : follows ≡ false → size ≡ whole
 
 -- the packet at a place is within its range, where one waits there: the place's turn is one of those held
 pub record PlaceInRange (length turn held longest : ℕ) : Type 0 where

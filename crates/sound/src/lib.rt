@@ -9,7 +9,7 @@ ghost use Rattle.tree.specs.Rules.{PlanRules};
 ghost use Rattle.state.specs.State.{linkOf};
 ghost use Rattle.sound.specs.Sound.{SoundLink};
 ghost use Rattle.sound.specs.Steps.{LeafRight, OtherRight, ViewRight, PlaceInRange, LengthsRight, ClassRight};
-ghost use Rattle.sound.specs.Steps.{numbersOf, ClassesRight};
+ghost use Rattle.sound.specs.Steps.{numbersOf, ClassesRight, SizeWithin};
 use state::Account;
 use state::Link;
 use state::queue::slot;
@@ -205,6 +205,16 @@ fn classes_right(
     sum.0 == size.0
 }
 
+// Whether a size may be in force: never above the whole tree's, and under rule 1 the whole tree's.
+fn size_right(follows: bool, whole: Bytes, size: Bytes) -> bool
+    ensures { λ r. ⌜ Exactly r (SizeWithin follows (whole .0) (size .0)) ⌝ }
+{
+    if follows {
+        return size.0 <= whole.0;
+    }
+    size.0 == whole.0
+}
+
 // Whether the link that these parts make up is sound; its tags have no say.
 pub fn is_sound_of(
     tree: Tree,
@@ -223,7 +233,8 @@ pub fn is_sound_of(
     if !plan.right {
         return false;
     }
-    if plan.size.0 != size.0 {
+    let whole = plan.size;
+    if !size_right(tree.follows, whole, size) {
         return false;
     }
     if place < 1 {

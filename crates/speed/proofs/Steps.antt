@@ -1,27 +1,33 @@
 -- One packet more offered, and one round more opened: the steps of the timed loop.
-use mathlib.Core.Bool.{true}
+use mathlib.Core.Bool.{true, false}
 use mathlib.Core.Path.{_≡_, refl, sym, ap, subst, _∙_}
-use Prim.Native.Nat.{ℕ, _+_}
+use Prim.Native.Nat.{ℕ, zero, suc, _+_}
 use native.Mathlib.Numerals.{add-one}
 use mathlib.Core.List.{List}
 use lib.ListN.{length}
+use Rattle.checks.specs.declared.Verdict.{Verdict}
+use Rattle.checks.specs.declared.Verdict.the-variants.{Passed, Refused}
+use Rattle.checks.specs.Check.{firstBroken}
 use Rattle.units.specs.declared.Bytes.{Bytes}
 use Rattle.tree.specs.declared.Tree.{Tree}
 use Rattle.state.specs.declared.Account.{Account}
 use Rattle.state.specs.Account.{balanceOf, residualOf}
 use Rattle.state.specs.Queue.{table}
-use Rattle.state.specs.State.{linkOf}
+use Rattle.state.specs.State.{meaning, linkOf}
 use Rattle.steps.specs.Parts.{lentLink}
 use Rattle.steps.specs.Rounds.{InParts}
 use Rattle.steps.proofs.Wholes.{in-lists}
+use Rattle.steps.proofs.Rounding.{CoversNext}
 use Rattle.state.specs.declared.Link.{Link}
 use Rattle.state.proofs.Tables.{table-length}
 use Rattle.sound.specs.Sound.{SoundLink}
-use Rattle.rules.specs.Opening.{openedAccounts, opened}
+use Rattle.rules.specs.Opening.{openedAccounts, openedWith}
 use Rattle.rules.specs.After.{openedLink}
 use Rattle.rules.proofs.Meanings.{meaning-wide, opened-link-sound}
+use Rattle.rules.proofs.Resized.{rule-1-covers}
+use Rattle.rules.proofs.WholeTree.{size-stays}
 use Rattle.calls.specs.declared.AfterArrival.{AfterArrival}
-use Rattle.calls.specs.Arrival.{Arrives, arrivalOf}
+use Rattle.calls.specs.Arrival.{Arrives, arrivalChecks, arrivalOf, arrivalGives}
 use Rattle.calls.proofs.Arrivals.{arrives-as}
 use Rattle.speed.specs.Openings.{onePacket, offeredTo, openedTimes}
 
@@ -57,10 +63,36 @@ pub opened-parts : (l₀ : Link) (b r : List ℕ) {n : ℕ} {t : Tree} {size : B
     → Opened l₀ n (lentLink t size active place b r start held lengths tags) → InParts t size active place b r start held lengths tags
 opened-parts l₀ b r o = record { sound = o .sound; wide = o .many }
 
-pub opened-more : (l₀ l : Link) (n : ℕ) (r : Link) → Opened l₀ n l → r ≡ openedLink l → Opened l₀ (n + 1) r
-unfolding openedTimes opened openedAccounts
-opened-more l₀ l n r o e = record {
-  sound = subst SoundLink (sym e) (opened-link-sound l (meaning-wide l (o .many)) (o .sound));
+-- under rule 1 a round may open at any moment, and the size stays
+pub opened-covers : (l : Link) → SoundLink l → length (l .accounts) ≡ 64 → l .tree .follows ≡ false → CoversNext l
+opened-covers l sound many rule = rule-1-covers (meaning l) (sound .state) (meaning-wide l many) rule
+
+pub same-size : {t : Tree} {size new : Bytes} {active place on : ℕ} {start held lengths tags : List ℕ} (b r b′ r′ : List ℕ)
+    → InParts t size active place b r start held lengths tags → t .follows ≡ false
+    → lentLink t new on 1 b′ r′ start held lengths tags ≡ openedLink (lentLink t size active place b r start held lengths tags)
+    → lentLink t size on 1 b′ r′ start held lengths tags ≡ openedLink (lentLink t size active place b r start held lengths tags)
+unfolding openedWith
+same-size {t} {size} {new} {active} {place} {on} {start} {held} {lengths} {tags} b r b′ r′ s rule e =
+    let l = lentLink t size active place b r start held lengths tags in
+    let same : new .0 ≡ size .0 =
+    ap (λ (x : Link). x .size .0) e ∙ size-stays (meaning l) (s .sound .state) (meaning-wide l (s .wide)) rule in
+    ap (λ (n : ℕ). lentLink t (record { 0 = n }) on 1 b′ r′ start held lengths tags) (sym same) ∙ e
+
+-- no arrival changes the tree
+given-tree : (v : Verdict) (l : Link) (i : ℕ) → arrivalGives v l i onePacket .link .tree ≡ l .tree
+given-tree Passed l i = refl
+given-tree (Refused n q) l i = refl
+
+pub offered-tree : (n : ℕ) (l : Link) → offeredTo n l .tree ≡ l .tree
+unfolding offeredTo arrivalOf
+offered-tree zero l = refl
+offered-tree (suc n) l =
+    given-tree (firstBroken (arrivalChecks true (meaning (offeredTo n l)) (suc n) onePacket)) (offeredTo n l) (suc n) ∙ offered-tree n l
+
+pub opened-more : (l₀ l : Link) (n : ℕ) (r : Link) → Opened l₀ n l → l .tree .follows ≡ false → r ≡ openedLink l → Opened l₀ (n + 1) r
+unfolding openedTimes openedWith openedAccounts
+opened-more l₀ l n r o rule e = record {
+  sound = subst SoundLink (sym e) (opened-link-sound l (meaning-wide l (o .many)) (o .sound) (opened-covers l (o .sound) (o .many) rule));
   many = ap (λ (x : Link). length (x .accounts)) e ∙ table-length _ 64;
   same = e ∙ ap (λ (x : Link). openedLink x) (o .same) ∙ rw (add-one n) refl;
 }

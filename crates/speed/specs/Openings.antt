@@ -2,7 +2,6 @@
 use Prim.Native.Nat.{ℕ, zero, suc}
 use mathlib.Core.Bool.{true}
 use mathlib.Core.List.{List}
-use Rattle.units.specs.declared.Bytes.{Bytes}
 use Rattle.state.specs.declared.Link.{Link}
 use Rattle.state.specs.declared.Packet.{Packet}
 use Rattle.state.specs.Account.{balanceOf}
@@ -29,7 +28,6 @@ rootLeft l n = balanceOf (openedTimes n (offeredTo 63 l) .accounts) 0
 
 -- what an opening does not see of its link
 pub record Rest : Type 0 where
-  pub size : Bytes
   pub active : ℕ
   pub place : ℕ
   pub start : List ℕ

@@ -1,6 +1,7 @@
 // The loop of openings that bin/speed times: rounds opened on a plan's link, one over the other. No part of the product.
-// It shows what an opening costs (docs/speed.md).
+// It shows what an opening costs (docs/speed.md). The plan is one of rule 1: under rule 2 a round may only open where one has closed.
 ghost use mathlib.Core.Path.{_≡_};
+ghost use mathlib.Core.Bool.{false};
 ghost use Rattle.sound.specs.Sound.{SoundLink};
 ghost use Rattle.rules.specs.After.{openedLink};
 ghost use Rattle.steps.specs.Parts.{lentLink};
@@ -9,6 +10,7 @@ ghost use Rattle.speed.specs.Openings.{Rest, offeredTo, openedTimes, roo
 use state::Link;
 use state::Packet;
 use tree::Tree;
+use units::Bytes;
 
 // A packet is offered to every class: each leaf takes it.
 fn backlogged(link: Link) -> Link
@@ -28,31 +30,33 @@ fn backlogged(link: Link) -> Link
 // A round opens over the parts of a link that it reads and changes: who is active in it.
 fn open_next(
     tree: Tree,
+    size: Bytes,
     held: &[u8; Link::CLASSES],
     balance: &mut [u64; Link::CLASSES],
     residual: &mut [u64; Link::CLASSES],
 ) -> u64
-    requires { ⌜ ((k : Rest)
-        × InParts tree (k .size) (k .active) (k .place) (now balance) (now residual) (k .start) (now held) (k .lengths) (k .tags)) ⌝ }
+    requires { ⌜ ((k : Rest) × InParts tree size (k .active) (k .place) (now balance) (now residual) (k .start) (now held) (k .lengths)
+        (k .tags)) × (tree .follows ≡ false) ⌝ }
     ensures { λ r. ⌜ ((k : Rest)
-        → InParts tree (k .size) (k .active) (k .place) (now (balance .entry)) (now (residual .entry)) (k .start) (now (held .entry))
+        → InParts tree size (k .active) (k .place) (now (balance .entry)) (now (residual .entry)) (k .start) (now (held .entry))
         (k .lengths) (k .tags)
-        → lentLink tree (k .size) r 1 (now (balance .exit)) (now (residual .exit)) (k .start) (now (held .entry)) (k .lengths) (k .tags)
-        ≡ openedLink (lentLink tree (k .size) (k .active) (k .place) (now (balance .entry)) (now (residual .entry)) (k .start)
+        → lentLink tree size r 1 (now (balance .exit)) (now (residual .exit)) (k .start) (now (held .entry)) (k .lengths) (k .tags)
+        ≡ openedLink (lentLink tree size (k .active) (k .place) (now (balance .entry)) (now (residual .entry)) (k .start)
         (now (held .entry)) (k .lengths) (k .tags))) ⌝ }
 {
     let active = steps::round_active(tree, 0, held);
     let sums = steps::weight_sums(tree, active);
-    steps::open_round(tree, active, sums, balance, residual);
+    steps::open_round(tree, active, sums, size, balance, residual);
     active
 }
 
 // Rounds are opened one over the other, and nothing is sent.
 fn open_times(link: Link, times: usize) -> Link
-    requires { ⌜ SoundLink link ⌝ }
+    requires { ⌜ SoundLink link × (link .tree .follows ≡ false) ⌝ }
     ensures { λ r. ⌜ r ≡ openedTimes times link ⌝ }
 {
     let tree = link.tree;
+    let size = link.size;
     let held = link.held;
     let before = link.accounts;
     let mut balance = steps::balances(before);
@@ -61,7 +65,7 @@ fn open_times(link: Link, times: usize) -> Link
     let mut place = link.place;
     let mut n: usize = 0;
     while n < times {
-        active = open_next(tree, &held, &mut balance, &mut residual);
+        active = open_next(tree, size, &held, &mut balance, &mut residual);
         place = 1;
         n += 1;
     }
@@ -75,7 +79,7 @@ fn open_times(link: Link, times: usize) -> Link
 
 // What is left with the root then.
 fn root_left(link: Link, times: usize) -> u64
-    requires { ⌜ SoundLink link ⌝ }
+    requires { ⌜ SoundLink link × (link .tree .follows ≡ false) ⌝ }
     ensures { λ r. ⌜ r ≡ rootLeft link times ⌝ }
 {
     let after = open_times(backlogged(link), times);
@@ -83,12 +87,16 @@ fn root_left(link: Link, times: usize) -> u64
     root.balance.0
 }
 
-// The same on a plan's fresh link, from the plan's bytes; 0 where the plan is refused.
+// The same on a plan's fresh link, from the plan's bytes; 0 where the plan is refused, or is one of rule 2.
 #[no_mangle]
 pub extern "C" fn speed_openings(input: &[u8], times: usize) -> u64 {
     let read = plan::read_plan(input);
     let made = link::fresh(read.tree);
     let link = made.link;
+    let tree = link.tree;
+    if tree.follows {
+        return 0;
+    }
     if sound::is_sound(link) {
         return root_left(link, times);
     }

@@ -26,6 +26,10 @@ residualOf xs i = accountOf xs i .residual .0
 abbrev pub tookQuota : Account → ℕ → Account
 tookQuota a due = account (a .balance .0 + a .residual .0 + due) 0
 
+-- the root takes the difference between a new size and the old one, once its residual has joined its balance (R230)
+abbrev pub tookSize : Account → ℕ → ℕ → Account
+tookSize a old new = account (a .balance .0 + a .residual .0 + new - old) 0
+
 -- a parent's balance falls by what it hands down (R88)
 abbrev pub handedDown : Account → ℕ → Account
 handedDown a due = account (a .balance .0 - due) (a .residual .0)

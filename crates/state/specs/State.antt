@@ -12,7 +12,7 @@ use Rattle.state.specs.declared.Packet.{Packet}
 use Rattle.state.specs.Account.{account, noAccount}
 use Rattle.state.specs.Queue.{table, queueOf}
 
--- the tree, Q, the set of active classes, the place in the round, each class's account and each class's queue (R96)
+-- the tree, the round size in force, the set of active classes, the place in the round, each class's account and each class's queue (R96)
 pub record State : Type 0 where
   pub tree : Tree
   pub size : ℕ
@@ -50,11 +50,11 @@ withQueues s queues = record {
 abbrev pub withQueue : State → ℕ → List Packet → State
 withQueue s i q = withQueues s (set (s .queues) i q)
 
--- the state in a round: with these active classes, this place and these accounts
-abbrev pub inRound : State → ℕ → ℕ → List Account → State
-inRound s active place accounts = record {
+-- the state in a round: with this size in force, these active classes, this place and these accounts
+abbrev pub inRound : State → ℕ → ℕ → ℕ → List Account → State
+inRound s size active place accounts = record {
   tree = s .tree;
-  size = s .size;
+  size = size;
   active = active;
   place = place;
   accounts = accounts;
@@ -76,10 +76,11 @@ linkOf tree size active place accounts start held lengths tags = record {
 }
 
 -- the link in a round, as a state is
-abbrev pub linkInRound : Link → ℕ → ℕ → List Account → Link
-linkInRound l active place accounts = linkOf (l .tree) (l .size) active place accounts (l .start) (l .held) (l .lengths) (l .tags)
+abbrev pub linkInRound : Link → ℕ → ℕ → ℕ → List Account → Link
+linkInRound l size active place accounts =
+    linkOf (l .tree) (record { 0 = size }) active place accounts (l .start) (l .held) (l .lengths) (l .tags)
 
--- a fresh link: root balance Q, every other B and R zero, queues empty, nothing active, place 64 (R99)
+-- a fresh link, whose size is the whole tree's: root balance Q, every other B and R zero, queues empty, nothing active, place 64 (R99)
 abbrev pub freshLink : Tree → Link
 freshLink t = record {
   tree = t;

@@ -2,7 +2,7 @@
 // Serves demands 2 and 3.
 ghost use mathlib.Core.Path.{_≡_};
 ghost use Prim.Native.Nat.{_+_, _^_, _<_, _≤_};
-ghost use Rattle.state.specs.Account.{noAccount, tookQuota, handedDown, sentFrom, gained, returned, received, fundsOf};
+ghost use Rattle.state.specs.Account.{noAccount, tookSize, tookQuota, handedDown, sentFrom, gained, returned, received, fundsOf};
 use crate::Account;
 use units::Bytes;
 
@@ -26,6 +26,20 @@ impl Account {
         let residual = self.residual;
         Account {
             balance: balance.plus(residual).plus(due),
+            residual: Bytes(0),
+        }
+    }
+
+    // The root takes the difference between two sizes, once its residual has joined its balance.
+    pub fn take_size(self, old: Bytes, size: Bytes) -> Account
+        requires { ⌜ (self .balance .0 + self .residual .0 + size .0 < 2 ^ 64)
+            × (old .0 ≤ self .balance .0 + self .residual .0 + size .0) ⌝ }
+        ensures { λ r. ⌜ r ≡ tookSize self (old .0) (size .0) ⌝ }
+    {
+        let balance = self.balance;
+        let residual = self.residual;
+        Account {
+            balance: balance.plus(residual).plus(size).less(old),
             residual: Bytes(0),
         }
     }

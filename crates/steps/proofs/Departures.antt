@@ -47,8 +47,8 @@ module _
   whole = lentLink t size before from balance residual start held lengths tags
 
   pub now-finds : (at : ℕ) → at ≡ nextLeaf (meaning whole) → at < 64
-      → Finds whole (record { class = at; rounds = 0; active = before })
-      (λ active place. lentLink t size active place balance residual start held lengths tags)
+      → Finds whole (record { class = at; rounds = 0; active = before; size = size })
+      (λ after active place. lentLink t after active place balance residual start held lengths tags)
   now-finds at next here =
       let some : someWaits (meaning whole) ≡ true = found-waits (meaning whole) (s .sound .state) (omega (arith, next, here)) in
       record {
@@ -60,17 +60,18 @@ module _
 
   -- or its round has closed
   abbrev unseen : Unseen
-  unseen = record { size = size; active = before; place = from; held = held; tags = tags }
+  unseen = record { active = before; place = from; held = held; tags = tags }
 
-  pub is-closed : (at : ℕ) → at ≡ nextLeaf (meaning whole) → 64 ≤ at → Closed t unseen balance residual start lengths
+  pub is-closed : (at : ℕ) → at ≡ nextLeaf (meaning whole) → 64 ≤ at → Closed t size unseen balance residual start lengths
   is-closed at next none = record { parts = s; closed = omega (arith, none, next, leaf-most (meaning whole) (s .sound .state)) }
 
 -- the round has closed
 module _
-    {t : Tree} {k : Unseen} (balance residual : List ℕ) {start lengths : List ℕ} (c : Closed t k balance residual start lengths)
+    {t : Tree} {size : Bytes} {k : Unseen} (balance residual : List ℕ) {start lengths : List ℕ}
+    (c : Closed t size k balance residual start lengths)
     (active : ℕ) (is : active ≡ upward t (holdsSome t (k .held))) where
   abbrev shut : Link
-  shut = closedLink t k balance residual start lengths
+  shut = closedLink t size k balance residual start lengths
 
   taken : active ≡ roundActive (meaning shut)
   taken = is ∙ active-meaning shut (c .parts .sound .state .fits .tree)
@@ -80,8 +81,8 @@ module _
 
   -- no packet waits
   pub nothing-finds : has active 0 ≡ false
-      → Finds shut (record { class = 64; rounds = 0; active = active })
-      (λ on place. lentLink t (k .size) on place balance residual start (k .held) lengths (k .tags))
+      → Finds shut (record { class = 64; rounds = 0; active = active; size = size })
+      (λ after on place. lentLink t after on place balance residual start (k .held) lengths (k .tags))
   nothing-finds off = record { some = sym off ∙ root; place = 0; way = λ h. absurd (omega (arith, h)); none = λ h. refl }
 
   -- one does
@@ -89,16 +90,16 @@ module _
     waiting : someWaits (meaning shut) ≡ true
     waiting = sym root ∙ on
 
-    pub round-opens : Opens t k active balance residual start lengths
+    pub round-opens : Opens t size k active balance residual start lengths
     round-opens = record { shut = c; waits = waits-leaf (meaning shut) waiting; taken = taken }
 
     pub then-finds : (b r : List ℕ) (f : Found) → f .class < 64 → f .active ≡ active
-        → OnTheWay shut (f .class) (openLink t k active b r start lengths) (f .rounds)
-        → Finds shut f (λ x place. lentLink t (k .size) x place b r start (k .held) lengths (k .tags))
+        → OnTheWay shut (f .class) (openLink t (f .size) k active b r start lengths) (f .rounds)
+        → Finds shut f (λ after x place. lentLink t after x place b r start (k .held) lengths (k .tags))
     then-finds b r f here same way = record {
       some = lt-ltb (f .class) 64 here ∙ sym waiting;
       place = 1;
-      way = λ h. subst (λ (x : ℕ). OnTheWay shut (f .class) (openLink t k x b r start lengths) (f .rounds)) (sym same) way;
+      way = λ h. subst (λ (x : ℕ). OnTheWay shut (f .class) (openLink t (f .size) k x b r start lengths) (f .rounds)) (sym same) way;
       none = λ h. absurd (omega (arith, here, h));
     }
 
@@ -107,23 +108,23 @@ module _
     {t : Tree} {size : Bytes} {before from : ℕ} (balance residual : List ℕ) {start held lengths tags : List ℕ} (f : Found)
     (b r : List ℕ)
     (q : Finds (lentLink t size before from balance residual start held lengths tags) f
-    (λ active place. lentLink t size active place b r start held lengths tags)) where
+    (λ after active place. lentLink t after active place b r start held lengths tags)) where
   abbrev found-in : Link
   found-in = lentLink t size before from balance residual start held lengths tags
 
   -- its packet goes
   module _ (here : f .class < 64) where
     abbrev at-turn : Link
-    at-turn = lentLink t size (f .active) (q .place) b r start held lengths tags
+    at-turn = lentLink t (f .size) (f .active) (q .place) b r start held lengths tags
 
     its-turn : SendsNext at-turn (f .class)
     its-turn = way-found found-in (f .class) at-turn (f .rounds) (q .way here) (λ z. omega (arith, here, z))
 
-    pub then-goes : GoesNext t size (q .place) (f .class) (f .active) (t .count) (t .parent) b r start held lengths tags
+    pub then-goes : GoesNext t (f .size) (q .place) (f .class) (f .active) (t .count) (t .parent) b r start held lengths tags
     then-goes = record { many = refl; parents = refl; wide = q .way here .many; next = its-turn }
 
     pub then-departs : (gone : Gone) (after : Link) → gone .packet ≡ packetAt at-turn (f .class) 0 → after ≡ sentLink at-turn (f .class)
-        → Departs found-in (wentBy (f .class) (f .rounds) gone) after
+        → Departs found-in (wentBy (f .class) (f .rounds) (f .size) gone) after
     then-departs gone after packet link = record {
       some = sym (lt-ltb (f .class) 64 here) ∙ q .some;
       sent = way-ends found-in (f .class) at-turn (f .rounds) (gone .packet) after (q .way here) its-turn packet link;
@@ -131,7 +132,7 @@ module _
 
   -- nothing changes
   pub nothing-departs : 64 ≤ f .class
-      → Departs found-in (nothingGoes before from) (lentLink t size before from b r start held lengths tags)
+      → Departs found-in (nothingGoes size before from) (lentLink t size before from b r start held lengths tags)
   nothing-departs none = record {
     some = sym (le-ltb (f .class) 64 none) ∙ q .some;
     sent = ap (λ (l : Link). sentWhere false l) (q .none none);

@@ -26,9 +26,9 @@ use Rattle.steps.specs.Parts.{lentLink, booksOf, Grown, GoesNext}
 -- the link after, from the books and the queues after
 sent-by : (l : Link) (i : ℕ) (b : Books) (start held : List ℕ) → b ≡ booksAfter (meaning l) i
     → ((k : Link) → queued k start held (l .lengths) (l .tags) ≡ takenFirst (queued k (l .start) (l .held) (l .lengths) (l .tags)) i)
-    → queued (linkInRound l (b .active) i (b .accounts)) start held (l .lengths) (l .tags) ≡ sentLink l i
+    → queued (linkInRound l (l .size .0) (b .active) i (b .accounts)) start held (l .lengths) (l .tags) ≡ sentLink l i
 unfolding sentState
-sent-by l i b start held e q = q (linkInRound l (b .active) i (b .accounts)) ∙ rw e refl
+sent-by l i b start held e q = q (linkInRound l (l .size .0) (b .active) i (b .accounts)) ∙ rw e refl
 
 module _
     {t : Tree} {size : Bytes} {place i active count : ℕ} {parent balance residual start held lengths tags : List ℕ}

@@ -44,7 +44,7 @@ in-lists accounts many b r x y = ap₂ zipAccounts x y ∙ zip-parts accounts ma
 
 -- a tree taken apart and put together again is the same
 pub tree-parts : (t : Tree) → length (t .weight) ≡ 64 → (weight : List ℕ) → weight ≡ table (weightOf t) 64
-    → lentTree (t .count) (t .leaves) (t .parent) weight (t .longest) ≡ t
+    → lentTree (t .count) (t .leaves) (t .parent) weight (t .longest) (t .follows) ≡ t
 tree-parts t many weight is =
     ap (λ (ws : List Weight). record {
       count = t .count;
@@ -52,6 +52,7 @@ tree-parts t many weight is =
       parent = t .parent;
       weight = ws;
       longest = t .longest;
+      follows = t .follows;
     })
     (table-same (λ i. record { 0 = getD weight i 0 }) (λ i. getD (t .weight) i noWeight) 64
     (λ i u. ap (λ (n : ℕ). record { 0 = n }) (ap (λ (ns : List ℕ). getD ns i 0) is ∙ table-at (weightOf t) 0 64 i u))
@@ -76,7 +77,7 @@ module _
     pub values-wide : length (after .accounts) ≡ 64
     values-wide = departs-wide after (values-parts .wide) (values-parts .sound) d
 
-    pub values-moves : {xs : List Account} {s h : List ℕ} → after ≡ linkOf lent size (w .active) (w .place) xs s h lengths tags
+    pub values-moves : {xs : List Account} {s h : List ℕ} → after ≡ linkOf lent (w .size) (w .active) (w .place) xs s h lengths tags
         → Moves (linkOf t size active place accounts start held lengths tags)
         (record {
           some = w .some;
@@ -88,11 +89,12 @@ module _
           accounts = xs;
           start = s;
           held = h;
+          size = w .size;
         })
     values-moves {xs} {s} {h} e = record {
       some = d .some ∙ ap (λ (l : Link). someWaits (meaning l)) whole-is;
       sent =
           ap (λ (l : Link). record { class = w .class; packet = w .packet; rounds = w .rounds; link = l })
-          (sym (e ∙ ap (λ (x : Tree). linkOf x size (w .active) (w .place) xs s h lengths tags) same))
+          (sym (e ∙ ap (λ (x : Tree). linkOf x (w .size) (w .active) (w .place) xs s h lengths tags) same))
           ∙ d .sent ∙ ap (sentWhere (w .some)) whole-is;
     }

@@ -1,4 +1,5 @@
 -- The parts of a link that are lent: number arrays, accounts as two of them.
+use mathlib.Core.Bool.{Bool}
 use mathlib.Core.List.{List}
 use mathlib.Core.Path.{_≡_}
 use Prim.Native.Nat.{ℕ, _<_}
@@ -18,13 +19,14 @@ use Rattle.rules.specs.Steps.{SendsNext}
 use Rattle.opening.specs.Parts.{zipAccounts}
 
 -- the tree with these parts, its weights as bare numbers
-abbrev pub lentTree : ℕ → ℕ → List ℕ → List ℕ → List ℕ → Tree
-lentTree count leaves parent weight longest = record {
+abbrev pub lentTree : ℕ → ℕ → List ℕ → List ℕ → List ℕ → Bool → Tree
+lentTree count leaves parent weight longest follows = record {
   count = count;
   leaves = leaves;
   parent = parent;
   weight = table (λ i. record { 0 = getD weight i 0 }) 64;
   longest = longest;
+  follows = follows;
 }
 
 -- the link with these parts

@@ -31,46 +31,46 @@ pub record InParts (t : Tree) (size : Bytes) (active place : ℕ) (balance resid
 
 -- what an opening does not see of its link
 pub record Unseen : Type 0 where
-  pub size : Bytes
   pub active : ℕ
   pub place : ℕ
   pub held : List ℕ
   pub tags : List ℕ
 
 -- the link whose round has closed, and the one in which a round has opened
-abbrev pub closedLink : Tree → Unseen → List ℕ → List ℕ → List ℕ → List ℕ → Link
-closedLink t k balance residual start lengths =
-    lentLink t (k .size) (k .active) (k .place) balance residual start (k .held) lengths (k .tags)
+abbrev pub closedLink : Tree → Bytes → Unseen → List ℕ → List ℕ → List ℕ → List ℕ → Link
+closedLink t size k balance residual start lengths =
+    lentLink t size (k .active) (k .place) balance residual start (k .held) lengths (k .tags)
 
-abbrev pub openLink : Tree → Unseen → ℕ → List ℕ → List ℕ → List ℕ → List ℕ → Link
-openLink t k active balance residual start lengths = lentLink t (k .size) active 1 balance residual start (k .held) lengths (k .tags)
+abbrev pub openLink : Tree → Bytes → Unseen → ℕ → List ℕ → List ℕ → List ℕ → List ℕ → Link
+openLink t size k active balance residual start lengths = lentLink t size active 1 balance residual start (k .held) lengths (k .tags)
 
 -- its round has closed
-pub record Closed (t : Tree) (k : Unseen) (balance residual start lengths : List ℕ) : Type 0 where
-  pub parts : InParts t (k .size) (k .active) (k .place) balance residual start (k .held) lengths (k .tags)
-  pub closed : nextLeaf (meaning (closedLink t k balance residual start lengths)) ≡ 64
+pub record Closed (t : Tree) (size : Bytes) (k : Unseen) (balance residual start lengths : List ℕ) : Type 0 where
+  pub parts : InParts t size (k .active) (k .place) balance residual start (k .held) lengths (k .tags)
+  pub closed : nextLeaf (meaning (closedLink t size k balance residual start lengths)) ≡ 64
 
 -- and a packet waits, and these are active in the next
-pub record Opens (t : Tree) (k : Unseen) (active : ℕ) (balance residual start lengths : List ℕ) : Type 0 where
-  pub shut : Closed t k balance residual start lengths
-  pub waits : Waits (meaning (closedLink t k balance residual start lengths))
-  pub taken : active ≡ roundActive (meaning (closedLink t k balance residual start lengths))
+pub record Opens (t : Tree) (size : Bytes) (k : Unseen) (active : ℕ) (balance residual start lengths : List ℕ) : Type 0 where
+  pub shut : Closed t size k balance residual start lengths
+  pub waits : Waits (meaning (closedLink t size k balance residual start lengths))
+  pub taken : active ≡ roundActive (meaning (closedLink t size k balance residual start lengths))
 
 -- what is found on a link: where a packet waits the leaf that sends, on the way to its turn, and where none does 64 and the link as it was;
--- `turn` is the link after the rounds opened, with any active set and any place
-pub record Finds (l : Link) (r : Found) (turn : ℕ → ℕ → Link) : Type 0 where
+-- `turn` is the link after the rounds opened, with any size in force, any active set and any place
+pub record Finds (l : Link) (r : Found) (turn : Bytes → ℕ → ℕ → Link) : Type 0 where
   pub some : ltb (r .class) 64 ≡ someWaits (meaning l)
   pub place : ℕ
-  pub way : r .class < 64 → OnTheWay l (r .class) (turn (r .active) place) (r .rounds)
-  pub none : 64 ≤ r .class → turn (l .active) (l .place) ≡ l
+  pub way : r .class < 64 → OnTheWay l (r .class) (turn (r .size) (r .active) place) (r .rounds)
+  pub none : 64 ≤ r .class → turn (l .size) (l .active) (l .place) ≡ l
 
 -- a packet has gone, or none waits
-abbrev pub wentBy : ℕ → ℕ → Gone → Went
-wentBy class rounds gone =
-    record { some = true; class = class; packet = gone .packet; rounds = rounds; active = gone .active; place = class }
+abbrev pub wentBy : ℕ → ℕ → Bytes → Gone → Went
+wentBy class rounds size gone =
+    record { some = true; class = class; packet = gone .packet; rounds = rounds; active = gone .active; place = class; size = size }
 
-abbrev pub nothingGoes : ℕ → ℕ → Went
-nothingGoes active place = record { some = false; class = 0; packet = noPacket; rounds = 0; active = active; place = place }
+abbrev pub nothingGoes : Bytes → ℕ → ℕ → Went
+nothingGoes size active place =
+    record { some = false; class = 0; packet = noPacket; rounds = 0; active = active; place = place; size = size }
 
 -- what a send on a sound link gives, where a packet waits and where none does
 abbrev pub sentWhere : Bool → Link → Sent
@@ -83,7 +83,7 @@ pub record Departs (l : Link) (r : Went) (after : Link) : Type 0 where
 
 -- and by value
 abbrev pub movedLink : Link → Moved → Link
-movedLink l r = queued (linkInRound l (r .active) (r .place) (r .accounts)) (r .start) (r .held) (l .lengths) (l .tags)
+movedLink l r = queued (linkInRound l (r .size .0) (r .active) (r .place) (r .accounts)) (r .start) (r .held) (l .lengths) (l .tags)
 
 pub record Moves (l : Link) (r : Moved) : Type 0 where
   pub some : r .some ≡ someWaits (meaning l)

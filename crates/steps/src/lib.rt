@@ -22,7 +22,6 @@ ghost use Rattle.state.specs.State.{linkOf};
 ghost use Rattle.sound.specs.Sound.{SoundLink};
 ghost use Rattle.steps.specs.Rounds.{InParts, Kept, Finds, Departs, wentBy, nothingGoes, Moves};
 ghost use Rattle.steps.specs.Parts.{lentLink, lentTree};
-ghost use Rattle.units.specs.declared.Bytes.{Bytes};
 use leaf::Gone;
 use leaf::goes;
 use leaf::next_leaf;
@@ -32,9 +31,10 @@ use state::Account;
 use state::Link;
 use state::Packet;
 use tree::Tree;
+use units::Bytes;
 
 // What a send gives beside the arrays it changes: whether a packet goes, which and of which class, the rounds opened in the call, who is
-// active, the place.
+// active, the place, the size in force.
 pub struct Went {
     pub some: bool,
     pub class: usize,
@@ -42,11 +42,12 @@ pub struct Went {
     pub rounds: usize,
     pub active: u64,
     pub place: usize,
+    pub size: Bytes,
 }
 
 // A packet has gone.
-fn has_gone(class: usize, rounds: usize, gone: Gone) -> Went
-    ensures { λ r. ⌜ r ≡ wentBy class rounds gone ⌝ }
+fn has_gone(class: usize, rounds: usize, size: Bytes, gone: Gone) -> Went
+    ensures { λ r. ⌜ r ≡ wentBy class rounds size gone ⌝ }
 {
     let packet = gone.packet;
     Went {
@@ -56,12 +57,13 @@ fn has_gone(class: usize, rounds: usize, gone: Gone) -> Went
         rounds,
         active: gone.active,
         place: class,
+        size,
     }
 }
 
 // No packet waits: nothing changes.
-pub fn nothing(active: u64, place: usize) -> Went
-    ensures { λ r. ⌜ r ≡ nothingGoes active place ⌝ }
+pub fn nothing(size: Bytes, active: u64, place: usize) -> Went
+    ensures { λ r. ⌜ r ≡ nothingGoes size active place ⌝ }
 {
     Went {
         some: false,
@@ -70,6 +72,7 @@ pub fn nothing(active: u64, place: usize) -> Went
         rounds: 0,
         active,
         place,
+        size,
     }
 }
 
@@ -80,8 +83,10 @@ fn next_sender(
     parent: &[u8; 64],
     weight: &[u32; 64],
     longest: &[u16; 64],
+    follows: bool,
     known: u64,
     kept: &[u32; 64],
+    size: Bytes,
     before: u64,
     from: usize,
     balance: &mut [u64; 64],
@@ -90,16 +95,16 @@ fn next_sender(
     held: &[u8; 64],
     lengths: &[u16; 2048],
 ) -> Found
-    requires { ⌜ ((size : Bytes) × (tags : List ℕ)
-        × InParts (lentTree count leaves (now parent) (now weight) (now longest)) size before from
+    requires { ⌜ ((tags : List ℕ)
+        × InParts (lentTree count leaves (now parent) (now weight) (now longest) follows) size before from
         (now balance) (now residual) (now start) (now held) (now lengths) tags)
-        × Kept (lentTree count leaves (now parent) (now weight) (now longest)) known (now kept) ⌝ }
-    ensures { λ r. ⌜ ((size : Bytes) (tags : List ℕ)
-        → InParts (lentTree count leaves (now (parent .entry)) (now (weight .entry)) (now (longest .entry))) size before from
+        × Kept (lentTree count leaves (now parent) (now weight) (now longest) follows) known (now kept) ⌝ }
+    ensures { λ r. ⌜ ((tags : List ℕ)
+        → InParts (lentTree count leaves (now (parent .entry)) (now (weight .entry)) (now (longest .entry)) follows) size before from
         (now (balance .entry)) (now (residual .entry)) (now (start .entry)) (now (held .entry)) (now (lengths .entry)) tags
-        → Finds (lentLink (lentTree count leaves (now (parent .entry)) (now (weight .entry)) (now (longest .entry))) size before from
+        → Finds (lentLink (lentTree count leaves (now (parent .entry)) (now (weight .entry)) (now (longest .entry)) follows) size before from
         (now (balance .entry)) (now (residual .entry)) (now (start .entry)) (now (held .entry)) (now (lengths .entry)) tags) r
-        (λ active place. lentLink (lentTree count leaves (now (parent .entry)) (now (weight .entry)) (now (longest .entry))) size active
+        (λ after active place. lentLink (lentTree count leaves (now (parent .entry)) (now (weight .entry)) (now (longest .entry)) follows) after active
         place (now (balance .exit)) (now (residual .exit)) (now (start .entry)) (now (held .entry)) (now (lengths .entry)) tags)) ⌝ }
 {
     let i = next_leaf(sets::both(before, leaves), from, balance, start, lengths);
@@ -108,6 +113,7 @@ fn next_sender(
             class: i,
             rounds: 0,
             active: before,
+            size,
         };
     }
     reopened(
@@ -116,8 +122,10 @@ fn next_sender(
         parent,
         weight,
         longest,
+        follows,
         known,
         kept,
+        size,
         balance,
         residual,
         start,
@@ -133,8 +141,10 @@ pub fn send(
     parent: &[u8; 64],
     weight: &[u32; 64],
     longest: &[u16; 64],
+    follows: bool,
     known: u64,
     kept: &[u32; 64],
+    size: Bytes,
     before: u64,
     from: usize,
     balance: &mut [u64; 64],
@@ -144,16 +154,15 @@ pub fn send(
     lengths: &[u16; 2048],
     tags: &[u32; 2048],
 ) -> Went
-    requires { ⌜ ((size : Bytes) × InParts (lentTree count leaves (now parent) (now weight) (now longest)) size before from
-        (now balance) (now residual) (now start) (now held) (now lengths) (now tags))
-        × Kept (lentTree count leaves (now parent) (now weight) (now longest)) known (now kept) ⌝ }
-    ensures { λ r. ⌜ ((size : Bytes)
-        → InParts (lentTree count leaves (now (parent .entry)) (now (weight .entry)) (now (longest .entry))) size before from
-        (now (balance .entry)) (now (residual .entry)) (now (start .entry)) (now (held .entry)) (now (lengths .entry)) (now (tags .entry))
-        → Departs (lentLink (lentTree count leaves (now (parent .entry)) (now (weight .entry)) (now (longest .entry))) size before from
+    requires { ⌜ InParts (lentTree count leaves (now parent) (now weight) (now longest) follows) size before from
+        (now balance) (now residual) (now start) (now held) (now lengths) (now tags)
+        × Kept (lentTree count leaves (now parent) (now weight) (now longest) follows) known (now kept) ⌝ }
+    ensures { λ r. ⌜ Departs (lentLink (lentTree count leaves (now (parent .entry)) (now (weight .entry)) (now (longest .entry)) follows) size
+        before from
         (now (balance .entry)) (now (residual .entry)) (now (start .entry)) (now (held .entry)) (now (lengths .entry)) (now (tags .entry)))
-        r (lentLink (lentTree count leaves (now (parent .entry)) (now (weight .entry)) (now (longest .entry))) size (r .active) (r .place)
-        (now (balance .exit)) (now (residual .exit)) (now (start .exit)) (now (held .exit)) (now (lengths .entry)) (now (tags .entry)))) ⌝ }
+        r (lentLink (lentTree count leaves (now (parent .entry)) (now (weight .entry)) (now (longest .entry)) follows) (r .size) (r .active)
+        (r .place) (now (balance .exit)) (now (residual .exit)) (now (start .exit)) (now (held .exit)) (now (lengths .entry))
+        (now (tags .entry))) ⌝ }
 {
     let next = next_sender(
         count,
@@ -161,8 +170,10 @@ pub fn send(
         parent,
         weight,
         longest,
+        follows,
         known,
         kept,
+        size,
         before,
         from,
         balance,
@@ -172,7 +183,7 @@ pub fn send(
         lengths,
     );
     if Link::CLASSES <= next.class {
-        return nothing(before, from);
+        return nothing(size, before, from);
     }
     let gone = goes(
         next.class,
@@ -186,7 +197,7 @@ pub fn send(
         lengths,
         tags,
     );
-    has_gone(next.class, next.rounds, gone)
+    has_gone(next.class, next.rounds, next.size, gone)
 }
 
 // A send on the parts of a link that it changes, by value: the packet that goes, its class, the rounds opened in the call, and the parts
@@ -201,11 +212,13 @@ pub struct Moved {
     pub accounts: [Account; Link::CLASSES],
     pub start: [u8; Link::CLASSES],
     pub held: [u8; Link::CLASSES],
+    pub size: Bytes,
 }
 
 // A whole send on values: the tree and the accounts are taken apart and lent to the steps, the accounts put together again.
 pub fn send_values(
     tree: Tree,
+    size: Bytes,
     active: u64,
     place: usize,
     accounts: [Account; Link::CLASSES],
@@ -214,10 +227,8 @@ pub fn send_values(
     lengths: &[u16; 2048],
     tags: &[u32; 2048],
 ) -> Moved
-    requires { ⌜ ((size : Bytes) × SoundLink (linkOf tree size active place accounts start held (now lengths) (now tags))) ⌝ }
-    ensures { λ r. ⌜ ((size : Bytes)
-        → SoundLink (linkOf tree size active place accounts start held (now (lengths .entry)) (now (tags .entry)))
-        → Moves (linkOf tree size active place accounts start held (now (lengths .entry)) (now (tags .entry))) r) ⌝ }
+    requires { ⌜ SoundLink (linkOf tree size active place accounts start held (now lengths) (now tags)) ⌝ }
+    ensures { λ r. ⌜ Moves (linkOf tree size active place accounts start held (now (lengths .entry)) (now (tags .entry))) r ⌝ }
 {
     let parent = tree.parent;
     let weights = tree.weight;
@@ -234,8 +245,10 @@ pub fn send_values(
         &parent,
         &weight,
         &longest,
+        tree.follows,
         0,
         &none,
+        size,
         active,
         place,
         &mut balance,
@@ -247,6 +260,7 @@ pub fn send_values(
     );
     let after = zipped(&balance, &residual);
     let packet = went.packet;
+    let size_after = went.size;
     Moved {
         some: went.some,
         class: went.class,
@@ -257,5 +271,6 @@ pub fn send_values(
         accounts: after,
         start: first,
         held: many,
+        size: size_after,
     }
 }

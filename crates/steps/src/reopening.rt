@@ -13,13 +13,15 @@ use active::weights_of;
 use opening::open_round;
 use state::Link;
 use tree::Tree;
+use units::Bytes;
 use units::Weight;
 
-// The leaf that sends, the rounds opened for it and who is active at its turn; 64 where no packet waits.
+// The leaf that sends, the rounds opened for it, who is active at its turn and the size in force; 64 where no packet waits.
 pub struct Found {
     pub class: usize,
     pub rounds: usize,
     pub active: u64,
+    pub size: Bytes,
 }
 
 // Rounds are opened until a leaf sends; who is active, and so the weight sums, is the same in each.
@@ -27,23 +29,25 @@ fn open_until_sent(
     tree: Tree,
     active: u64,
     sums: [Weight; Link::CLASSES],
+    size: Bytes,
     balance: &mut [u64; 64],
     residual: &mut [u64; 64],
     start: &[u8; 64],
     lengths: &[u16; 2048],
 ) -> Found
-    requires { ⌜ ((k : Unseen) × Opens tree k active (now balance) (now residual) (now start) (now lengths))
+    requires { ⌜ ((k : Unseen) × Opens tree size k active (now balance) (now residual) (now start) (now lengths))
         × (sums ≡ weightSums tree active) ⌝ }
     ensures { λ r. ⌜ ((k : Unseen)
-        → Opens tree k active (now (balance .entry)) (now (residual .entry)) (now (start .entry)) (now (lengths .entry))
-        → OnTheWay (closedLink tree k (now (balance .entry)) (now (residual .entry)) (now (start .entry)) (now (lengths .entry))) (r .class)
-        (openLink tree k active (now (balance .exit)) (now (residual .exit)) (now (start .entry)) (now (lengths .entry))) (r .rounds)) ⌝ }
+        → Opens tree size k active (now (balance .entry)) (now (residual .entry)) (now (start .entry)) (now (lengths .entry))
+        → OnTheWay (closedLink tree size k (now (balance .entry)) (now (residual .entry)) (now (start .entry)) (now (lengths .entry))) (r .class)
+        (openLink tree (r .size) k active (now (balance .exit)) (now (residual .exit)) (now (start .entry)) (now (lengths .entry))) (r .rounds)) ⌝ }
     ensures { λ r. ⌜ (r .class < 64) × (r .active ≡ active) ⌝ }
 {
     let leaves = sets::both(active, tree.leaves);
     let mut rounds: usize = 0;
+    let mut in_force = size;
     loop {
-        open_round(tree, active, sums, balance, residual);
+        in_force = open_round(tree, active, sums, in_force, balance, residual);
         rounds += 1;
         let class = next_leaf(leaves, 1, balance, start, lengths);
         if class < Link::CLASSES {
@@ -51,6 +55,7 @@ fn open_until_sent(
                 class,
                 rounds,
                 active,
+                size: in_force,
             };
         }
     }
@@ -63,8 +68,10 @@ pub(crate) fn reopened(
     parent: &[u8; 64],
     weight: &[u32; 64],
     longest: &[u16; 64],
+    follows: bool,
     known: u64,
     kept: &[u32; 64],
+    size: Bytes,
     balance: &mut [u64; 64],
     residual: &mut [u64; 64],
     start: &[u8; 64],
@@ -72,14 +79,14 @@ pub(crate) fn reopened(
     lengths: &[u16; 2048],
 ) -> Found
     requires { ⌜ ((k : Unseen) × (k .held ≡ now held)
-        × Closed (lentTree count leaves (now parent) (now weight) (now longest)) k (now balance) (now residual) (now start) (now lengths))
-        × Kept (lentTree count leaves (now parent) (now weight) (now longest)) known (now kept) ⌝ }
+        × Closed (lentTree count leaves (now parent) (now weight) (now longest) follows) size k (now balance) (now residual) (now start) (now lengths))
+        × Kept (lentTree count leaves (now parent) (now weight) (now longest) follows) known (now kept) ⌝ }
     ensures { λ r. ⌜ ((k : Unseen) → k .held ≡ now (held .entry)
-        → Closed (lentTree count leaves (now (parent .entry)) (now (weight .entry)) (now (longest .entry))) k
+        → Closed (lentTree count leaves (now (parent .entry)) (now (weight .entry)) (now (longest .entry)) follows) size k
         (now (balance .entry)) (now (residual .entry)) (now (start .entry)) (now (lengths .entry))
-        → Finds (closedLink (lentTree count leaves (now (parent .entry)) (now (weight .entry)) (now (longest .entry))) k
+        → Finds (closedLink (lentTree count leaves (now (parent .entry)) (now (weight .entry)) (now (longest .entry)) follows) size k
         (now (balance .entry)) (now (residual .entry)) (now (start .entry)) (now (lengths .entry))) r
-        (λ active place. lentLink (lentTree count leaves (now (parent .entry)) (now (weight .entry)) (now (longest .entry))) (k .size)
+        (λ after active place. lentLink (lentTree count leaves (now (parent .entry)) (now (weight .entry)) (now (longest .entry)) follows) after
         active place (now (balance .exit)) (now (residual .exit)) (now (start .entry)) (k .held) (now (lengths .entry)) (k .tags))) ⌝ }
 {
     let p = *parent;
@@ -91,6 +98,7 @@ pub(crate) fn reopened(
         parent: p,
         weight: w,
         longest: g,
+        follows,
     };
     let active = round_active(tree, known, held);
     if !sets::has(active, 0) {
@@ -98,8 +106,9 @@ pub(crate) fn reopened(
             class: Link::CLASSES,
             rounds: 0,
             active,
+            size,
         };
     }
     let sums = sums_of(tree, active, known, kept);
-    open_until_sent(tree, active, sums, balance, residual, start, lengths)
+    open_until_sent(tree, active, sums, size, balance, residual, start, lengths)
 }

@@ -14,7 +14,7 @@ use Rattle.sets.proofs.Laws.{has-with-same, has-with-other, has-empty, with-fit
 use Rattle.units.specs.declared.Weight.{Weight}
 use Rattle.tree.specs.declared.Tree.{Tree}
 use Rattle.tree.specs.declared.Class.{Class}
-use Rattle.tree.specs.Class.{noTree, noWeight, added, parentOf, weightOf, longestOf, isClass, isLeaf}
+use Rattle.tree.specs.Class.{noTree, noWeight, ruled, added, parentOf, weightOf, longestOf, isClass, isLeaf}
 use Rattle.tree.specs.Rules.{badParent, badWeight, badLongest, ClassesPass, UnsetIsZero, AllUnsetZero}
 use Rattle.tree.proofs.Classes.{neither-true, class-in, class-range, class-past}
 
@@ -77,10 +77,10 @@ class-grows t c i e = go (isClass t i) refl
         absurd (not-true-and-false (class-in (added t c) i (r .0) (omega (arith, r .1))) e)
     go false h = h
 
--- the tree without classes has nothing set
-pub none-grown : Grown noTree
+-- the tree without classes has nothing set, under either rule
+pub none-grown : (follows : Bool) → Grown (ruled noTree follows)
 unfolding isLeaf
-none-grown = record {
+none-grown follows = record {
   parents = length-replicate {A = ℕ} 64 0;
   weights = length-replicate 64 noWeight;
   longests = length-replicate {A = ℕ} 64 0;
@@ -165,9 +165,12 @@ classes-kept t c p a b d = record {
             let e : i ≡ t .count + 1 = omega (arith, class-range (added t c) i is .1) in
             rw e new
 
-pub none-pass : ClassesPass noTree
-none-pass = record {
-  parents = λ i is. absurd (omega (arith, class-range noTree i is .0, class-range noTree i is .1));
-  weights = λ i is. absurd (omega (arith, class-range noTree i is .0, class-range noTree i is .1));
-  longests = λ i is. absurd (omega (arith, class-range noTree i is .0, class-range noTree i is .1));
+pub none-pass : (follows : Bool) → ClassesPass (ruled noTree follows)
+none-pass follows = record {
+  parents = λ i is. absurd (none i is);
+  weights = λ i is. absurd (none i is);
+  longests = λ i is. absurd (none i is);
 }
+  where
+    none : (i : ℕ) → isClass (ruled noTree follows) i ≡ true → ⊥
+    none i is = let r = class-range (ruled noTree follows) i is in omega (arith, r .0, r .1)

@@ -1,5 +1,5 @@
 -- The classes of a tree (R21 to R24): class 0 is the root, the others are numbered 1, 2, .. in plan order. Demands 1 to 3.
-use mathlib.Core.Bool.{Bool, cond, _&&_, not}
+use mathlib.Core.Bool.{Bool, false, cond, _&&_, not}
 use Prim.Native.Nat.{ℕ, _+_}
 use lib.Dec.{eqb, leb}
 use lib.ListN.{getD, set, replicate}
@@ -50,7 +50,7 @@ childrenWeight t p = sumTo (childWeight t p) (t .count)
 unfoldable pub hasChild : Tree → ℕ → Bool
 hasChild t p = someTo (isChild t p) (t .count)
 
--- the tree without classes: all its numbers are 0 (R35, R62)
+-- the tree without classes: all its numbers are 0, and its rule is 1 (R35, R62, R226)
 abbrev pub noTree : Tree
 noTree = record {
   count = 0;
@@ -58,9 +58,21 @@ noTree = record {
   parent = replicate 64 0;
   weight = replicate 64 noWeight;
   longest = replicate 64 0;
+  follows = false;
 }
 
--- the tree with one class more, whose number follows the last (R22, R35)
+-- the tree with this rule: rule 2, the round size follows who is active, or rule 1, it is the whole tree's (R222)
+abbrev pub ruled : Tree → Bool → Tree
+ruled t follows = record {
+  count = t .count;
+  leaves = t .leaves;
+  parent = t .parent;
+  weight = t .weight;
+  longest = t .longest;
+  follows = follows;
+}
+
+-- the tree with one class more, whose number follows the last; its rule stays (R22, R35, R226)
 abbrev pub added : Tree → Class → Tree
 added t c = record {
   count = t .count + 1;
@@ -68,4 +80,5 @@ added t c = record {
   parent = set (t .parent) (t .count + 1) (c .parent);
   weight = set (t .weight) (t .count + 1) (c .weight);
   longest = set (t .longest) (t .count + 1) (c .longest);
+  follows = t .follows;
 }

@@ -1,6 +1,7 @@
--- The round size Q (R38, R39). Demands 2 and 3.
-use mathlib.Core.Bool.{cond}
-use Prim.Native.Nat.{ℕ, _+_, _*_}
+-- The round size Q of the whole tree (R38, R39), and which sizes may be in force (R232). Demands 2 and 3.
+use mathlib.Core.Bool.{false, cond}
+use mathlib.Core.Path.{_≡_}
+use Prim.Native.Nat.{ℕ, _+_, _*_, _≤_}
 use Rattle.units.specs.Unit.{sizeOf}
 use Rattle.units.specs.Cost.{costOf, mostCost}
 use Rattle.tree.specs.declared.Tree.{Tree}
@@ -22,6 +23,11 @@ allLongest t = sumTo (longestCost t) (t .count)
 -- Q: the sum of all weights plus the sum of what all leaves' longest packets cost (R38)
 unfoldable pub roundSize : Tree → ℕ
 roundSize t = sizeOf (allWeights t) (allLongest t)
+
+-- a size that may be in force: never above the whole tree's, and under rule 1 the whole tree's (R232)
+pub record SizeRight (t : Tree) (size : ℕ) : Type 0 where
+  pub most : size ≤ roundSize t
+  pub whole : t .follows ≡ false → size ≡ roundSize t
 
 -- Q is at most 63,582,120: 63 classes of the heaviest weight, each a leaf of the longest packet (R39)
 abbrev pub mostSize : ℕ

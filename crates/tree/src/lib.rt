@@ -22,6 +22,8 @@ pub struct Tree {
     pub parent: [u8; Tree::CLASSES],
     pub weight: [Weight; Tree::CLASSES],
     pub longest: [u16; Tree::CLASSES],
+    // Rule 2, the round size follows who is active; else rule 1, the whole tree's size.
+    pub follows: bool,
 }
 
 // One class record of a plan; an inner class has no longest packet.
@@ -52,6 +54,7 @@ impl Tree {
             parent,
             weight,
             longest,
+            follows: false,
         }
     }
 

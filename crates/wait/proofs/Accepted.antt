@@ -14,7 +14,7 @@ use Rattle.units.specs.Cost.{mostCost}
 use Rattle.units.proofs.Laws.{cost-ceiling}
 use Rattle.tree.specs.Class.{weightOf, isLeaf}
 use Rattle.tree.proofs.Rules.{weight-range, longest-range, size-ceiling}
-use Rattle.tree.specs.Size.{mostSize}
+use Rattle.tree.specs.Size.{roundSize, mostSize}
 use Rattle.state.specs.declared.Packet.{Packet}
 use Rattle.state.specs.Account.{balanceOf}
 use Rattle.state.specs.Queue.{noPacket, bytesIn}
@@ -32,7 +32,7 @@ use Rattle.wait.proofs.RoundedUp.{up-grows, up-most}
 -- the bound of any leaf of a sound state fits a 64-bit number: at most 32 packets of at most 9,240 charged bytes wait there, and Q is at
 -- most 63,582,120
 leaf-bound-small : (s : State) (i : ℕ) → Sound s → i < 64 → isLeaf (s .tree) i ≡ true
-    → bound (bytesIn (queueAt s i)) (weightOf (s .tree) i) (s .size) < 2 ^ 64
+    → bound (bytesIn (queueAt s i)) (weightOf (s .tree) i) (roundSize (s .tree)) < 2 ^ 64
 leaf-bound-small s i sound u leaf =
     let rules = sound .fits .tree in
     let is = leaf-class (s .tree) i rules u leaf in
@@ -43,7 +43,7 @@ leaf-bound-small s i sound u leaf =
     bytes-most (queueAt s i) mostCost
     (λ j v. cost-ceiling (getD (queueAt s i) j noPacket .length) (omega (arith, longest, sound .holds i u .range leaf j v .high)))
     in
-    let size : s .size ≤ mostSize = omega (arith, sound .fits .size, size-ceiling (s .tree) rules) in
+    let size = size-ceiling (s .tree) rules in
     let over : overRoundedUp (bytesIn (queueAt s i)) w + 1 ≤ 32 * mostCost + 1_000_001 =
     omega (arith, up-most (bytesIn (queueAt s i)) w, weight, each, sound .holds i u .few leaf) in
     omega (arith, mul-le-mul over size)
@@ -74,7 +74,7 @@ module _ (s : State) (i : ℕ) (p : Packet) (sound : Sound s) (wide : Wide s) (u
 
   -- and the number that falls starts within the bound
   pub starts-within : falling (arrived s i p) i (length (queueAt s i)) ≤ bound (bytesIn (queueAt (arrived s i p) i)) (weightOf (s .tree) i)
-      (s .size)
+      (roundSize (s .tree))
   unfolding falling mains lacking
   starts-within =
       let d = bytesIn (queueAt (arrived s i p) i) in
@@ -84,11 +84,11 @@ module _ (s : State) (i : ℕ) (p : Packet) (sound : Sound s) (wide : Wide s) (u
       omega (
         arith,
         credit-most (arrived s i p) after,
-        mul-le-mul-left (s .size) less,
-        mul-comm (s .size) (overRoundedUp d w),
-        add-mul (overRoundedUp d w) 1 (s .size),
+        mul-le-mul-left (roundSize (s .tree)) less,
+        mul-comm (roundSize (s .tree)) (overRoundedUp d w),
+        add-mul (overRoundedUp d w) 1 (roundSize (s .tree)),
       )
 
   -- the bound is a number of the link: it fits 64 bits
-  pub fits-64 : bound (bytesIn (queueAt (arrived s i p) i)) (weightOf (s .tree) i) (s .size) < 2 ^ 64
+  pub fits-64 : bound (bytesIn (queueAt (arrived s i p) i)) (weightOf (s .tree) i) (roundSize (s .tree)) < 2 ^ 64
   fits-64 = leaf-bound-small (arrived s i p) i after u (taken true s i p accepted .leaf)

@@ -10,7 +10,6 @@ use Prim.Native.Nat.{ℕ, _^_, _≤_, _<_}
 use native.Mathlib.Omega.{arith}
 use Rattle.checks.specs.declared.Verdict.the-variants.{Passed}
 use Rattle.checks.specs.Check.{firstBroken}
-use Rattle.tree.specs.Class.{weightOf}
 use Rattle.state.specs.declared.Link.{Link}
 use Rattle.state.specs.declared.Packet.{Packet}
 use Rattle.state.specs.Queue.{heldOf, queueOf, bytesIn}
@@ -24,7 +23,7 @@ use Rattle.calls.specs.Arrival.{arrivalChecks, arrived, Arrives}
 use Rattle.calls.specs.Run.{Made, Run}
 use Rattle.calls.proofs.Arrivals.{taken-number, arrives-as, arrival-verdict, accepted-sound}
 use Rattle.calls.proofs.Runs.{left-taken}
-use Rattle.wait.specs.Wait.{followed, sendsIn, bound}
+use Rattle.wait.specs.Wait.{followed, sendsIn, boundOf}
 use Rattle.wait.proofs.Credit.{Holds, falling}
 use Rattle.wait.proofs.InOrder.{packetBehind, accepted-last}
 use Rattle.wait.proofs.AnyRun.{Within, run-keeps}
@@ -58,7 +57,7 @@ module _ (l : Link) (i : ℕ) (p : Packet) (a : AfterArrival) (arrives : Arrives
   holds : Holds (meaning (a .link)) i (heldOf l i)
   holds = rw (means, ← meaning-held l i low) (accepted-holds (meaning l) i p (sound .state) wide low passes)
 
-  within-bound : falling (meaning (a .link)) i (heldOf l i) ≤ bound (bytesIn (queueOf (a .link) i)) (weightOf (l .tree) i) (l .size .0)
+  within-bound : falling (meaning (a .link)) i (heldOf l i) ≤ boundOf l i (bytesIn (queueOf (a .link) i))
   within-bound = rw (means, ← meaning-held l i low, ← waiting) (starts-within (meaning l) i p (sound .state) wide low passes)
 
   within : (run : List Made) → Run (a .link) run
@@ -71,12 +70,12 @@ module _ (l : Link) (i : ℕ) (p : Packet) (a : AfterArrival) (arrives : Arrives
   -- from its acceptance, with D bytes then in its class's queue and a class of weight w, the whole link sends at most
   -- (D / w rounded up, plus 1) times Q bytes until it has gone, in whatever order later arrivals and sends come
   pub bounded-wait : (run : List Made) → Run (a .link) run
-      → followed i (heldOf l i) run .sent ≤ bound (bytesIn (queueOf (a .link) i)) (weightOf (l .tree) i) (l .size .0)
+      → followed i (heldOf l i) run .sent ≤ boundOf l i (bytesIn (queueOf (a .link) i))
   bounded-wait run is = omega (arith, within run is .sent, within-bound)
 
   -- it goes: after as many sends it has gone
   pub it-goes : (run : List Made) → Run (a .link) run
-      → bound (bytesIn (queueOf (a .link) i)) (weightOf (l .tree) i) (l .size .0) ≤ sendsIn run
+      → boundOf l i (bytesIn (queueOf (a .link) i)) ≤ sendsIn run
       → followed i (heldOf l i) run .gone ≡ true
   it-goes run is many = go (followed i (heldOf l i) run .gone) refl
     where
@@ -90,5 +89,5 @@ module _ (l : Link) (i : ℕ) (p : Packet) (a : AfterArrival) (arrives : Arrives
   it-is-this run is = within run is .this
 
   -- the bound fits 64 bits
-  pub bound-small : bound (bytesIn (queueOf (a .link) i)) (weightOf (l .tree) i) (l .size .0) < 2 ^ 64
+  pub bound-small : boundOf l i (bytesIn (queueOf (a .link) i)) < 2 ^ 64
   bound-small = rw (← waiting) (fits-64 (meaning l) i p (sound .state) wide low passes)

@@ -53,7 +53,7 @@ mains s i k = overRoundedUp (lacking s i k) (weightOf (s .tree) i)
 
 -- the number that falls
 unfoldable pub falling : State → ℕ → ℕ → ℕ
-falling s i k = credit s + s .size * mains s i k
+falling s i k = credit s + roundSize (s .tree) * mains s i k
 
 -- ---- what the classes other than the root hold
 
@@ -62,9 +62,9 @@ pub credit-rest : (s : State) → total (s .accounts) ≡ fundsOf (accountOf (s 
 unfolding total credit
 credit-rest s = refl
 
--- so they hold no more than Q
-pub credit-most : (s : State) → Sound s → credit s ≤ s .size
-credit-most s sound = omega (arith, credit-rest s, sound .adds .adds)
+-- so they hold no more than the size in force, which is at most Q
+pub credit-most : (s : State) → Sound s → credit s ≤ roundSize (s .tree)
+credit-most s sound = omega (arith, credit-rest s, sound .adds .adds, sound .fits .size .most)
 
 -- and what the root gains they lose
 pub credit-change : (s t : State) (c : ℕ) → total (t .accounts) ≡ total (s .accounts)
@@ -100,11 +100,11 @@ module _ (s : State) (i k : ℕ) (h : Holds s i k) where
   first-costs = cost-positive (firstOf s i .length) (h .sound .holds i (h .low) .range (h .leaf) 0 (omega (arith, h .behind)) .low)
 
   -- Q is not 0
-  size-some : 1 ≤ s .size
+  size-some : 1 ≤ roundSize (s .tree)
   unfolding roundSize allWeights
   size-some =
       let r = class-range (s .tree) i holds-class in
-      omega (arith, h .sound .fits .size, holds-weight, sum-part (weightOf (s .tree)) (s .tree .count) i (r .0) (r .1))
+      omega (arith, holds-weight, sum-part (weightOf (s .tree)) (s .tree .count) i (r .0) (r .1))
 
   -- while the packet waits the number is not 0
   pub falling-some : 1 ≤ falling s i k
@@ -118,7 +118,7 @@ module _ (s : State) (i k : ℕ) (h : Holds s i k) where
       bytes = omega (arith, first-costs, first-part s i k (h .behind))
 
       go : Dec (bytesUpTo s i k ≤ balanceOf (s .accounts) i)
-          → 1 ≤ credit s + s .size * overRoundedUp (bytesUpTo s i k - balanceOf (s .accounts) i) (weightOf (s .tree) i)
+          → 1 ≤ credit s + roundSize (s .tree) * overRoundedUp (bytesUpTo s i k - balanceOf (s .accounts) i) (weightOf (s .tree) i)
       go (yes covers) = omega (arith, part, bytes)
       go (no covers) =
           let more = up-some (bytesUpTo s i k - balanceOf (s .accounts) i) (weightOf (s .tree) i) holds-weight (omega arith) in

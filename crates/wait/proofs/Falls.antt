@@ -1,7 +1,7 @@
 -- One step while a packet waits: what is sent and the number that falls are together no more than the number was. Demand 3.
 use mathlib.Core.Bool.{Bool, true, false}
 use mathlib.Core.List.{List}
-use mathlib.Core.Path.{_≡_, refl, ap, ap₂}
+use mathlib.Core.Path.{_≡_, refl, sym, ap, ap₂, _∙_}
 use Prim.Native.Nat.{ℕ, suc, _+_, _-_, _≤_}
 use native.Mathlib.Nat.{mul-suc, mul-le-mul, mul-le-mul-left}
 use native.Mathlib.Omega.{arith}
@@ -10,6 +10,7 @@ use borrow.Author.Tests.{lt-leb}
 use Rattle.sets.specs.Set.{has}
 use Rattle.units.specs.Cost.{costOf}
 use Rattle.tree.specs.Class.{weightOf}
+use Rattle.tree.specs.Size.{roundSize}
 use Rattle.tree.proofs.Classes.{class-range}
 use Rattle.state.specs.declared.Account.{Account}
 use Rattle.state.specs.declared.Packet.{Packet}
@@ -18,11 +19,12 @@ use Rattle.state.specs.Queue.{bytesIn}
 use Rattle.state.specs.State.{State, queueAt}
 use Rattle.state.proofs.Bytes.{bytes-without}
 use Rattle.rules.specs.Active.{roundActive}
-use Rattle.rules.specs.Opening.{Kind, main, surplus, nextKind, opened}
+use Rattle.rules.specs.Opening.{Kind, main, surplus, nextKind, openedWith, Resizes, Covers}
 use Rattle.rules.specs.Sending.{firstOf, nextLeaf, booksAfter, sentState}
 use Rattle.rules.proofs.Closing.{closed-short}
 use Rattle.rules.proofs.Gains.{main-gains}
 use Rattle.rules.proofs.Opened.{opened-leaf, opened-root-stays, opened-sound, opened-total, opened-wide}
+use Rattle.rules.proofs.Resized.{never-below}
 use Rattle.rules.proofs.Sender.{Sender}
 use Rattle.rules.proofs.Sent.{sent-queue, sent-other, wide-after, sound-after}
 use Rattle.rules.proofs.SentBooks.{paid-leaf, books-total, sent-books}
@@ -47,26 +49,29 @@ use Rattle.wait.proofs.RootGains.{books-root}
 use Rattle.wait.proofs.RoundedUp.{up-grows, up-falls}
 
 -- where no more main rounds may be needed than before, the number falls as the credit does
-credit-falls : (s t : State) (i j k c : ℕ) → t .size ≡ s .size → mains t i j ≤ mains s i k → credit t + c ≤ credit s
+credit-falls : (s t : State) (i j k c : ℕ) → t .tree ≡ s .tree → mains t i j ≤ mains s i k → credit t + c ≤ credit s
     → falling t i j + c ≤ falling s i k
 unfolding falling
-credit-falls s t i j k c size less fall =
-    let same : t .size ≤ s .size = omega (arith, size) in
+credit-falls s t i j k c tree less fall =
+    let same : roundSize (t .tree) ≤ roundSize (s .tree) = omega (arith, ap roundSize tree) in
     omega (arith, fall, mul-le-mul same less)
 
--- ---- a round opens
+-- ---- a round opens, with any size that it may open with
 
-module _ (s : State) (i k : ℕ) (h : Holds s i k) (closed : nextLeaf s ≡ 64) where
+module _ (s : State) (i k : ℕ) (h : Holds s i k) (closed : nextLeaf s ≡ 64) (size : ℕ) (fit : Resizes s size) where
   -- the class is active in the new round
   taken-in : has (roundActive s) i ≡ true
   taken-in = waits-taken s (h .sound .fits .tree) i (holds-class s i k h) (h .leaf) (omega (arith, h .behind))
 
+  covers : Covers s size
+  covers = never-below s size (h .sound) (h .wide) fit closed
+
   -- the packet still waits
-  pub opened-holds : Holds (opened s) i k
-  unfolding opened
+  pub opened-holds : Holds (openedWith size s) i k
+  unfolding openedWith
   opened-holds = record {
-    sound = opened-sound s (h .sound) (h .wide);
-    wide = opened-wide s (h .sound) (h .wide);
+    sound = opened-sound s size (h .sound) (h .wide) fit covers;
+    wide = opened-wide s size (h .sound) (h .wide);
     low = h .low;
     leaf = h .leaf;
     behind = h .behind;
@@ -91,35 +96,36 @@ module _ (s : State) (i k : ℕ) (h : Holds s i k) (closed : nextLeaf s ≡ 64) 
           )
 
   -- a surplus round: the credit is as it was, and the class's balance no smaller
-  surplus-falls : nextKind s ≡ surplus → falling (opened s) i k ≤ falling s i k
-  unfolding opened mains lacking bytesUpTo
+  surplus-falls : nextKind s ≡ surplus → falling (openedWith size s) i k ≤ falling s i k
+  unfolding openedWith mains lacking bytesUpTo
   surplus-falls kind =
-      let gain = opened-leaf s (h .sound) (h .wide) i (holds-class s i k h) (h .leaf) taken-in .1 in
-      let root = ap fundsOf (opened-root-stays s (h .sound) (h .wide) kind) in
-      let fall = credit-change s (opened s) 0 (opened-total s (h .sound) (h .wide)) (omega (arith, root)) in
+      let gain = opened-leaf s size (h .sound) (h .wide) i (holds-class s i k h) (h .leaf) taken-in .1 in
+      let root = ap fundsOf (opened-root-stays s size (h .sound) (h .wide) kind) in
+      let same = opened-total s size (h .sound) (h .wide) fit covers ∙ fit .kept kind ∙ sym (h .sound .adds .adds) in
+      let fall = credit-change s (openedWith size s) 0 same (omega (arith, root)) in
       let less =
-      up-grows (bytesIn (take (suc k) (queueAt s i)) - balanceOf (opened s .accounts) i)
+      up-grows (bytesIn (take (suc k) (queueAt s i)) - balanceOf (openedWith size s .accounts) i)
       (bytesIn (take (suc k) (queueAt s i)) - balanceOf (s .accounts) i)
       (weightOf (s .tree) i) (holds-weight s i k h) (omega (arith, gain))
       in
-      omega (arith, credit-falls s (opened s) i k k 0 refl less fall)
+      omega (arith, credit-falls s (openedWith size s) i k k 0 refl less fall)
 
   -- a main round: the class gains at least its weight, so one main round less may be needed, while the credit grows to at most Q
-  main-falls : nextKind s ≡ main → falling (opened s) i k ≤ falling s i k
-  unfolding opened mains lacking bytesUpTo falling
+  main-falls : nextKind s ≡ main → falling (openedWith size s) i k ≤ falling s i k
+  unfolding openedWith mains lacking bytesUpTo falling
   main-falls kind =
-      let a = bytesIn (take (suc k) (queueAt s i)) - balanceOf (opened s .accounts) i in
+      let a = bytesIn (take (suc k) (queueAt s i)) - balanceOf (openedWith size s .accounts) i in
       let b = bytesIn (take (suc k) (queueAt s i)) - balanceOf (s .accounts) i in
       let w = weightOf (s .tree) i in
-      let gain = main-gains s (h .sound) (h .wide) closed kind i (holds-class s i k h) (h .leaf) taken-in in
+      let gain = main-gains s size (h .sound) (h .wide) fit closed kind i (holds-class s i k h) (h .leaf) taken-in in
       let less = up-falls a b w (holds-weight s i k h) closed-lacking (omega (arith, gain)) in
-      let most = credit-most (opened s) (opened-sound s (h .sound) (h .wide)) in
-      omega (arith, most, mul-suc (s .size) (overRoundedUp a w), mul-le-mul-left (s .size) less)
+      let most = credit-most (openedWith size s) (opened-sound s size (h .sound) (h .wide) fit covers) in
+      omega (arith, most, mul-suc (roundSize (s .tree)) (overRoundedUp a w), mul-le-mul-left (roundSize (s .tree)) less)
 
-  pub opened-falls : falling (opened s) i k ≤ falling s i k
+  pub opened-falls : falling (openedWith size s) i k ≤ falling s i k
   opened-falls = go (nextKind s) refl
     where
-      go : (x : Kind) → nextKind s ≡ x → falling (opened s) i k ≤ falling s i k
+      go : (x : Kind) → nextKind s ≡ x → falling (openedWith size s) i k ≤ falling s i k
       go main e = main-falls e
       go surplus e = surplus-falls e
 

@@ -16,6 +16,7 @@ use Rattle.checks.proofs.Laws.{refused-or-passed}
 use Rattle.units.specs.Cost.{costOf}
 use Rattle.units.proofs.Laws.{cost-positive}
 use Rattle.tree.specs.Class.{weightOf}
+use Rattle.tree.specs.Size.{roundSize}
 use Rattle.tree.proofs.Classes.{class-range}
 use Rattle.tree.proofs.Sums.{some-found}
 use Rattle.state.specs.declared.Link.{Link}
@@ -25,9 +26,10 @@ use Rattle.state.specs.Queue.{bytesIn}
 use Rattle.state.specs.State.{State, meaning, queueAt}
 use Rattle.sound.specs.Sound.{SoundLink}
 use Rattle.rules.specs.Active.{waits, someWaits}
-use Rattle.rules.specs.Opening.{opened}
+use Rattle.rules.specs.Opening.{nextSize, opened}
 use Rattle.rules.specs.Sending.{firstOf, nextLeaf, sentState, Turn, Trace, turnOf, sends, traceOf}
-use Rattle.rules.proofs.Rounds.{leaf-most, main-sends, next-main, opened-waits, sends-now, sends-closed}
+use Rattle.rules.proofs.Resized.{next-resizes}
+use Rattle.rules.proofs.Rounds.{leaf-most, second-sends, sends-now, sends-closed}
 use Rattle.rules.proofs.Sender.{Sender, next-sender}
 use Rattle.calls.specs.declared.AfterArrival.{AfterArrival}
 use Rattle.calls.specs.Arrival.{arrivalChecks, arrived, Arrives}
@@ -73,7 +75,7 @@ module _ (s : State) (i k j : ℕ) (p : Packet) (h : Holds s i k) (u : j < 64) w
   arrived-same : falling (arrived s j p) i k ≡ falling s i k
   unfolding falling credit mains lacking bytesUpTo
   arrived-same =
-      ap (λ (q : List Packet). credit s + s .size * overRoundedUp (bytesIn q - balanceOf (s .accounts) i) (weightOf (s .tree) i))
+      ap (λ (q : List Packet). credit s + roundSize (s .tree) * overRoundedUp (bytesIn q - balanceOf (s .accounts) i) (weightOf (s .tree) i))
       arrived-upto
 
 -- what an arrival leaves
@@ -144,10 +146,14 @@ now-falls s i k turns h found = record {
     self : i ≡ nextLeaf s → Sender s i
     self e = subst (Sender s) (sym e) is
 
+-- the packet still waits when a round has opened
+next-holds : (s : State) (i k : ℕ) → Holds s i k → nextLeaf s ≡ 64 → Holds (opened s) i k
+next-holds s i k h closed = opened-holds s i k h closed (nextSize s) (next-resizes s (h .sound))
+
 -- a round that opens first changes none of this
 opened-first : (s : State) (i k : ℕ) (t : Trace) → Holds s i k → nextLeaf s ≡ 64 → SendFalls (opened s) i k t → SendFalls s i k t
 opened-first s i k t h closed f =
-    let fall = opened-falls s i k h closed in
+    let fall = opened-falls s i k h closed (nextSize s) (next-resizes s (h .sound)) in
     record {
       costs = f .costs;
       other-holds = f .other-holds;
@@ -175,13 +181,13 @@ send-falls s i k h = first (decLt (nextLeaf s) 64)
     second closed g (yes found) = sends-fall-opened 63 [] s i k h closed (sends-fall 63 (turnOf s ∷ []) (opened s) i k g found)
     second closed g (no none) =
         let again : nextLeaf (opened s) ≡ 64 = omega (arith, leaf-most (opened s) (g .sound)) in
-        let found = main-sends (opened s) (g .sound) (g .wide) (opened-waits s (holds-some s i k h)) (next-main s (h .sound) (h .wide)) in
+        let found = second-sends s (h .sound) (h .wide) (holds-some s i k h) closed again in
         sends-fall-opened 63 [] s i k h closed
         (sends-fall-opened 62 (turnOf s ∷ []) (opened s) i k g again
-        (sends-fall 62 (turnOf s ∷ turnOf (opened s) ∷ []) (opened (opened s)) i k (opened-holds (opened s) i k g again) found))
+        (sends-fall 62 (turnOf s ∷ turnOf (opened s) ∷ []) (opened (opened s)) i k (next-holds (opened s) i k g again) found))
 
     first : Dec (nextLeaf s < 64) → SendFalls s i k (sends 64 [] s)
     first (yes found) = sends-fall 64 [] s i k h found
     first (no none) =
         let closed : nextLeaf s ≡ 64 = omega (arith, leaf-most s (h .sound)) in
-        second closed (opened-holds s i k h closed) (decLt (nextLeaf (opened s)) 64)
+        second closed (next-holds s i k h closed) (decLt (nextLeaf (opened s)) 64)

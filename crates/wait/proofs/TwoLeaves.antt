@@ -16,6 +16,7 @@ use Rattle.tree.specs.Class.{noTree, added, isClass, isLeaf, isInner, isChild, 
 use Rattle.tree.specs.Rules.{tooMany, badParent, badWeight, badLongest, tooHeavy, childless, noClass, closingChecks, ClassesPass, PlanRules}
 use Rattle.tree.specs.Sum.{sumTo, someTo}
 use Rattle.tree.specs.Size.{roundSize, allWeights, allLongest, longestCost}
+use Rattle.rules.specs.Sizes.{mainSize}
 use Rattle.tree.proofs.Growth.{Grown, none-grown, added-grown, none-pass, classes-kept}
 use Rattle.tree.proofs.AfterEnd.{closing-yes}
 use Rattle.state.specs.declared.Link.{Link}
@@ -25,7 +26,7 @@ use Rattle.state.specs.State.{State, meaning, freshLink}
 use Rattle.tree.specs.Below.{climbs, atOrBelow}
 use Rattle.rules.specs.Active.{waits, someWaits, someBelow, setOf, upward, roundActive, activeChild, activeWeight, weightSum}
 use Rattle.rules.specs.Opening.{surplusAt, hasSurplus, kindOf, quotaIn, quota, due, handsDown, openedLeaf, openedInner, openedAccount}
-use Rattle.rules.specs.Opening.{openedAccounts, nextKind, opened}
+use Rattle.rules.specs.Opening.{openedAccounts, nextKind, nextSize, resizedAccounts, openedWith}
 use Rattle.rules.specs.Sending.{ready, firstFrom, nextLeaf, givenUp, turnsOff, paid, booksAfter, sentState, turnOf, sends, traceOf}
 use Rattle.calls.specs.Arrival.{noLeaf, badLength, full, arrivalChecks, arrived}
 
@@ -43,13 +44,13 @@ tree = added one (leaf 1 10)
 grown : Grown tree
 unfolding leaf one tree
 grown =
-    added-grown one (leaf 1 10) (added-grown noTree (leaf 1 10) none-grown (omega arith) (λ f. absurd (not-true-and-false refl f)))
+    added-grown one (leaf 1 10) (added-grown noTree (leaf 1 10) (none-grown false) (omega arith) (λ f. absurd (not-true-and-false refl f)))
     (omega arith)
     (λ f. absurd (not-true-and-false refl f))
 
 passes : ClassesPass tree
 unfolding leaf one tree badParent badWeight badLongest isLeaf has with
-passes = classes-kept one (leaf 1 10) (classes-kept noTree (leaf 1 10) none-pass refl refl refl) refl refl refl
+passes = classes-kept one (leaf 1 10) (classes-kept noTree (leaf 1 10) (none-pass false) refl refl refl) refl refl refl
 
 closes : firstBroken (closingChecks tree) ≡ Passed
 unfolding leaf one tree firstBroken classByClass tooHeavy childless noClass isInner isClass isLeaf isChild childWeight childrenWeight
@@ -109,5 +110,5 @@ pub two-sends : SendsAs withBoth 1 1 × SendsAs sentOnce 4 0 × (someWaits (trac
 unfolding leaf one tree fresh first second withFirst withBoth sentOnce roundSize allWeights allLongest longestCost sumTo someTo isClass
     isLeaf isInner isChild has with without costOf table queueOf climbs atOrBelow waits someWaits someBelow setOf upward roundActive
     activeChild activeWeight weightSum surplusAt hasSurplus kindOf quotaIn quota due handsDown openedLeaf openedInner openedAccount
-    openedAccounts nextKind opened ready firstFrom nextLeaf givenUp turnsOff paid booksAfter sentState turnOf sends traceOf
+    openedAccounts nextKind nextSize mainSize resizedAccounts openedWith ready firstFrom nextLeaf givenUp turnsOff paid booksAfter sentState turnOf sends traceOf
 two-sends = (record { waits = refl; tag = refl; rounds = refl }, record { waits = refl; tag = refl; rounds = refl }, refl)

@@ -5,6 +5,9 @@ use Prim.Native.Nat.{ℕ, zero, suc, _+_, _*_, _-_, _/_}
 use lib.Dec.{eqb}
 use Rattle.checks.specs.Check.{passed}
 use Rattle.units.specs.Cost.{costOf}
+use Rattle.tree.specs.Class.{weightOf}
+use Rattle.tree.specs.Size.{roundSize}
+use Rattle.state.specs.declared.Link.{Link}
 use Rattle.state.specs.declared.Packet.{Packet}
 use Rattle.state.specs.Queue.{noPacket}
 use Rattle.calls.specs.Progress.{packetOf}
@@ -53,3 +56,7 @@ overRoundedUp d w = (d + w - 1) / w
 -- the bound: D over w rounded up, plus 1, times Q (R202)
 abbrev pub bound : ℕ → ℕ → ℕ → ℕ
 bound d w q = (overRoundedUp d w + 1) * q
+
+-- of class i of a link with D bytes in its queue: Q is the whole tree's under both rules (R202, R236)
+abbrev pub boundOf : Link → ℕ → ℕ → ℕ
+boundOf l i d = bound d (weightOf (l .tree) i) (roundSize (l .tree))

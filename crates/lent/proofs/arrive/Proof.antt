@@ -144,8 +144,8 @@ module _ {M : Type 1} (𝓤 : URA M) (H : Heap 𝓤) (A : Atoms 𝓤) (W : Given
       (α ∷ [], tt),
       (fullShare, tt),
       tt,
-      small h (to b (o + 1_640) γ₇ (same (h .lengths)), (to b (o + 5_736) γ₈ (same (h .tags)), (i, (p, tt)))),
-      small-vals h (vptr b (o + 1_640) ∷ [], (vptr b (o + 5_736) ∷ [], (vint w64 i ∷ [], (pval p ∷ [], tt)))),
+      small h (to b (o + 1_648) γ₇ (same (h .lengths)), (to b (o + 5_744) γ₈ (same (h .tags)), (i, (p, tt)))),
+      small-vals h (vptr b (o + 1_648) ∷ [], (vptr b (o + 5_744) ∷ [], (vint w64 i ∷ [], (pval p ∷ [], tt)))),
     ),
     tt,
   )
@@ -195,24 +195,24 @@ module _ {M : Type 1} (𝓤 : URA M) (H : Heap 𝓤) (A : Atoms 𝓤) (W : Given
         -- [the nine cells; the way back; the open borrow; obs; auth; _13; …; _12; …; _0; …]
         assigns ! (of-opd ! (load ! (from ! (hop ! (look ! 37 refl) (fld ! {τ = type-at 0} {d = 0} refl (stop !))))
         (look-raw ! 0 {τ = type-at 0} refl))) (from ! (stop !)) (init ! 29 refl (typed 𝓤 H A W 0 (h .tree) (ps .0) .0)) $
-        assigns ! (of-opd ! (load ! (from ! (hop ! (look ! 37 refl) (fld ! {τ = type-at 1} {d = 464} refl (stop !))))
+        assigns ! (of-opd ! (load ! (from ! (hop ! (look ! 37 refl) (fld ! {τ = type-at 1} {d = 472} refl (stop !))))
         (look-raw ! 1 {τ = type-at 1} refl))) (from ! (stop !)) (init ! 27 refl (typed 𝓤 H A W 1 (h .size) (ps .1 .0) .0)) $
-        assigns ! (of-opd ! (load ! (from ! (hop ! (look ! 37 refl) (fld ! {τ = type-at 2} {d = 472} refl (stop !))))
+        assigns ! (of-opd ! (load ! (from ! (hop ! (look ! 37 refl) (fld ! {τ = type-at 2} {d = 480} refl (stop !))))
         (look-raw ! 2 {τ = type-at 2} refl))) (from ! (stop !)) (init ! 25 refl (typed 𝓤 H A W 2 (h .active) (ps .1 .1 .0) .0)) $
-        assigns ! (of-opd ! (load ! (from ! (hop ! (look ! 37 refl) (fld ! {τ = type-at 3} {d = 480} refl (stop !))))
+        assigns ! (of-opd ! (load ! (from ! (hop ! (look ! 37 refl) (fld ! {τ = type-at 3} {d = 488} refl (stop !))))
         (look-raw ! 3 {τ = type-at 3} refl))) (from ! (stop !)) (init ! 23 refl (typed 𝓤 H A W 3 (h .place) (ps .1 .1 .1 .0) .0)) $
-        assigns ! (of-opd ! (load ! (from ! (hop ! (look ! 37 refl) (fld ! {τ = type-at 4} {d = 488} refl (stop !))))
+        assigns ! (of-opd ! (load ! (from ! (hop ! (look ! 37 refl) (fld ! {τ = type-at 4} {d = 496} refl (stop !))))
         (look-raw ! 4 {τ = type-at 4} refl))) (from ! (stop !))
         (init ! 21 refl (typed 𝓤 H A W 4 (h .accounts) (ps .1 .1 .1 .1 .0) .0)) $
-        assigns ! (of-opd ! (load ! (from ! (hop ! (look ! 37 refl) (fld ! {τ = type-at 5} {d = 1_512} refl (stop !))))
+        assigns ! (of-opd ! (load ! (from ! (hop ! (look ! 37 refl) (fld ! {τ = type-at 5} {d = 1_520} refl (stop !))))
         (look-raw ! 5 {τ = type-at 5} refl))) (from ! (stop !))
         (init ! 19 refl (typed 𝓤 H A W 5 (h .start) (ps .1 .1 .1 .1 .1 .0) .0)) $
-        assigns ! (of-opd ! (load ! (from ! (hop ! (look ! 37 refl) (fld ! {τ = type-at 6} {d = 1_576} refl (stop !))))
+        assigns ! (of-opd ! (load ! (from ! (hop ! (look ! 37 refl) (fld ! {τ = type-at 6} {d = 1_584} refl (stop !))))
         (look-raw ! 6 {τ = type-at 6} refl))) (from ! (stop !))
         (init ! 17 refl (typed 𝓤 H A W 6 (h .held) (ps .1 .1 .1 .1 .1 .1 .0) .0)) $
-        assigns ! (addr ! (from ! (hop ! (look ! 37 refl) (fld ! {τ = type-at 7} {d = 1_640} refl (stop !))))) (from ! (stop !))
+        assigns ! (addr ! (from ! (hop ! (look ! 37 refl) (fld ! {τ = type-at 7} {d = 1_648} refl (stop !))))) (from ! (stop !))
         (init ! 15 refl (tt, tt)) $
-        assigns ! (addr ! (from ! (hop ! (look ! 37 refl) (fld ! {τ = type-at 8} {d = 5_736} refl (stop !))))) (from ! (stop !))
+        assigns ! (addr ! (from ! (hop ! (look ! 37 refl) (fld ! {τ = type-at 8} {d = 5_744} refl (stop !))))) (from ! (stop !))
         (init ! 13 refl (tt, tt)) $
         move ! (7 ∷ 8 ∷ []) $
         lent-out ! tt (h .lengths) (h .tags) b o (ps .1 .1 .1 .1 .1 .1 .1 .0) (ps .1 .1 .1 .1 .1 .1 .1 .1 .0) (λ α γ₇ γ₈.
@@ -242,7 +242,7 @@ module _ {M : Type 1} (𝓤 : URA M) (H : Heap 𝓤) (A : Atoms 𝓤) (W : Given
         come-back ! tt (w .0) (w .1) b o (λ isx isy. move ! (2 ∷ 3 ∷ 4 ∷ 5 ∷ 6 ∷ 7 ∷ 8 ∷ 0 ∷ 1 ∷ []) $
         assigns ! (of-opd ! (load ! (from ! (fld ! {τ = type-at 6} {d = 0} refl (stop !)))
         (look-in ! 31 {τ = type-at 6} (sub ! 0 {τ = type-at 6} {d = 0} refl (whole !)))))
-        (from ! (hop ! (look ! 37 refl) (fld ! {τ = type-at 6} {d = 1_576} refl (stop !))))
+        (from ! (hop ! (look ! 37 refl) (fld ! {τ = type-at 6} {d = 1_584} refl (stop !))))
         (store-raw ! 6 {τ = type-at 6} refl (typed 𝓤 H A W 6 (r .held) (ws .0) .0)) $
         assigns ! (of-opd ! (load ! (from ! (fld ! {d = 72} refl (stop !))) (look-in ! 31 (sub ! 2 {d = 72} refl (whole !)))))
         (from ! (stop !)) (init ! 39 refl (LL.lawful N.the-type N′.the-laws 𝓤 H A W .typed (r .answer) _ (ws .1 .1 .0) .0)) $

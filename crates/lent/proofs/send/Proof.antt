@@ -114,8 +114,8 @@ module _ {M : Type 1} (𝓤 : URA M) (H : Heap 𝓤) (A : Atoms 𝓤) (W : Given
       (α ∷ [], tt),
       (fullShare, tt),
       tt,
-      small h (to b (o + 1_640) γ₇ (same (h .lengths)), (to b (o + 5_736) γ₈ (same (h .tags)), tt)),
-      small-vals h (vptr b (o + 1_640) ∷ [], (vptr b (o + 5_736) ∷ [], tt)),
+      small h (to b (o + 1_648) γ₇ (same (h .lengths)), (to b (o + 5_744) γ₈ (same (h .tags)), tt)),
+      small-vals h (vptr b (o + 1_648) ∷ [], (vptr b (o + 5_744) ∷ [], tt)),
     ),
     tt,
   )
@@ -143,7 +143,7 @@ module _ {M : Type 1} (𝓤 : URA M) (H : Heap 𝓤) (A : Atoms 𝓤) (W : Given
       let ps = parts-of h is in
       let ws = changed-of r isr in
       LL.owes L.the-type L′.the-laws (changedLink h r)
-      (ps .0, (ps .1 .0, (ws .0, (ws .1 .0, (ws .1 .1 .0, (ws .1 .1 .1 .0, (ws .1 .1 .1 .1 .0, ps .1 .1 .1 .1 .1 .1 .1)))))))
+      (ps .0, (ws .1 .1 .1 .1 .1 .0, (ws .0, (ws .1 .0, (ws .1 .1 .0, (ws .1 .1 .1 .0, (ws .1 .1 .1 .1 .0, ps .1 .1 .1 .1 .1 .1 .1)))))))
 
   module _ (C : Calls 𝓤 H) (Λ : Loops 𝓤 H) (fm : FmC 𝓤 H (W .laws) C) (known : Triple 𝓤 (C #core) (Core 𝓤 H A W at-mem run)) where
     walk : ent 𝓤 (onEntry 𝓤 H A lent.signature (κ, tt) (q, tt) x at) (WpFn 𝓤 H C Λ code.function args Post)
@@ -158,24 +158,24 @@ module _ {M : Type 1} (𝓤 : URA M) (H : Heap 𝓤) (A : Atoms 𝓤) (W : Given
         -- [the nine cells; the way back; the open borrow; obs; auth; _11; …; _10; …; _0; …]
         assigns ! (of-opd ! (load ! (from ! (hop ! (look ! 33 refl) (fld ! {τ = type-at 0} {d = 0} refl (stop !))))
         (look-raw ! 0 {τ = type-at 0} refl))) (from ! (stop !)) (init ! 29 refl (typed 𝓤 H A W 0 (h .tree) (ps .0) .0)) $
-        assigns ! (of-opd ! (load ! (from ! (hop ! (look ! 33 refl) (fld ! {τ = type-at 1} {d = 464} refl (stop !))))
+        assigns ! (of-opd ! (load ! (from ! (hop ! (look ! 33 refl) (fld ! {τ = type-at 1} {d = 472} refl (stop !))))
         (look-raw ! 1 {τ = type-at 1} refl))) (from ! (stop !)) (init ! 27 refl (typed 𝓤 H A W 1 (h .size) (ps .1 .0) .0)) $
-        assigns ! (of-opd ! (load ! (from ! (hop ! (look ! 33 refl) (fld ! {τ = type-at 2} {d = 472} refl (stop !))))
+        assigns ! (of-opd ! (load ! (from ! (hop ! (look ! 33 refl) (fld ! {τ = type-at 2} {d = 480} refl (stop !))))
         (look-raw ! 2 {τ = type-at 2} refl))) (from ! (stop !)) (init ! 25 refl (typed 𝓤 H A W 2 (h .active) (ps .1 .1 .0) .0)) $
-        assigns ! (of-opd ! (load ! (from ! (hop ! (look ! 33 refl) (fld ! {τ = type-at 3} {d = 480} refl (stop !))))
+        assigns ! (of-opd ! (load ! (from ! (hop ! (look ! 33 refl) (fld ! {τ = type-at 3} {d = 488} refl (stop !))))
         (look-raw ! 3 {τ = type-at 3} refl))) (from ! (stop !)) (init ! 23 refl (typed 𝓤 H A W 3 (h .place) (ps .1 .1 .1 .0) .0)) $
-        assigns ! (of-opd ! (load ! (from ! (hop ! (look ! 33 refl) (fld ! {τ = type-at 4} {d = 488} refl (stop !))))
+        assigns ! (of-opd ! (load ! (from ! (hop ! (look ! 33 refl) (fld ! {τ = type-at 4} {d = 496} refl (stop !))))
         (look-raw ! 4 {τ = type-at 4} refl))) (from ! (stop !))
         (init ! 21 refl (typed 𝓤 H A W 4 (h .accounts) (ps .1 .1 .1 .1 .0) .0)) $
-        assigns ! (of-opd ! (load ! (from ! (hop ! (look ! 33 refl) (fld ! {τ = type-at 5} {d = 1_512} refl (stop !))))
+        assigns ! (of-opd ! (load ! (from ! (hop ! (look ! 33 refl) (fld ! {τ = type-at 5} {d = 1_520} refl (stop !))))
         (look-raw ! 5 {τ = type-at 5} refl))) (from ! (stop !))
         (init ! 19 refl (typed 𝓤 H A W 5 (h .start) (ps .1 .1 .1 .1 .1 .0) .0)) $
-        assigns ! (of-opd ! (load ! (from ! (hop ! (look ! 33 refl) (fld ! {τ = type-at 6} {d = 1_576} refl (stop !))))
+        assigns ! (of-opd ! (load ! (from ! (hop ! (look ! 33 refl) (fld ! {τ = type-at 6} {d = 1_584} refl (stop !))))
         (look-raw ! 6 {τ = type-at 6} refl))) (from ! (stop !))
         (init ! 17 refl (typed 𝓤 H A W 6 (h .held) (ps .1 .1 .1 .1 .1 .1 .0) .0)) $
-        assigns ! (addr ! (from ! (hop ! (look ! 33 refl) (fld ! {τ = type-at 7} {d = 1_640} refl (stop !))))) (from ! (stop !))
+        assigns ! (addr ! (from ! (hop ! (look ! 33 refl) (fld ! {τ = type-at 7} {d = 1_648} refl (stop !))))) (from ! (stop !))
         (init ! 15 refl (tt, tt)) $
-        assigns ! (addr ! (from ! (hop ! (look ! 33 refl) (fld ! {τ = type-at 8} {d = 5_736} refl (stop !))))) (from ! (stop !))
+        assigns ! (addr ! (from ! (hop ! (look ! 33 refl) (fld ! {τ = type-at 8} {d = 5_744} refl (stop !))))) (from ! (stop !))
         (init ! 13 refl (tt, tt)) $
         move ! (7 ∷ 8 ∷ []) $
         shared ! tt (h .lengths) (h .tags) b o (ps .1 .1 .1 .1 .1 .1 .1 .0) (ps .1 .1 .1 .1 .1 .1 .1 .1 .0) (λ α γ₇ γ₈.
@@ -202,26 +202,30 @@ module _ {M : Type 1} (𝓤 : URA M) (H : Heap 𝓤) (A : Atoms 𝓤) (W : Given
         unshared ! tt (h .lengths) (h .tags) b o $ move ! (2 ∷ 3 ∷ 4 ∷ 5 ∷ 6 ∷ 7 ∷ 8 ∷ 0 ∷ 1 ∷ []) $
         assigns ! (of-opd ! (load ! (from ! (fld ! {τ = type-at 2} {d = 0} refl (stop !)))
         (look-in ! 31 {τ = type-at 2} (sub ! 0 {τ = type-at 2} {d = 0} refl (whole !)))))
-        (from ! (hop ! (look ! 33 refl) (fld ! {τ = type-at 2} {d = 472} refl (stop !))))
+        (from ! (hop ! (look ! 33 refl) (fld ! {τ = type-at 2} {d = 480} refl (stop !))))
         (store-raw ! 2 {τ = type-at 2} refl (typed 𝓤 H A W 2 (r .active) (ws .0) .0)) $
         assigns ! (of-opd ! (load ! (from ! (fld ! {τ = type-at 3} {d = 8} refl (stop !)))
         (look-in ! 31 {τ = type-at 3} (sub ! 1 {τ = type-at 3} {d = 8} refl (whole !)))))
-        (from ! (hop ! (look ! 33 refl) (fld ! {τ = type-at 3} {d = 480} refl (stop !))))
+        (from ! (hop ! (look ! 33 refl) (fld ! {τ = type-at 3} {d = 488} refl (stop !))))
         (store-raw ! 3 {τ = type-at 3} refl (typed 𝓤 H A W 3 (r .place) (ws .1 .0) .0)) $
         assigns ! (of-opd ! (load ! (from ! (fld ! {τ = type-at 4} {d = 16} refl (stop !)))
         (look-in ! 31 {τ = type-at 4} (sub ! 2 {τ = type-at 4} {d = 16} refl (whole !)))))
-        (from ! (hop ! (look ! 33 refl) (fld ! {τ = type-at 4} {d = 488} refl (stop !))))
+        (from ! (hop ! (look ! 33 refl) (fld ! {τ = type-at 4} {d = 496} refl (stop !))))
         (store-raw ! 4 {τ = type-at 4} refl (typed 𝓤 H A W 4 (r .accounts) (ws .1 .1 .0) .0)) $
         assigns ! (of-opd ! (load ! (from ! (fld ! {τ = type-at 5} {d = 1_040} refl (stop !)))
         (look-in ! 31 {τ = type-at 5} (sub ! 3 {τ = type-at 5} {d = 1_040} refl (whole !)))))
-        (from ! (hop ! (look ! 33 refl) (fld ! {τ = type-at 5} {d = 1_512} refl (stop !))))
+        (from ! (hop ! (look ! 33 refl) (fld ! {τ = type-at 5} {d = 1_520} refl (stop !))))
         (store-raw ! 5 {τ = type-at 5} refl (typed 𝓤 H A W 5 (r .start) (ws .1 .1 .1 .0) .0)) $
         assigns ! (of-opd ! (load ! (from ! (fld ! {τ = type-at 6} {d = 1_104} refl (stop !)))
         (look-in ! 31 {τ = type-at 6} (sub ! 4 {τ = type-at 6} {d = 1_104} refl (whole !)))))
-        (from ! (hop ! (look ! 33 refl) (fld ! {τ = type-at 6} {d = 1_576} refl (stop !))))
+        (from ! (hop ! (look ! 33 refl) (fld ! {τ = type-at 6} {d = 1_584} refl (stop !))))
         (store-raw ! 6 {τ = type-at 6} refl (typed 𝓤 H A W 6 (r .held) (ws .1 .1 .1 .1 .0) .0)) $
-        assigns ! (of-opd ! (load ! (from ! (fld ! {d = 1_168} refl (stop !))) (look-in ! 31 (sub ! 5 {d = 1_168} refl (whole !)))))
-        (from ! (stop !)) (init ! 35 refl (LL.lawful N.the-type N′.the-laws 𝓤 H A W .typed (r .answer) _ (ws .1 .1 .1 .1 .1 .0) .0)) $
+        assigns ! (of-opd ! (load ! (from ! (fld ! {τ = type-at 1} {d = 1_168} refl (stop !)))
+        (look-in ! 31 {τ = type-at 1} (sub ! 5 {τ = type-at 1} {d = 1_168} refl (whole !)))))
+        (from ! (hop ! (look ! 33 refl) (fld ! {τ = type-at 1} {d = 472} refl (stop !))))
+        (store-raw ! 1 {τ = type-at 1} refl (typed 𝓤 H A W 1 (r .size) (ws .1 .1 .1 .1 .1 .0) .0)) $
+        assigns ! (of-opd ! (load ! (from ! (fld ! {d = 1_176} refl (stop !))) (look-in ! 31 (sub ! 6 {d = 1_176} refl (whole !)))))
+        (from ! (stop !)) (init ! 35 refl (LL.lawful N.the-type N′.the-laws 𝓤 H A W .typed (r .answer) _ (ws .1 .1 .1 .1 .1 .1 .0) .0)) $
         together ! (changedLink h r) b o $ closed ! tt (changedLink h r) (after is r isr) b o $
         -- [obs; the borrow; the token; _11; …; _0; …]
         returns ! (look ! 25 refl) $ forget ! 3 refl $ forget ! 5 refl $ forget ! 7 refl $ forget ! 9 refl $ forget ! 11 refl $
@@ -230,7 +234,7 @@ module _ {M : Type 1} (𝓤 : URA M) (H : Heap 𝓤) (A : Atoms 𝓤) (W : Given
         free1 ! $ move ! (17 ∷ 18 ∷ []) $ free1 ! $ move ! (15 ∷ 16 ∷ []) $ free1 ! $ move ! (13 ∷ 14 ∷ []) $ free1 ! $
         move ! (11 ∷ 12 ∷ []) $ free1 ! $ move ! (9 ∷ 10 ∷ []) $ free1 ! $ move ! (7 ∷ 8 ∷ []) $ free1 ! $ move ! (5 ∷ 6 ∷ []) $ free1 ! $
         move ! (3 ∷ 4 ∷ []) $ free1 ! $ free0 ! $
-        keep ! (0 ∷ 1 ∷ 2 ∷ []) $ by ! (exits r (sent is r e) (ws .1 .1 .1 .1 .1 .0))))))))))))))))))
+        keep ! (0 ∷ 1 ∷ 2 ∷ []) $ by ! (exits r (sent is r e) (ws .1 .1 .1 .1 .1 .1 .0))))))))))))))))))
 
 module _ {M : Type 1} (𝓤 : URA M) (H : Heap 𝓤) (A : Atoms 𝓤) (W : Given 𝓤 H A) (at-mem : Memory → SProp 𝓤) (run : Routine → Fun 𝓤) where
   lent-walks : (C : Calls 𝓤 H) (Λ : Loops 𝓤 H) → FmC 𝓤 H (W .laws) C → Triple 𝓤 (C #core) (Core 𝓤 H A W at-mem run)

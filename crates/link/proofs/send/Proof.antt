@@ -9,7 +9,7 @@ send-of-requires c κs = search needs
 
 returns : tie.Need-returns
 returns c =
-    let q = c .before .before .before .before in
+    let q = c .before .before .before .before .before in
     let s = q .before .before .before .before .before .before .before .before .before in
     q .send-of .ensures (shaped (s .args .t1) _ (s .good .0))
 

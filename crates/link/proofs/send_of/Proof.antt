@@ -35,18 +35,14 @@ returns c =
 send-values-requires : tie.Need-send-values-requires
 send-values-requires c κs =
     let s = c .before in
-    (s .before .args .size, s .is-sound-of .ensures (whole (s .before) .tags) .sound (not-false (s .is-sound-of .result) (c .if1 .left)))
+    s .is-sound-of .ensures (whole (s .before) .tags) .sound (not-false (s .is-sound-of .result) (c .if1 .left))
 
 stays-requires-2 : tie.Need-stays-requires-2
 stays-requires-2 c κs = search needs
 
 -- what the steps say of the send
 moves : (c : tie.After-send-values) → Moves (whole (c .before .before .before)) (c .send-values .result)
-moves c =
-    let i = c .before in
-    let s = i .before in
-    c .send-values .ensures (s .before .args .size)
-    (s .is-sound-of .ensures (whole (s .before) .tags) .sound (not-false (s .is-sound-of .result) (i .if1 .left)))
+moves c = c .send-values .ensures
 
 returns-2 : tie.Need-returns-2
 returns-2 c =

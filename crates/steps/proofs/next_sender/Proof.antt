@@ -10,12 +10,12 @@ both-requires : tie.Need-both-requires
 both-requires c κs = search needs
 
 next-leaf-requires : tie.Need-next-leaf-requires
-next-leaf-requires c κs = let s = c .before .before .pre .0 .2 in (s .sound .state .place .high, parts-low _ _ s)
+next-leaf-requires c κs = let s = c .before .before .pre .0 .1 in (s .sound .state .place .high, parts-low _ _ s)
 
 returns : tie.Need-returns
 returns c =
     let n = c .before in
-    λ size tags s.
+    λ tags s.
     now-finds _ _ s _ (n .next-leaf .ensures _ (parts-searched _ _ s _ (n .before .before .both .ensures))) (c .if1 .taken)
 
 reopened-requires : tie.Need-reopened-requires
@@ -23,7 +23,7 @@ reopened-requires c κs =
     let i = c .before .before in
     let n = i .before in
     let b = n .before .before in
-    let s = b .before .pre .0 .2 in
+    let s = b .before .pre .0 .1 in
     let next = n .next-leaf .ensures _ (parts-searched _ _ s _ (b .both .ensures)) in
     ((_, refl, is-closed _ _ s _ next (i .if1 .left)), b .before .pre .1)
 
@@ -31,7 +31,7 @@ returns-2 : tie.Need-returns-2
 returns-2 c =
     let i = c .before .before .before in
     let n = i .before in
-    λ size tags s.
+    λ tags s.
     c .reopened .ensures _ refl
     (is-closed _ _ s _ (n .next-leaf .ensures _ (parts-searched _ _ s _ (n .before .before .both .ensures))) (i .if1 .left))
 

@@ -18,7 +18,7 @@ use Rattle.steps.proofs.send_values.Tie as tie
 
 -- there are as many accounts as class numbers
 many : (c : tie.Start) → length (c .args .accounts) ≡ 64
-many c = c .good .1 .1 .1 .0 .1 .0 .1
+many c = c .good .1 .1 .1 .1 .0 .1 .0 .1
 
 -- no set is known, and no weight sums are kept
 none-kept : (t : Tree) (kept : List ℕ) → PlanRules t → Kept t 0 kept
@@ -28,7 +28,7 @@ none-kept t kept rules = record { raised = raised-none t rules; sums = λ on. ab
 abbrev lent : tie.After-weight-numbers → Tree
 lent c =
     let t = c .before .before .before .args .tree in
-    lentTree (t .count) (t .leaves) (t .parent) (c .weight-numbers .result) (t .longest)
+    lentTree (t .count) (t .leaves) (t .parent) (c .weight-numbers .result) (t .longest) (t .follows)
 
 same : (c : tie.After-weight-numbers) → lent c ≡ c .before .before .before .args .tree
 same c =
@@ -50,8 +50,8 @@ send-requires c κs =
     let y = z .before in
     let w = y .before .before in
     let st = w .before .before .before in
-    let parts = values-parts (lent w) (same w) (many st) (st .pre .1) _ _ (y .balances .ensures) (z .residuals .ensures) in
-    ((st .pre .0, parts), none-kept (lent w) _ (parts .sound .state .fits .tree))
+    let parts = values-parts (lent w) (same w) (many st) (st .pre) _ _ (y .balances .ensures) (z .residuals .ensures) in
+    (parts, none-kept (lent w) _ (parts .sound .state .fits .tree))
 
 zipped-requires : tie.Need-zipped-requires
 zipped-requires c κs =
@@ -60,21 +60,17 @@ zipped-requires c κs =
     let y = z .before in
     let w = y .before .before in
     let st = w .before .before .before in
-    let parts = values-parts (lent w) (same w) (many st) (st .pre .1) _ _ (y .balances .ensures) (z .residuals .ensures) in
-    values-wide (lent w) (same w) (many st) (st .pre .1) _ _ (y .balances .ensures) (z .residuals .ensures) _
-    (g .send .ensures (st .pre .0) parts)
+    values-wide (lent w) (same w) (many st) (st .pre) _ _ (y .balances .ensures) (z .residuals .ensures) _ (g .send .ensures)
 
 returns : tie.Need-returns
 returns c =
-    let k = c .before in
+    let k = c .before .before in
     let g = k .before .before .before in
     let z = g .before .before .before .before .before .before .before .before .before in
     let y = z .before in
     let w = y .before .before in
     let st = w .before .before .before in
-    λ size sound.
-    let parts = values-parts (lent w) (same w) (many st) sound _ _ (y .balances .ensures) (z .residuals .ensures) in
-    values-moves (lent w) (same w) (many st) sound _ _ (y .balances .ensures) (z .residuals .ensures) _ (g .send .ensures size parts)
+    values-moves (lent w) (same w) (many st) (st .pre) _ _ (y .balances .ensures) (z .residuals .ensures) _ (g .send .ensures)
     (rw (k .zipped .ensures) refl)
 
 pub send-values-spec : {M : Type 1} → statement M

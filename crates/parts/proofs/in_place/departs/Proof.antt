@@ -14,23 +14,21 @@ returns : tie.Need-returns
 returns c =
     let i = c .before in
     let a = i .before .args in
-    λ size exactly shape.
-    rw (c .nothing .ensures) (rw (not-true (a .sound) (i .if1 .taken)) (refused-in-place _ (nothingGoes (a .active) (a .visit)) refl))
+    rw (c .nothing .ensures)
+    (rw (not-true (a .sound) (i .if1 .taken)) (refused-in-place _ (nothingGoes (a .size) (a .active) (a .visit)) refl))
 
 send-requires : tie.Need-send-requires
 send-requires c κs =
     let i = c .before .before .before .before in
     let st = i .before in
-    let p = st .pre .0 in
     let on = not-false (st .args .sound) (i .if1 .left) in
-    ((p .0, record { sound = p .1 .sound on; wide = p .2 .accounts }), st .pre .1 on)
+    (record { sound = st .pre .0 .sound on; wide = st .pre .1 .accounts }, st .pre .2 on)
 
 returns-2 : tie.Need-returns-2
 returns-2 c =
     let i = c .before .before .before .before .before in
     let on = not-false (i .before .args .sound) (i .if1 .left) in
-    λ size exactly shape.
-    rw on (departs-in-place _ _ _ (c .send .ensures size (record { sound = exactly .sound on; wide = shape .accounts })))
+    rw on (departs-in-place _ _ _ (c .send .ensures))
 
 pub departs-spec : {M : Type 1} → statement M
 departs-spec =

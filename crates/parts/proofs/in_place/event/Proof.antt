@@ -5,7 +5,6 @@ use Prim.Native.Nat.{ℕ}
 use native.Mathlib.Omega.{arith}
 use denote.Ref.{now}
 use lib.ListN.{length, drop}
-use Rattle.units.specs.declared.Bytes.{Bytes}
 use Rattle.state.specs.declared.Link.{Link}
 use Rattle.steps.specs.Parts.{lentLink, lentTree}
 use Rattle.plan.specs.declared.EventRead.{EventRead}
@@ -18,11 +17,11 @@ use Rattle.parts.proofs.in_place.event.Statement.{statement}
 use Rattle.parts.proofs.in_place.event.Tie as tie
 
 -- the link whose parts are lent
-abbrev whole : tie.Start → Bytes → Link
-whole st size =
+abbrev whole : tie.Start → Link
+whole st =
     let a = st .args in
-    lentLink (lentTree (a .count) (a .leaves) (now (a .parent)) (now (a .weight)) (now (a .longest))) size (a .active) (a .visit)
-    (now (a .balance)) (now (a .residual)) (now (a .start)) (now (a .held)) (now (a .lengths)) (now (a .tags))
+    lentLink (lentTree (a .count) (a .leaves) (now (a .parent)) (now (a .weight)) (now (a .longest)) (a .follows)) (a .size) (a .active)
+    (a .visit) (now (a .balance)) (now (a .residual)) (now (a .start)) (now (a .held)) (now (a .lengths)) (now (a .tags))
 
 -- where the event began
 abbrev begun : tie.After-read-event → tie.Start
@@ -87,7 +86,7 @@ enum-told-2 c = search needs
 departs-requires : tie.Need-departs-requires
 departs-requires c κs =
     let st = c .before .before .before .before .before .before .before .before .before .before .before .before in
-    (st .pre .0, st .pre .1)
+    (st .pre .0, st .pre .1, st .pre .2)
 
 lay-went-requires : tie.Need-lay-went-requires
 lay-went-requires c κs = search needs
@@ -110,8 +109,8 @@ outcome-requires-3 c κs = search needs
 enum-known-read-2 : tie.Need-enum-known-read-2
 enum-known-read-2 c = search needs
 
-cast-t53 : tie.Need-cast-t53
-cast-t53 c = search needs
+cast-t55 : tie.Need-cast-t55
+cast-t55 c = search needs
 
 lay-at-requires-2 : tie.Need-lay-at-requires-2
 lay-at-requires-2 c κs = search needs
@@ -130,10 +129,9 @@ returns c =
     let g = v .before .before in
     let st = begun g in
     let a = st .args in
-    λ size exactly shape.
     rw (c .outcome .ensures)
-    (end-in-place (whole st size) (now (a .input)) (a .place) shape (a .at) (now (a .out)) (lay .lay-at .result) _ (w .waiting .result)
-    (a .active) (a .visit) (read-at g (v .enum-told .given .1)) (w .waiting .ensures) (lay .lay-at .ensures))
+    (end-in-place (whole st) (now (a .input)) (a .place) (st .pre .1) (a .at) (now (a .out)) (lay .lay-at .result) _ (w .waiting .result)
+    (a .active) (a .visit) (a .size) (read-at g (v .enum-told .given .1)) (w .waiting .ensures) (lay .lay-at .ensures))
 
 same-length-2 : tie.Need-same-length-2
 same-length-2 c = search needs
@@ -145,11 +143,10 @@ returns-2 c =
     let g = v .before .before in
     let st = begun g in
     let a = st .args in
-    λ size exactly shape.
     rw (c .outcome2 .ensures)
-    (arrival-in-place (whole st size) (now (a .input)) (a .place) shape (a .at) (now (a .out)) (lay .arrives .result) _ (a .sound) exactly
-    _ (v .read .given .0 .0) (a .active) (a .visit) (read-at g (v .read .given .1))
-    (lay .arrives .ensures (whole st size) refl refl exactly))
+    (arrival-in-place (whole st) (now (a .input)) (a .place) (st .pre .1) (a .at) (now (a .out)) (lay .arrives .result) _ (a .sound) (st .pre .0)
+    _ (v .read .given .0 .0) (a .active) (a .visit) (a .size) (read-at g (v .read .given .1))
+    (lay .arrives .ensures (whole st) refl refl (st .pre .0)))
 
 same-length-3 : tie.Need-same-length-3
 same-length-3 c = search needs
@@ -162,10 +159,9 @@ returns-3 c =
     let g = v .before .before in
     let st = begun g in
     let a = st .args in
-    λ size exactly shape.
     rw (c .outcome3 .ensures)
-    (send-in-place (whole st size) (now (a .input)) (a .place) shape (a .at) (now (a .out)) (lay .lay-went .result) _ (a .sound) exactly
-    _ (d .departs .result) (read-at g (v .enum-told2 .given .1)) (d .departs .ensures size exactly shape) (lay .lay-went .ensures))
+    (send-in-place (whole st) (now (a .input)) (a .place) (st .pre .1) (a .at) (now (a .out)) (lay .lay-went .result) _ (a .sound) (st .pre .0)
+    _ (d .departs .result) (read-at g (v .enum-told2 .given .1)) (d .departs .ensures) (lay .lay-went .ensures))
 
 same-length-4 : tie.Need-same-length-4
 same-length-4 c = search needs
@@ -177,10 +173,9 @@ returns-4 c =
     let g = v .before .before in
     let st = begun g in
     let a = st .args in
-    λ size exactly shape.
     rw (c .outcome4 .ensures)
-    (stop-in-place (whole st size) (now (a .input)) (a .place) shape (a .at) (now (a .out)) (lay .lay-at2 .result) _
-    (v .read2 .given .0 .0) (v .read2 .given .0 .1 .0) (a .active) (a .visit) (read-at g (v .read2 .given .1)) (lay .lay-at2 .ensures))
+    (stop-in-place (whole st) (now (a .input)) (a .place) (st .pre .1) (a .at) (now (a .out)) (lay .lay-at2 .result) _
+    (v .read2 .given .0 .0) (v .read2 .given .0 .1 .0) (a .active) (a .visit) (a .size) (read-at g (v .read2 .given .1)) (lay .lay-at2 .ensures))
 
 pub event-spec : {M : Type 1} → statement M
 event-spec =
@@ -202,7 +197,7 @@ event-spec =
     add-outcome-2
     outcome-requires-3
     enum-known-read-2
-    cast-t53
+    cast-t55
     lay-at-requires-2
     outcome-requires-4
     same-length

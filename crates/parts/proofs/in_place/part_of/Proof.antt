@@ -27,28 +27,28 @@ use Rattle.parts.proofs.in_place.part_of.Statement.{statement}
 use Rattle.parts.proofs.in_place.part_of.Tie as tie
 
 abbrev Inv-loop : tie.InvT-loop
-Inv-loop sound input place out₀ tree size parent weight longest balance₀ residual₀ start₀ held₀ lengths₀ tags₀ sums kept active₀
-    visit₀ laid₀ more₀ from₀ out balance residual start held lengths tags active visit laid more from =
-    let lent = lentTree (tree .count) (tree .leaves) parent weight longest in
+Inv-loop sound input place out₀ tree parent weight longest balance₀ residual₀ start₀ held₀ lengths₀ tags₀ sums kept size₀ active₀
+    visit₀ laid₀ more₀ from₀ out balance residual start held lengths tags size active visit laid more from =
+    let lent = lentTree (tree .count) (tree .leaves) parent weight longest (tree .follows) in
     let link = lentLink lent size active visit balance residual start held lengths tags in
-    Laying (lentLink lent size active₀ visit₀ balance₀ residual₀ start₀ held₀ lengths₀ tags₀) input place out₀
+    Laying (lentLink lent size₀ active₀ visit₀ balance₀ residual₀ start₀ held₀ lengths₀ tags₀) input place out₀
     (record { laid = laid; more = more; link = link; place = from }) out
     × Shaped link
 
 abbrev μ-loop : tie.MeasureT-loop
-μ-loop sound input place out₀ tree size parent weight longest balance₀ residual₀ start₀ held₀ lengths₀ tags₀ sums kept active₀
-    visit₀ laid₀ more₀ from₀ out balance residual start held lengths tags active visit laid more from =
+μ-loop sound input place out₀ tree parent weight longest balance₀ residual₀ start₀ held₀ lengths₀ tags₀ sums kept size₀ active₀
+    visit₀ laid₀ more₀ from₀ out balance residual start held lengths tags size active visit laid more from =
     stepsLeft input more from
 
 -- where the link was handed in
 abbrev handed : tie.After-weight-numbers Inv-loop μ-loop → tie.Start Inv-loop μ-loop
-handed c = c .before .before .before .before .before .before .before
+handed c = c .before .before .before .before .before .before
 
 -- the tree in its parts is the tree
 abbrev lent : tie.After-weight-numbers Inv-loop μ-loop → Tree
 lent c =
     let t = handed c .args .link .tree in
-    lentTree (t .count) (t .leaves) (t .parent) (c .weight-numbers .result) (t .longest)
+    lentTree (t .count) (t .leaves) (t .parent) (c .weight-numbers .result) (t .longest) (t .follows)
 
 same : (c : tie.After-weight-numbers Inv-loop μ-loop) → lent c ≡ handed c .args .link .tree
 same c =
@@ -74,7 +74,7 @@ apart c =
     (c .before .balances .ensures) (c .residuals .ensures)
 
 abbrev apart-at : tie.At-loop Inv-loop μ-loop → tie.After-residuals Inv-loop μ-loop
-apart-at h = h .before .before .before .before .before .before .before .before
+apart-at h = h .before .before .before .before .before .before .before .before .before
 
 abbrev begun : tie.At-loop Inv-loop μ-loop → tie.Start Inv-loop μ-loop
 begun h = first (apart-at h)
@@ -83,7 +83,7 @@ begun h = first (apart-at h)
 abbrev linkNow : tie.At-loop Inv-loop μ-loop → Tree → Link
 linkNow h t =
     let v = h .loop in
-    lentLink t (begun h .args .link .size) (v .active) (v .visit) (v .balance) (v .residual) (v .start) (v .held) (v .lengths) (v .tags)
+    lentLink t (v .size) (v .active) (v .visit) (v .balance) (v .residual) (v .start) (v .held) (v .lengths) (v .tags)
 
 as-sound : (h : tie.At-loop Inv-loop μ-loop) → Exactly (begun h .args .sound) (SoundLink (linkNow h (lent (weighed (apart-at h)))))
 as-sound h =
@@ -116,7 +116,7 @@ sums-now-requires c κs = λ e. first (c .before .before .before .before .before
 
 loop-holds : tie.Need-loop-holds Inv-loop μ-loop
 loop-holds c =
-    let z = c .before .before .before .before .before .before .before in
+    let z = c .before .before .before .before .before .before .before .before in
     let st = first z in
     let a = st .args in (
       laying-starts _ (now (a .input)) (a .place) (now (a .out)),
@@ -130,29 +130,30 @@ event-requires : tie.Need-event-requires Inv-loop μ-loop
 event-requires c κs =
     let t = c .before .before .before .before .before .before .before .before .before .before .before in
     let h = t .before .before in
-    let sums = h .before .before .sums-now in (
-      (begun h .args .link .size, as-sound h, h .loop .inv .1),
+    let sums = h .before .before .before .sums-now in (
+      as-sound h,
+      h .loop .inv .1,
       λ on. subst (λ (x : Tree). Kept x (sums .result .known) (sums .result .kept)) (sym (same (weighed (apart-at h)))) (sums .ensures on),
       room t,
     )
 
 loop-less : tie.Need-loop-less Inv-loop μ-loop
 loop-less c =
-    let e = c .before .before in
+    let e = c .before .before .before in
     let t = took e in
     let h = t .before .before in
     let a = begun h .args in
     let did = e .event .result in
     steps-less (now (a .input)) (did .more) (did .place) (h .loop .more) (h .loop .from) (both-true (h .loop .more) _ (taken t) .0)
-    (next-on _ (now (a .input)) (h .loop .from) _ (e .event .ensures (a .link .size) (as-sound h) (h .loop .inv .1) .goes))
+    (next-on _ (now (a .input)) (h .loop .from) _ (e .event .ensures .goes))
 
 loop-again : tie.Need-loop-again Inv-loop μ-loop
 loop-again c =
-    let e = c .before .before in
+    let e = c .before .before .before in
     let t = took e in
     let h = t .before .before in
     let a = begun h .args in
-    let happens = e .event .ensures (a .link .size) (as-sound h) (h .loop .inv .1) in (
+    let happens = e .event .ensures in (
       laying-on _ (now (a .input)) (a .place) (now (a .out)) _ _ _ (e .event .result .laid) _ (h .loop .inv .0) (happens .goes) (taken t)
           (happens .lays .0) (omega (arith, happens .lays .1, room t, h .loop .inv .0 .long)),
       happens .shape,

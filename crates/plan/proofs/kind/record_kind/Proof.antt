@@ -45,10 +45,24 @@ kind-row-requires-6 c κs = search needs
 
 returns-6 : tie.Need-returns-6
 unfolding recordKind
-returns-6 c =
+returns-6 c = rw (c .before .match .keys6) (c .kind-row6 .ensures)
+
+kind-row-requires-7 : tie.Need-kind-row-requires-7
+kind-row-requires-7 c κs = search needs
+
+returns-7 : tie.Need-returns-7
+unfolding recordKind
+returns-7 c =
     let r = c .before .match .rest in
-    rw (ne-eqb _ _ (r .0 .0 .0 .0 .1), ne-eqb _ _ (r .0 .0 .0 .1), ne-eqb _ _ (r .0 .0 .1), ne-eqb _ _ (r .0 .1), ne-eqb _ _ (r .1))
-    (c .kind-row6 .ensures)
+    rw (
+      ne-eqb _ _ (r .0 .0 .0 .0 .0 .1),
+      ne-eqb _ _ (r .0 .0 .0 .0 .1),
+      ne-eqb _ _ (r .0 .0 .0 .1),
+      ne-eqb _ _ (r .0 .0 .1),
+      ne-eqb _ _ (r .0 .1),
+      ne-eqb _ _ (r .1),
+    )
+    (c .kind-row7 .ensures)
 
 pub record-kind-spec : {M : Type 1} → statement M
 record-kind-spec =
@@ -60,9 +74,11 @@ record-kind-spec =
     kind-row-requires-4
     kind-row-requires-5
     kind-row-requires-6
+    kind-row-requires-7
     returns
     returns-2
     returns-3
     returns-4
     returns-5
-    returns-6)
+    returns-6
+    returns-7)

@@ -2,7 +2,7 @@
 use mathlib.Core.Path.{sym, _∙_}
 use Prim.Native.Nat.{_-_}
 use native.Mathlib.Omega.{arith}
-use Rattle.plan.proofs.Reading.{ReadTo, read-none, read-stop, read-end, read-onward}
+use Rattle.plan.proofs.Reading.{ReadTo, start-no-rule, read-none, read-stop, read-end, read-onward}
 use borrow.Author.Needs.{needs}
 use Rattle.plan.proofs.reader.read_records.Statement.{statement}
 use Rattle.plan.proofs.reader.read_records.Tie as tie
@@ -13,14 +13,19 @@ Inv-loop input tree₀ place₀ tree place = ReadTo input tree place
 abbrev μ-loop : tie.MeasureT-loop
 μ-loop input tree₀ place₀ tree place = 64 - tree .count
 
+read-opening-requires : tie.Need-read-opening-requires Inv-loop μ-loop
+read-opening-requires c κs = search needs
+
 none-requires : tie.Need-none-requires Inv-loop μ-loop
 none-requires c κs = search needs
 
 loop-holds : tie.Need-loop-holds Inv-loop μ-loop
-loop-holds c = rw (c .none .ensures) (read-none _)
+loop-holds c = rw (c .none .ensures, c .before .read-opening .ensures .0, c .before .read-opening .ensures .1) (read-none _)
 
 take-record-requires : tie.Need-take-record-requires Inv-loop μ-loop
-take-record-requires c κs = c .loop .inv .within
+take-record-requires c κs =
+    let r = c .loop .inv in
+    (r .within, λ z. start-no-rule _ (c .loop .tree .count) (sym (r .at) ∙ z))
 
 enum-known-next : tie.Need-enum-known-next Inv-loop μ-loop
 enum-known-next c = search needs
@@ -42,7 +47,7 @@ add-used : tie.Need-add-used Inv-loop μ-loop
 add-used c =
     let f = c .before .before in
     let says = rw (c .enum-told .given .1) at (f .take-record .ensures) in
-    omega (arith, says .2, f .before .before .before .before .good .0 .0)
+    omega (arith, says .2, f .before .before .before .before .before .good .0 .0)
 
 returns-2 : tie.Need-returns-2 Inv-loop μ-loop
 returns-2 c =
@@ -74,6 +79,7 @@ read-records-spec =
     (tie.spec
     Inv-loop
     μ-loop
+    read-opening-requires
     none-requires
     loop-holds
     take-record-requires

@@ -4,7 +4,7 @@ use native.Mathlib.Omega.{arith}
 use denote.Ref.{now}
 use lib.ListN.{length, length-drop, drop}
 use Rattle.plan.proofs.Records.{there-length}
-use Rattle.plan.proofs.Reading.{rest-part, record-missing, record-unknown, record-cut, whole-to-step}
+use Rattle.plan.proofs.Reading.{rest-part, record-missing, record-unknown, record-cut, rule-stops, whole-to-step}
 use borrow.Author.Needs.{needs}
 use Rattle.plan.proofs.reader.take_record.Statement.{statement}
 use Rattle.plan.proofs.reader.take_record.Tie as tie
@@ -48,7 +48,13 @@ take-whole-requires c κs =
     let st = f .before .before .before in
     let s = now (st .args .input) in
     let says = rw (c .before .before .h .given .1) at (f .read-head .ensures) in
-    (says .2, says .3, omega (arith, ap length (rest-part s (st .args .place)), length-drop (st .args .place) s, st .good .0 .0))
+    let whole = rw (rest-part s (st .args .place)) at says in
+    let stops = rule-stops s (st .args .place) (st .pre .1) (whole .0) (whole .1) (whole .2) in (
+      says .2,
+      says .3,
+      omega (arith, ap length (rest-part s (st .args .place)), length-drop (st .args .place) s, st .good .0 .0),
+      rw (rest-part s (st .args .place)) stops,
+    )
 
 returns : tie.Need-returns
 returns c =
@@ -82,7 +88,7 @@ returns-4 c =
     let place = st .args .place in
     let says = rw (c .before .before .before .h .given .1, rest-part s place) at (f .read-head .ensures) in
     let done = rw (rest-part s place) at (c .take-whole .ensures) in
-    whole-to-step s place (st .args .tree) (c .take-whole .result .tree) (c .take-whole .result .next) (st .pre)
+    whole-to-step s place (st .args .tree) (c .take-whole .result .tree) (c .take-whole .result .next) (st .pre .0)
     (says .0) (says .1) (says .2) (there-length (drop place s) (says .0)) done
 
 pub take-record-spec : {M : Type 1} → statement M

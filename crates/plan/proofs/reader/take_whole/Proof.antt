@@ -10,7 +10,7 @@ use Rattle.plan.specs.declared.kind.RecordKind.{RecordKind}
 use Rattle.plan.specs.Kind.{givesClass, givesLeaf}
 use Rattle.plan.specs.Record.{kindAt, bodyOf, classOf, classAt}
 use Rattle.plan.proofs.Records.{class-body, body-part, body-length, whole-length}
-use Rattle.plan.proofs.Reading.{class-to-whole}
+use Rattle.plan.proofs.Reading.{class-to-whole, plain-to-whole}
 use borrow.Author.Needs.{needs}
 use Rattle.plan.proofs.reader.take_whole.Statement.{statement}
 use Rattle.plan.proofs.reader.take_whole.Tie as tie
@@ -43,8 +43,17 @@ class-read c =
 gives-class-requires : tie.Need-gives-class-requires
 gives-class-requires c κs = search needs
 
+no-class-requires : tie.Need-no-class-requires
+no-class-requires c κs = search needs
+
 returns : tie.Need-returns
-returns c = ap givesClass (sym (c .before .before .before .pre .1)) ∙ sym (c .before .gives-class .ensures) ∙ not-true _ (c .if1 .taken)
+returns c =
+    let i = c .before in
+    let st = i .before .before .before in
+    let s = now (st .args .rest) in
+    let off = ap givesClass (sym (st .pre .1)) ∙ sym (i .before .gives-class .ensures) ∙ not-true _ (i .if1 .taken) in
+    let says = rw (st .pre .1) at (c .no-class .ensures) in
+    plain-to-whole s (st .args .place) (st .args .tree) (c .no-class .result .tree) (c .no-class .result .next) off (st .pre .3) says
 
 record-length-requires : tie.Need-record-length-requires
 record-length-requires c κs = search needs
@@ -101,6 +110,7 @@ take-whole-spec =
     tie.close
     (tie.spec
     gives-class-requires
+    no-class-requires
     returns
     record-length-requires
     gives-leaf-requires

@@ -1,4 +1,5 @@
 -- `speed::opening::open_times` meets its contract.
+use mathlib.Core.Bool.{false}
 use mathlib.Core.Path.{_≡_, sym, ap, _∙_}
 use Prim.Native.Nat.{ℕ, _-_, _≤_}
 use native.Mathlib.Omega.{arith}
@@ -11,12 +12,16 @@ use Rattle.speed.proofs.opening.open_times.Statement.{statement}
 use Rattle.speed.proofs.opening.open_times.Tie as tie
 
 abbrev Inv-loop : tie.InvT-loop
-Inv-loop link times tree held balance₀ residual₀ active₀ place₀ n₀ balance residual active place n =
+Inv-loop link times tree size held balance₀ residual₀ active₀ place₀ n₀ balance residual active place n =
     (n ≤ times) × Opened link n (lentLink (link .tree) (link .size) active place balance residual (link .start) (link .held) (link .lengths)
     (link .tags))
 
 abbrev μ-loop : tie.MeasureT-loop
-μ-loop link times tree held balance₀ residual₀ active₀ place₀ n₀ balance residual active place n = times - n
+μ-loop link times tree size held balance₀ residual₀ active₀ place₀ n₀ balance residual active place n = times - n
+
+-- the plan is one of rule 1
+ruled : (h : tie.At-loop Inv-loop μ-loop) → h .before .before .before .before .before .before .before .args .link .tree .follows ≡ false
+ruled h = h .before .before .before .before .before .before .before .pre .1
 
 balances-requires : tie.Need-balances-requires Inv-loop μ-loop
 balances-requires c κs = search needs
@@ -27,17 +32,17 @@ residuals-requires c κs = search needs
 loop-holds : tie.Need-loop-holds Inv-loop μ-loop
 loop-holds c =
     let b = c .before in
-    let st = b .before .before .before .before in
+    let st = b .before .before .before .before .before in
     let l = st .args .link in (
       omega arith,
-      opened-apart l (st .pre) (sym (length-map (l .accounts) _) ∙ st .good .0 .1 .1 .1 .1 .1 .1 .0 .1 .0 .1) _ _
+      opened-apart l (st .pre .0) (sym (length-map (l .accounts) _) ∙ st .good .0 .1 .1 .1 .1 .1 .1 .0 .1 .0 .1) _ _
           (b .balances .ensures) (c .residuals .ensures),
     )
 
 open-next-requires : tie.Need-open-next-requires Inv-loop μ-loop
 open-next-requires c κs =
     let h = c .before .before .before .before in
-    (_, opened-parts _ _ _ (h .loop .inv .1))
+    ((_, opened-parts _ _ _ (h .loop .inv .1)), ruled h)
 
 add-n : tie.Need-add-n Inv-loop μ-loop
 add-n c = omega (arith, c .before .before .before .before .loop-test .taken)
@@ -50,7 +55,7 @@ loop-again c =
     let g = c .before .before .before .before in
     let h = g .before in (
       omega (arith, g .loop-test .taken),
-      opened-more _ _ (h .loop .n) _ (h .loop .inv .1) (c .open-next .ensures _ (opened-parts _ _ _ (h .loop .inv .1))),
+      opened-more _ _ (h .loop .n) _ (h .loop .inv .1) (ruled h) (c .open-next .ensures _ (opened-parts _ _ _ (h .loop .inv .1))),
     )
 
 zipped-requires : tie.Need-zipped-requires Inv-loop μ-loop
@@ -62,8 +67,8 @@ returns : tie.Need-returns Inv-loop μ-loop
 returns c =
     let g = c .before .before .before in
     let h = g .before in
-    let l = h .before .before .before .before .before .before .args .link in
-    let e : h .loop .n ≡ h .before .before .before .before .before .before .args .times =
+    let l = h .before .before .before .before .before .before .before .args .link in
+    let e : h .loop .n ≡ h .before .before .before .before .before .before .before .args .times =
     omega (arith, g .loop-test .left, h .loop .inv .0) in
     rw (c .zipped .ensures) (h .loop .inv .1 .same ∙ ap (λ (n : ℕ). openedTimes n l) e)
 

@@ -13,7 +13,9 @@ is-sound-requires : tie.Need-is-sound-requires
 is-sound-requires c κs = search needs
 
 root-left-requires : tie.Need-root-left-requires
-root-left-requires c κs = c .before .is-sound .ensures .sound (c .if1 .taken)
+root-left-requires c κs =
+    let s = c .before in
+    (s .is-sound .ensures .sound (c .if2 .taken), s .before .if1 .left)
 
 returns : tie.Need-returns
 returns c = search needs
@@ -21,7 +23,10 @@ returns c = search needs
 returns-2 : tie.Need-returns-2
 returns-2 c = search needs
 
+returns-3 : tie.Need-returns-3
+returns-3 c = search needs
+
 pub speed-openings-spec : {M : Type 1} → statement M
 speed-openings-spec =
     tie.close
-    (tie.spec read-plan-requires fresh-requires is-sound-requires root-left-requires returns returns-2)
+    (tie.spec read-plan-requires fresh-requires returns is-sound-requires root-left-requires returns-2 returns-3)

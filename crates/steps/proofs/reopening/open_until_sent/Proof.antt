@@ -9,18 +9,18 @@ use Rattle.steps.proofs.reopening.open_until_sent.Statement.{statement}
 use Rattle.steps.proofs.reopening.open_until_sent.Tie as tie
 
 abbrev Inv-loop : tie.InvT-loop
-Inv-loop tree active sums balance₀ residual₀ start lengths leaves rounds₀ balance residual rounds =
-    (k : Unseen) → Opens tree k active balance₀ residual₀ start lengths
-    → UnderWay (closedLink tree k balance₀ residual₀ start lengths) tree k active balance residual start lengths rounds
+Inv-loop tree active sums balance₀ residual₀ start lengths leaves rounds₀ in-force₀ balance residual rounds in-force =
+    (k : Unseen) → Opens tree in-force₀ k active balance₀ residual₀ start lengths
+    → UnderWay (closedLink tree in-force₀ k balance₀ residual₀ start lengths) tree in-force k active balance residual start lengths rounds
 
 abbrev μ-loop : tie.MeasureT-loop
-μ-loop tree active sums balance₀ residual₀ start lengths leaves rounds₀ balance residual rounds = 3 - rounds
+μ-loop tree active sums balance₀ residual₀ start lengths leaves rounds₀ in-force₀ balance residual rounds in-force = 3 - rounds
 
 both-requires : tie.Need-both-requires Inv-loop μ-loop
 both-requires c κs = search needs
 
 loop-holds : tie.Need-loop-holds Inv-loop μ-loop
-loop-holds c = λ k o. under-starts _ k _ _ _ _ _ o
+loop-holds c = λ k o. under-starts _ _ k _ _ _ _ _ o
 
 open-round-requires : tie.Need-open-round-requires Inv-loop μ-loop
 open-round-requires c κs =
@@ -40,7 +40,7 @@ next-leaf-requires c κs =
     let h = o .before .before .before in
     let st = h .before .before in
     let w = h .loop .inv (st .pre .0 .0) (st .pre .0 .1) in
-    (omega arith, parts-low _ _ (under-parts _ _ w _ _ (o .open-round .ensures)))
+    (omega arith, parts-low _ _ (under-parts _ _ w _ _ _ (o .open-round .ensures)))
 
 returns : tie.Need-returns Inv-loop μ-loop
 returns c =
@@ -50,8 +50,8 @@ returns c =
     let b = h .before in (
       λ k q.
           let w = h .loop .inv k q in
-          under-finds _ _ w _ _ (o .open-round .ensures) _
-          (f .next-leaf .ensures _ (parts-searched _ _ (under-parts _ _ w _ _ (o .open-round .ensures)) _ (b .both .ensures))),
+          under-finds _ _ w _ _ _ (o .open-round .ensures) _
+          (f .next-leaf .ensures _ (parts-searched _ _ (under-parts _ _ w _ _ _ (o .open-round .ensures)) _ (b .both .ensures))),
       (c .if1 .taken, refl),
     )
 
@@ -69,8 +69,8 @@ loop-again c =
     let b = h .before in
     λ k q.
     let w = h .loop .inv k q in
-    under-on _ _ w _ _ (o .open-round .ensures) _
-    (f .next-leaf .ensures _ (parts-searched _ _ (under-parts _ _ w _ _ (o .open-round .ensures)) _ (b .both .ensures))) (c .if1 .left)
+    under-on _ _ w _ _ _ (o .open-round .ensures) _
+    (f .next-leaf .ensures _ (parts-searched _ _ (under-parts _ _ w _ _ _ (o .open-round .ensures)) _ (b .both .ensures))) (c .if1 .left)
 
 pub open-until-sent-spec : {M : Type 1} → statement M
 open-until-sent-spec =

@@ -5,6 +5,7 @@ use mathlib.Core.Path.{_≡_, sym, ap, subst, _∙_}
 use Prim.Native.Nat.{ℕ}
 use borrow.Author.Tests.{not-true, not-false}
 use Rattle.sets.specs.Set.{has}
+use Rattle.units.specs.declared.Bytes.{Bytes}
 use Rattle.units.specs.declared.Weight.{Weight}
 use Rattle.tree.specs.declared.Tree.{Tree}
 use Rattle.tree.specs.Rules.{PlanRules}
@@ -20,12 +21,12 @@ use Rattle.steps.proofs.reopening.reopened.Tie as tie
 
 -- the tree in its parts, the tree that is put together, and that they are one
 abbrev lent : tie.Start → Tree
-lent st = let a = st .args in lentTree (a .count) (a .leaves) (a .parent .now) (a .weight .now) (a .longest .now)
+lent st = let a = st .args in lentTree (a .count) (a .leaves) (a .parent .now) (a .weight .now) (a .longest .now) (a .follows)
 
 abbrev weighing : tie.Start → List Weight → Tree
 weighing st ws =
     let a = st .args in
-    record { count = a .count; leaves = a .leaves; parent = a .parent .now; weight = ws; longest = a .longest .now }
+    record { count = a .count; leaves = a .leaves; parent = a .parent .now; weight = ws; longest = a .longest .now; follows = a .follows }
 
 abbrev made : tie.After-weights-of → Tree
 made c = weighing (c .before .before) (c .weights-of .result)
@@ -34,9 +35,9 @@ same : (c : tie.After-weights-of) → made c ≡ lent (c .before .before)
 same c = ap (weighing (c .before .before)) (c .weights-of .ensures)
 
 -- what is known of it
-closed : (c : tie.After-weights-of) (k : Unseen) (b r s l : List ℕ) → Closed (lent (c .before .before)) k b r s l
-    → Closed (made c) k b r s l
-closed c k b r s l = subst (λ (t : Tree). Closed t k b r s l) (sym (same c))
+closed : (c : tie.After-weights-of) (size : Bytes) (k : Unseen) (b r s l : List ℕ) → Closed (lent (c .before .before)) size k b r s l
+    → Closed (made c) size k b r s l
+closed c size k b r s l = subst (λ (t : Tree). Closed t size k b r s l) (sym (same c))
 
 rules : (c : tie.After-weights-of) → PlanRules (made c)
 rules c = subst PlanRules (sym (same c)) (c .before .before .pre .0 .2 .parts .sound .state .fits .tree)
@@ -60,14 +61,14 @@ active-is c k e =
     c .round-active .ensures ∙ ap (λ (h : List ℕ). upward t (holdsSome t h)) (sym e)
 
 -- what is found on the one is found on the other
-finds : (c : tie.After-weights-of) (k : Unseen) (b r s l b′ r′ : List ℕ) (f : Found)
-    → Finds (closedLink (made c) k b r s l) f
-    (λ active place. lentLink (made c) (k .size) active place b′ r′ s (k .held) l (k .tags))
-    → Finds (closedLink (lent (c .before .before)) k b r s l) f
-    (λ active place. lentLink (lent (c .before .before)) (k .size) active place b′ r′ s (k .held) l (k .tags))
-finds c k b r s l b′ r′ f =
-    subst (λ (t : Tree). Finds (closedLink t k b r s l) f
-    (λ active place. lentLink t (k .size) active place b′ r′ s (k .held) l (k .tags))) (same c)
+finds : (c : tie.After-weights-of) (size : Bytes) (k : Unseen) (b r s l b′ r′ : List ℕ) (f : Found)
+    → Finds (closedLink (made c) size k b r s l) f
+    (λ after active place. lentLink (made c) after active place b′ r′ s (k .held) l (k .tags))
+    → Finds (closedLink (lent (c .before .before)) size k b r s l) f
+    (λ after active place. lentLink (lent (c .before .before)) after active place b′ r′ s (k .held) l (k .tags))
+finds c size k b r s l b′ r′ f =
+    subst (λ (t : Tree). Finds (closedLink t size k b r s l) f
+    (λ after active place. lentLink t after active place b′ r′ s (k .held) l (k .tags))) (same c)
 
 has-requires : tie.Need-has-requires
 has-requires c κs = search needs
@@ -77,7 +78,7 @@ returns c =
     let h = c .before in
     let w = h .before .before .before in
     let off = sym (h .has .ensures) ∙ not-true (h .has .result) (c .if1 .taken) in
-    λ k e q. finds w k _ _ _ _ _ _ _ (nothing-finds _ _ (closed w k _ _ _ _ q) _ (active-is (h .before) k e) off)
+    λ k e q. finds w _ k _ _ _ _ _ _ _ (nothing-finds _ _ (closed w _ k _ _ _ _ q) _ (active-is (h .before) k e) off)
 
 -- a packet waits (R119)
 root-on : (c : tie.Else1) → has (c .before .before .round-active .result) 0 ≡ true
@@ -95,7 +96,7 @@ open-until-sent-requires c κs =
     let w = i .before .before .before .before in
     let st = w .before .before in
     let is = active-is (i .before .before) (st .pre .0 .0) (st .pre .0 .1) in
-    ((_, round-opens _ _ (closed w _ _ _ _ _ (st .pre .0 .2)) _ is (root-on i)), s .sums-of .ensures)
+    ((_, round-opens _ _ (closed w _ _ _ _ _ _ (st .pre .0 .2)) _ is (root-on i)), s .sums-of .ensures)
 
 returns-2 : tie.Need-returns-2
 returns-2 c =
@@ -104,8 +105,8 @@ returns-2 c =
     let o = c .open-until-sent .ensures in
     λ k e q.
     let is = active-is (i .before .before) k e in
-    let shut = closed w k _ _ _ _ q in
-    finds w k _ _ _ _ _ _ _
+    let shut = closed w _ k _ _ _ _ q in
+    finds w _ k _ _ _ _ _ _ _
     (then-finds _ _ shut _ is (root-on i) _ _ (c .open-until-sent .result) (o .1 .0) (o .1 .1)
     (o .0 k (round-opens _ _ shut _ is (root-on i))))
 
