@@ -19,7 +19,7 @@
 #     locked, unlocked             one call at a time in target/
 #     fresh FILE NAME, due         whether FILE is built and no source of the crate NAME is newer; else $due says why
 # Statuses: 0 good, 1 refused or different, 2 bad words, 3 cannot run.
-set -euo pipefail
+set -Eeuo pipefail
 unset CDPATH
 
 me=${0##*/}
@@ -30,10 +30,10 @@ lib=$here/lib
 # The tools, as README.md names them.
 declare -A tool=(
     [rt]="the Rattle kit's command, rattle-kit-5b, which proves and builds the programs"
-    [rustc]="the Rust compiler, 1.56 or later"
-    [python3]="Python, 3.8 or later"
+    [rustc]="the Rust compiler (tried with 1.95)"
+    [python3]="Python 3 (tried with 3.11)"
     [cc]="a C compiler, which links a native program"
-    [git]="git, 2 or later"
+    [git]="git"
 )
 
 say() { printf '%s: %s\n' "$me" "$*" >&2; }
@@ -47,6 +47,10 @@ cannot() {
     if [ -n "${CANNOT_RUN:-}" ]; then printf '%s: %s\n' "$me" "$*" >>"$CANNOT_RUN"; fi
     exit 3
 }
+
+# What nobody has looked after: a file that cannot be written, a tool that fails. A command that was called has said why itself.
+trap 'fault $? "${BASH_SOURCE[0]##*/}" $LINENO' ERR
+fault() { case $1 in 2 | 3 | 141) exit "$1" ;; *) cannot "cannot go on: status $1 at line $3 of $2; is a disk full?" ;; esac; }
 
 most() { # N WORD ..
     local n=$1
@@ -264,7 +268,7 @@ writable() { # WHAT
 }
 
 locked() {
-    local file=$root/target/lock held
+    local file=$root/target/lock waited=
     if command -v flock >/dev/null; then
         { [ -e "$file" ] || : >"$file"; } 2>/dev/null || cannot "$file cannot be written"
         exec {lock_fd}<"$file"
@@ -275,15 +279,20 @@ locked() {
         return
     fi
     until mkdir "$file.held" 2>/dev/null; do
-        held=$(cat "$file.held/by" 2>/dev/null || true)
-        if [ -n "$held" ] && ! kill -0 "$held" 2>/dev/null; then
-            rm -rf "$file.held"
-            continue
+        if [ -z "$waited" ]; then say "waiting for another call that proves or builds in $root" && waited=yes; fi
+        if mkdir "$file.broken" 2>/dev/null; then
+            if holder_gone "$file.held/by"; then rm -rf "$file.held"; fi
+            rmdir "$file.broken"
         fi
-        if [ -z "${waited:-}" ]; then say "waiting for another call that proves or builds in $root" && waited=yes; fi
         sleep 0.2
     done
     printf '%s\n' $$ >"$file.held/by"
+}
+# One call at a time looks whether the holder of a lock is still there.
+holder_gone() { # FILE
+    local by
+    by=$(cat "$1" 2>/dev/null || true)
+    [ -n "$by" ] && ! kill -0 "$by" 2>/dev/null && [ ! -e "/proc/$by" ]
 }
 unlocked() {
     if [ -n "${lock_fd:-}" ]; then exec {lock_fd}<&- && lock_fd=; else rm -rf "$root/target/lock.held"; fi
