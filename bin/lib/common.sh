@@ -14,6 +14,7 @@
 #     refusal_of FILE              sets $number and $place where the last line of FILE is `stop`
 #     with_names FILE              FILE, the lines of planread, with the names of the classes
 #     in_words                     what a refusal means, from docs/refusals.md, the bytes and the text (lib/refusal.awk)
+#     refused_arrivals FILE        says what the `no` lines of a run mean
 #     show FILE ..                 FILE on standard output; cannot where it cannot be written
 #     replace FILE BY              FILE gets what BY holds, or stays as it is
 #     locked, unlocked             one call at a time in target/
@@ -26,6 +27,8 @@ me=${0##*/}
 here=$(cd "$(dirname "$(readlink -f "$0")")" && pwd -P)
 root=${here%/*}
 lib=$here/lib
+at_terminal=
+if [ -t 1 ]; then at_terminal=yes; fi
 
 # The tools, as README.md names them.
 declare -A tool=(
@@ -116,6 +119,16 @@ kept_in() { # NAME
 # Nobody gave anything: a terminal, no standard input at all, or /dev/null.
 nothing_given() { [ -t 0 ] || [ ! -e /dev/fd/0 ] || [ /dev/fd/0 -ef /dev/null ]; }
 
+# Where nothing comes for three seconds, this is said once; it goes on waiting, since a slow input is an input too.
+await_input() {
+    local turn
+    for ((turn = 0; turn < 60; turn++)); do
+        if read -r -t 0; then return; fi
+        sleep 0.05
+    done
+    say "waiting for standard input; bin/$me -h says what else it takes"
+}
+
 most_given=16777216
 
 take() { # SAMPLE [WORD]
@@ -127,6 +140,8 @@ take() { # SAMPLE [WORD]
         if [ -z "$sample" ]; then bad "no file; bin/$me -h says what it takes"; fi
         say "no file is named: this is the sample, ${sample#"$root/"}"
         word=$sample
+    else
+        await_input
     fi
     work_folder
     if [ "$word" = - ]; then
@@ -192,7 +207,7 @@ refusal_of() { # FILE
 # How wide a text or a picture may be.
 width() {
     local columns=${COLUMNS:-}
-    if [ -z "$columns" ] && [ -t 1 ]; then columns=$(tput cols 2>/dev/null || true); fi
+    if [ -z "$columns" ] && [ -n "$at_terminal" ]; then columns=$({ stty size </dev/tty | sed 's/.* //'; } 2>/dev/null || true); fi
     case $columns in '' | *[!0-9]* | ???????*) columns=108 ;; esac
     if [ "$columns" -lt 40 ]; then columns=40; fi
     if [ "$columns" -gt 108 ]; then columns=108; fi
@@ -210,6 +225,20 @@ in_words() {
     od -An -v -tu1 -N $((place + 600)) "$work/bytes" |
         NUMBER=$number PLACE=$place SIZE=$size MOST=$most TEXT=${text:+$work/given} MAP=$work/map PAGE=$root/docs/refusals.md \
             LC_ALL=C awk -f "$lib/refusal.awk"
+}
+
+# The arrivals of a run that were refused, a sentence for each number: how many, what it means, and the first of them.
+refused_arrivals() { # FILE
+    LC_ALL=C awk -v me="$me" -v page="$root/docs/refusals.md" '
+        $1 == "no" { if (!many[$5]++) first[$5] = $0 }
+        END {
+            while ((getline row < page) > 0) {
+                if (split(row, cell, / *[|] */) < 6 || !(cell[2] in many)) continue
+                n = many[cell[2]]
+                print me ": " n (n == 1 ? " arrival was" : " arrivals were") " refused by number " cell[2] ", " cell[3] "; the first: " first[cell[2]]
+                delete many[cell[2]]
+            }
+        }' "$1" >&2
 }
 
 # The lines of planread with the names of the classes, where the input was a text.
