@@ -144,7 +144,7 @@ END {
     if (number == 7 || number == 8) at_class(place)
     else if (number == 9) say("wrong: the only record is byte 0, [00], the end of the plan")
     else if (number == 10) say("wrong: the input has " ENVIRON["SIZE"] " bytes" (ENVIRON["SIZE"] > 16777216 ? " or more" : ""))
-    else if (number < 20) at_record(place)
+    else if (number <= 6) at_record(place)
     else if (place in name) say(called(place))
     if (told) say("what to do: " advice)
 }
