@@ -16,17 +16,18 @@ function value(at, count,    n) { n = 0; while (count-- > 0) n = n * 256 + byte[
 function called(c) { return "class " c (c in name ? " \"" name[c] "\"" : "") }
 
 # A record's length by its kind, and of a kind that is not known 1.
-function length_of(kind) { return events ? (kind == 16 ? 8 : 1) : kind == 1 ? 6 : kind == 2 ? 8 : 1 }
-function known(kind) { return events ? kind == 16 || kind == 17 : kind <= 2 }
+function length_of(kind) { return events ? (kind == 16 ? 8 : 1) : kind == 1 ? 6 : kind == 2 ? 8 : kind == 3 ? 2 : 1 }
+function known(kind) { return events ? kind == 16 || kind == 17 : kind <= 3 }
 
 # The records up to the place of a fault, or to the end: where each class stands, and what it says.
 function walk(until,    kind) {
-    at = classes = events = taken = 0
+    at = classes = events = taken = ruled = 0
     while (at < count && at != until && (events || classes < 64)) {
         kind = byte[at]
         if (!known(kind) || at + length_of(kind) > count) return
         if (events) taken++
         else if (kind == 0) events = 1
+        else if (kind == 3) ruled = 1
         else {
             classes++
             first[classes] = at; leaf[classes] = kind == 2; parent[classes] = byte[at + 1]; weight[classes] = value(at + 2, 4)
@@ -69,6 +70,7 @@ function text_line(at_line,    n, line) {
 
 # The fields that a cut record lacks.
 function missing(kind, there) {
+    if (kind == 3) return "rule"
     if (kind == 16) return there < 2 ? "class, length and tag" : there < 4 ? "length and tag" : "tag"
     return (there < 2 ? "parent, " : "") (there < 6 ? "weight" : "") (kind == 2 ? (there < 6 ? " and " : "") "longest" : "")
 }
@@ -91,7 +93,7 @@ function why_parent(c, up) {
 function at_record(from,    c, kind, what) {
     walk(from)
     c = classes + 1
-    what = events ? "event " taken + 1 : number == 2 ? "record " c : called(c)
+    what = events ? "event " taken + 1 : number == 2 ? "record " c : byte[from] == 3 ? "the rule" : called(c)
     text_line(line_at[from])
     if (count == 0) say("wrong: the input is empty")
     else if (from >= count) say("wrong: the input has " count " bytes, and then there is no end record")
@@ -102,15 +104,21 @@ function at_record(from,    c, kind, what) {
             say("wrong: " count - from " of its " length_of(kind) " bytes are there; not whole: " missing(kind, count - from))
         } else if (number == 2) {
             record(what, from, from, from)
-            say("wrong: kind " kind "; " (events ? "an event is 16 or 17" : "a record of a plan is 0, 1 or 2"))
+            say("wrong: kind " kind "; " (events ? "an event is 16 or 17" : "a record of a plan is 0, 1, 2 or 3"))
         } else if (number == 3) field(c, from, 0, 0, "63 classes stand before it, and no plan has more")
         else if (number == 4) field(c, from, 1, 1, stated(from, "parent", byte[from + 1]) "; " why_parent(c, byte[from + 1]))
         else if (number == 5) field(c, from, 2, 5, stated(from, "weight", value(from + 2, 4)) "; it must be from 1 to 1000000")
         else if (number == 6) field(c, from, 6, 7, stated(from, "longest", value(from + 6, 2)) "; it must be from 1 to 9216")
-        else record(what, from, -1, -1)
+        else if (number == 17) {
+            record(what, from, from + 1, from + 1)
+            say("wrong: " stated(from, "rule", byte[from + 1]) "; it must be 1, whole tree, or 2, active classes")
+        } else if (number == 18) {
+            record(what, from, from, from)
+            say("wrong: the rule is record " classes + ruled + 1 " of the plan; it must be the first")
+        } else record(what, from, -1, -1)
     }
     if (events) say("good before it: the plan" (taken ? " and " list("event", "events", taken) : ""))
-    else say("good before it: " (classes ? list("class", "classes", classes) : "nothing"))
+    else say("good before it: " (ruled ? "the rule" (classes ? " and " : "") : "") (classes ? list("class", "classes", classes) : ruled ? "" : "nothing"))
 }
 
 # A fault of a class once every record is good.
@@ -142,9 +150,9 @@ BEGIN {
 END {
     if (told) { say("number " number ": " meant); say("place " place ": " where) }
     if (number == 7 || number == 8) at_class(place)
-    else if (number == 9) say("wrong: the only record is byte 0, [00], the end of the plan")
+    else if (number == 9) say("wrong: the end of the plan, byte " (byte[0] == 3 ? "2" : "0") ", [00], and no class before it")
     else if (number == 10) say("wrong: the input has " ENVIRON["SIZE"] " bytes" (ENVIRON["SIZE"] > 16777216 ? " or more" : ""))
-    else if (number <= 6) at_record(place)
+    else if (number <= 6 || number == 17 || number == 18) at_record(place)
     else if (place in name) say(called(place))
     if (told) say("what to do: " advice)
 }

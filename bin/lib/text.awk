@@ -59,6 +59,13 @@ function class_line(    from, leaf) {
     if (leaf) put(number(w[9], "longest", 65535, 6), 2)
     mapped(from, classes)
 }
+function rule_line(word) {
+    if (classes || events || ruled++) bad("the rule stands before the classes, and once")
+    name = beyond = ""
+    put(3, 1)
+    put(number(word, "rule", 255, 17), 1)
+    mapped(place - 2, 0)
+}
 function event_line(    class, long, tag) {
     if (words != (w[1] == "in" ? 4 : 1)) bad("expected: in CLASS LENGTH TAG, or send")
     if (!events++) put(0, 1)
@@ -74,7 +81,7 @@ function event_line(    class, long, tag) {
 BEGIN {
     escapes = ENVIRON["ESCAPES"]
     map = ENVIRON["MAP"]
-    place = classes = events = 0
+    place = classes = events = ruled = 0
 }
 {
     line = $0
@@ -86,11 +93,13 @@ BEGIN {
     if (line ~ /[0-9],[0-9]/) bad("a number is digits alone, with no comma in it")
     gsub(/[:,]/, " ", line)
     words = split(line, w, " ")
-    if (words == 0 || (w[1] == "plan" && w[3] == "classes" && !classes && !events)) next
+    if (words == 0) next
+    if (w[1] == "plan" && w[3] == "classes" && !classes && !events) { if (w[words - 1] == "rule") rule_line(w[words]); next }
     if (w[1] == "class") class_line()
+    else if (w[1] == "rule" && words == 2) rule_line(w[2])
     else if (w[1] == "in" || w[1] == "send") event_line()
     else if (w[1] == "stop") bad("this is a refusal, and no plan")
-    else bad("expected a line that begins with class, in or send")
+    else bad("expected a line that begins with class, in or send, or rule 2 before them")
 }
 END {
     if (failed) exit failed
