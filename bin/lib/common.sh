@@ -9,6 +9,7 @@
 #     need TOOL ..                 cannot where a tool is missing: what it is, and which version
 #     work_folder                  $work, a folder of this call alone, gone at its end
 #     kept_in NAME                 $kept, a folder that stays, for what is worth keeping
+#     a_file WORD                  bad where the word is no file that can be read
 #     take SAMPLE [WORD]           the input that a word names, as $work/given; $given_as says what it is
 #     take_bytes SAMPLE [WORD]     the same as the bytes of a plan or a run, $work/bytes: a text is packed (lib/text.awk)
 #     refusal_of FILE              sets $number and $place where the last line of FILE is `stop`
@@ -131,6 +132,15 @@ await_input() {
 
 most_given=16777216
 
+a_file() { # WORD
+    if [ -z "$1" ]; then bad "no file: the word is empty"; fi
+    if [ -d "$1" ]; then bad "$1 is a folder, not a file"; fi
+    if [ ! -e "$1" ]; then
+        case $1 in -*) bad "$1 is neither an option nor a file; bin/$me -h says what it takes" ;; *) bad "no file $1" ;; esac
+    fi
+    if [ ! -r "$1" ]; then bad "$1 cannot be read by this user"; fi
+}
+
 take() { # SAMPLE [WORD]
     local sample=$1 word=- why
     shift
@@ -150,12 +160,7 @@ take() { # SAMPLE [WORD]
         return
     fi
     given_as=$word
-    if [ -z "$word" ]; then bad "no file: the word is empty"; fi
-    if [ -d "$word" ]; then bad "$word is a folder, not a file"; fi
-    if [ ! -e "$word" ]; then
-        case $word in -*) bad "$word is neither an option nor a file; bin/$me -h says what it takes" ;; *) bad "no file $word" ;; esac
-    fi
-    if [ ! -r "$word" ]; then bad "$word cannot be read by this user"; fi
+    a_file "$word"
     why=$(head -c $((most_given + 1)) 2>&1 <"$word" >"$work/given") || cannot "$word cannot be kept in $work: ${why#head: }"
 }
 
@@ -187,7 +192,9 @@ take_bytes() {
 pack_text() {
     local escapes
     if [ "$(wc -c <"$work/given")" -gt "$most_given" ]; then bad "$given_as is a text of more than $most_given bytes"; fi
-    if [ "$(tr -cd '\000' <"$work/given" | wc -c)" -gt 0 ]; then bad "$given_as begins as a text and has bytes 0 in it: it is neither a text nor a plan"; fi
+    if [ "$(tr -cd '\000' <"$work/given" | wc -c)" -gt 0 ]; then
+        bad "$given_as begins as a text and has bytes 0 in it: it is neither a text nor a plan"
+    fi
     ESCAPES=$work/escapes MAP=$work/map WHO=$me FROM=$given_as STRICT=${strict:-} LC_ALL=C awk -f "$lib/text.awk" <"$work/given" || exit $?
     escapes=$(cat "$work/escapes")
     # shellcheck disable=SC2059 # the bytes are escapes, made above
@@ -217,10 +224,15 @@ width() {
 # Whether letters beyond ASCII can be shown, as the locale says.
 is_utf8() { case ${LC_ALL:-${LC_CTYPE:-${LANG:-}}} in *[Uu][Tt][Ff]8* | *[Uu][Tt][Ff]-8*) return 0 ;; *) return 1 ;; esac; }
 
-# A record has 8 bytes at most and a plan 505, so what comes later is not looked at.
+# A record has 8 bytes at most and a plan 505, so what comes later is not looked at. Where the bytes were not kept, the table's row alone.
 in_words() {
     local most size
     most=$(width)
+    work_folder
+    if [ ! -e "$work/bytes" ]; then
+        NUMBER=$number PLACE=$place MOST=$most PAGE=$root/docs/refusals.md LC_ALL=C awk -f "$lib/refusal.awk" </dev/null
+        return
+    fi
     size=$(wc -c <"$work/bytes")
     od -An -v -tu1 -N $((place + 600)) "$work/bytes" |
         NUMBER=$number PLACE=$place SIZE=$size MOST=$most TEXT=${text:+$work/given} MAP=$work/map PAGE=$root/docs/refusals.md \
@@ -235,7 +247,8 @@ refused_arrivals() { # FILE
             while ((getline row < page) > 0) {
                 if (split(row, cell, / *[|] */) < 6 || !(cell[2] in many)) continue
                 n = many[cell[2]]
-                print me ": " n (n == 1 ? " arrival was" : " arrivals were") " refused by number " cell[2] ", " cell[3] "; the first: " first[cell[2]]
+                printf "%s: %d %s refused by number %s, %s; the first: %s\n", \
+                    me, n, n == 1 ? "arrival was" : "arrivals were", cell[2], cell[3], first[cell[2]]
                 delete many[cell[2]]
             }
         }' "$1" >&2
@@ -257,7 +270,9 @@ stands_on() { # NAME
     declare -gA needs=() reached=()
     local listed=()
     order=()
-    while IFS=: read -r crate on; do needs[$crate]=$on listed+=("$crate"); done < <(sed 's/#.*//; /^[[:space:]]*$/d' "${repository:-$root}/crates.txt")
+    while IFS=: read -r crate on; do
+        needs[$crate]=$on listed+=("$crate")
+    done < <(sed 's/#.*//; /^[[:space:]]*$/d' "${repository:-$root}/crates.txt")
     reached[$1]=yes
     while [ -n "$more" ]; do
         more=

@@ -1,6 +1,6 @@
 # What a refusal means, in words: the bytes of the input come as decimal numbers on standard input; NUMBER and PLACE are the refusal's,
-# PAGE has the table of the numbers, SIZE is the length of the whole input, MOST is how many columns a line may have. Where the plan was given as a text, TEXT is that text and
-# MAP has its records (lib/text.awk).
+# PAGE has the table of the numbers, SIZE is the length of the whole input (without it the table's row is all that is told), MOST says how
+# many columns a line may have. Where the plan was given as a text, TEXT is that text and MAP has its records (lib/text.awk).
 # The lines: number, place, the line of the text, the class or event with the bytes of its record and the wrong field in [ ], what is wrong
 # with it, what was good before it, what to do.
 function say(text,    word, n, i, now) {
@@ -138,7 +138,7 @@ BEGIN {
         told = 1
         meant = cell[3]; where = cell[4]; advice = cell[6]
     }
-    while ((getline row < ENVIRON["MAP"]) > 0) {
+    while (ENVIRON["MAP"] != "" && (getline row < ENVIRON["MAP"]) > 0) {
         split(row, part, "\t")
         line_at[part[1] + 0] = part[3]
         if (part[5] != "") over[part[1] + 0] = part[5]
@@ -149,6 +149,7 @@ BEGIN {
 { for (i = 1; i <= NF; i++) byte[count++] = $i + 0 }
 END {
     if (told) { say("number " number ": " meant); say("place " place ": " where) }
+    if (ENVIRON["SIZE"] == "") { if (told) say("what to do: " advice); exit }
     if (number == 7 || number == 8) at_class(place)
     else if (number == 9) say("wrong: the end of the plan, byte " (byte[0] == 3 ? "2" : "0") ", [00], and no class before it")
     else if (number == 10) say("wrong: the input has " ENVIRON["SIZE"] " bytes" (ENVIRON["SIZE"] > 16777216 ? " or more" : ""))
