@@ -29,24 +29,27 @@ use Rattle.wait.specs.Wait.{overRoundedUp, bound}
 use Rattle.wait.proofs.Credit.{Holds, bytesUpTo, lacking, mains, falling, credit-most, holds-weight}
 use Rattle.wait.proofs.RoundedUp.{up-grows, up-most}
 
--- the bound of any leaf of a sound state fits a 64-bit number: at most 32 packets of at most 9,240 charged bytes wait there, and Q is at
--- most 63,582,120
+-- a bound fits a 64-bit number: at most 32 packets of at most 9,240 charged bytes wait in a queue, and Q is at most 63,582,120
+pub bound-fits : (d w q : ℕ) → d ≤ 32 * mostCost → w ≤ 1_000_000 → q ≤ mostSize → bound d w q < 2 ^ 64
+bound-fits d w q few light size =
+    let over : overRoundedUp d w + 1 ≤ 32 * mostCost + 1_000_001 = omega (arith, up-most d w) in
+    omega (arith, mul-le-mul over size)
+
+-- that of any leaf of a sound state does
 leaf-bound-small : (s : State) (i : ℕ) → Sound s → i < 64 → isLeaf (s .tree) i ≡ true
     → bound (bytesIn (queueAt s i)) (weightOf (s .tree) i) (roundSize (s .tree)) < 2 ^ 64
 leaf-bound-small s i sound u leaf =
     let rules = sound .fits .tree in
     let is = leaf-class (s .tree) i rules u leaf in
-    let w = weightOf (s .tree) i in
-    let weight = weight-range (s .tree) i (rules .each .weights i is) .1 in
     let longest = longest-range (s .tree) i (rules .each .longests i is) leaf .1 in
     let each =
     bytes-most (queueAt s i) mostCost
     (λ j v. cost-ceiling (getD (queueAt s i) j noPacket .length) (omega (arith, longest, sound .holds i u .range leaf j v .high)))
     in
-    let size = size-ceiling (s .tree) rules in
-    let over : overRoundedUp (bytesIn (queueAt s i)) w + 1 ≤ 32 * mostCost + 1_000_001 =
-    omega (arith, up-most (bytesIn (queueAt s i)) w, weight, each, sound .holds i u .few leaf) in
-    omega (arith, mul-le-mul over size)
+    bound-fits (bytesIn (queueAt s i)) (weightOf (s .tree) i) (roundSize (s .tree))
+    (omega (arith, each, sound .holds i u .few leaf))
+    (weight-range (s .tree) i (rules .each .weights i is) .1)
+    (size-ceiling (s .tree) rules)
 
 module _ (s : State) (i : ℕ) (p : Packet) (sound : Sound s) (wide : Wide s) (u : i < 64)
     (accepted : firstBroken (arrivalChecks true s i p) ≡ Passed) where

@@ -31,23 +31,23 @@ use Rattle.wait.proofs.Accepted.{accepted-holds, starts-within, fits-64
 
 -- an arrival of packet p to class i with the answer a, that is accepted
 module _ (l : Link) (i : ℕ) (p : Packet) (a : AfterArrival) (arrives : Arrives l i p a) (accepted : a .answer .verdict ≡ Passed) where
-  sound : SoundLink l
+  pub sound : SoundLink l
   sound = accepted-sound l i p a arrives accepted
 
-  passes : firstBroken (arrivalChecks true (meaning l) i p) ≡ Passed
+  pub passes : firstBroken (arrivalChecks true (meaning l) i p) ≡ Passed
   passes =
       sym (arrival-verdict true l i p)
       ∙ ap (λ (x : AfterArrival). x .answer .verdict) (sym (arrives-as l i p a sound arrives))
       ∙ accepted
 
-  low : i < 64
+  pub low : i < 64
   low = taken-number (meaning l) i p (sound .state) passes
 
   wide : Wide (meaning l)
   wide = meaning-wide l (arrives .shape .accounts)
 
   -- the link after it, and what waits there
-  means : meaning (a .link) ≡ arrived (meaning l) i p
+  pub means : meaning (a .link) ≡ arrived (meaning l) i p
   means = left-taken l i p a sound arrives passes
 
   waiting : queueAt (arrived (meaning l) i p) i ≡ queueOf (a .link) i

@@ -1,0 +1,2 @@
+-- What a plan promises of a packet's wait (R237 to R241).
+pub mod Promise
