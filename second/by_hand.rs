@@ -9,7 +9,7 @@ use super::*;
 const WIDTH: usize = 150;
 
 /// One event of an input.
-enum Event {
+pub enum Event {
     Arrival { class: usize, length: u64, tag: u64 },
     Send,
 }
@@ -315,44 +315,61 @@ impl Page {
     }
 }
 
+/// The tree of an input, its events up to the end or the first fault, and that fault; a refused plan is the fault alone.
+pub fn events_of(input: &[u8]) -> Result<(Tree, Vec<Event>, Option<Refusal>), Refusal> {
+    let (tree, used) = read_plan(input)?;
+    let (mut events, mut first) = (Vec::new(), used);
+    loop {
+        match event_at(input, first) {
+            Ok(Some(plan::Event::Arrival(body))) => {
+                let (class, length, tag) = (big_endian(&body[0..1]) as usize, big_endian(&body[1..3]), big_endian(&body[3..7]));
+                events.push(Event::Arrival { class, length, tag });
+                first += 8;
+            }
+            Ok(Some(plan::Event::Send)) => {
+                events.push(Event::Send);
+                first += 1;
+            }
+            Ok(None) => return Ok((tree, events, None)),
+            Err(refusal) => return Ok((tree, events, Some(refusal))),
+        }
+    }
+}
+
 /// The tree and the events of an input without a fault.
 fn parts_of(input: &[u8]) -> (Tree, Vec<Event>) {
-    let (tree, used) = read_plan(input).expect("a plan that is taken");
-    let (mut events, mut first) = (Vec::new(), used);
-    while first < input.len() {
-        if input[first] == 17 {
-            events.push(Event::Send);
-            first += 1;
-            continue;
-        }
-        assert_eq!(input[first], 16, "an event at {first}");
-        let body = body_of(input, first, 7).expect("a whole arrival");
-        let (class, length, tag) = (big_endian(&body[0..1]) as usize, big_endian(&body[1..3]), big_endian(&body[3..7]));
-        events.push(Event::Arrival { class, length, tag });
-        first += 8;
-    }
+    let (tree, events, fault) = events_of(input).expect("a plan that is taken");
+    assert_eq!(fault, None, "an event");
     (tree, events)
 }
 
 /// The page's part for an input, from event `from` (counted from 1) on; its first table has the number `table`.
 pub fn tables(input: &[u8], from: usize, table: usize) -> Vec<String> {
     let (tree, events) = parts_of(input);
-    let (mut link, _) = fresh_link(&tree);
+    worked(&tree, &events, from, events.len(), table)
+}
+
+/// The events of a run from `from` to `to`, counted from 1, each worked step by step; arrivals in a row stand together.
+pub fn worked(tree: &Tree, events: &[Event], from: usize, to: usize, table: usize) -> Vec<String> {
+    let (mut link, _) = fresh_link(tree);
     let mut page = Page { lines: Vec::new(), table, rows: Vec::new() };
     let (mut lines, mut held, mut sends) = (Vec::new(), Vec::new(), 0);
-    for (position, event) in events.iter().enumerate() {
+    for (position, event) in events.iter().enumerate().take(to) {
         let before = link.clone();
         match *event {
             Event::Arrival { class, length, tag } => {
                 let taken = arrival(&mut link, class, length, tag);
-                lines.push(match taken {
+                let line = match taken {
                     Ok(()) => format!("`in {class} {length} {tag}`"),
                     Err(refusal) => format!("`no {class} {length} {tag} {}`", refusal.number),
-                });
-                if taken.is_ok() && link.active[ROOT] && !link.active[class] {
+                };
+                if position + 1 >= from {
+                    lines.push(line);
+                }
+                if position + 1 >= from && taken.is_ok() && link.active[ROOT] && !link.active[class] {
                     held.push(class);
                 }
-                let last = !matches!(events.get(position + 1), Some(Event::Arrival { .. }));
+                let last = position + 1 == to || !matches!(events.get(position + 1), Some(Event::Arrival { .. }));
                 if last && position + 1 >= from {
                     page.arrivals(&link, &lines, &held);
                 }

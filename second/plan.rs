@@ -340,6 +340,13 @@ pub fn read_input() -> std::io::Result<Vec<u8>> {
     Ok(input)
 }
 
+/// Reads all of standard input, for what has no limit.
+pub fn read_all() -> std::io::Result<Vec<u8>> {
+    let mut input = Vec::new();
+    std::io::stdin().lock().read_to_end(&mut input)?;
+    Ok(input)
+}
+
 // ---------------------------------------------------------------------------------------------
 // The reader of events, and trees that no plan gives; second.rs has the plans.
 

@@ -1,12 +1,14 @@
 //! The second, independent program for the class link, written from the customer's words only: what it quotes, and what docs/rules.md says
 //! in sentences of its own (R4 to R67, R86 to R173, R185 to R195, R200 to R202).
-//! It reads a plan and events from standard input and prints the lines of "A whole run".
+//! It reads a plan and events from standard input and prints the lines of "A whole run"; with the word `long` from input of any length.
 //! It is slow and plain on purpose: every sum is scanned again, every call is followed by a full check.
-//! With words it prints a run worked step by step, for docs/by-hand.md (see by_hand.rs).
+//! With words it prints a run worked step by step, for docs/by-hand.md (see by_hand.rs) and for the desk's own runs (see desk.rs).
 //! Build: rustc -O --edition 2021 second.rs; test: rustc -O --edition 2021 --test second.rs -o second_test
 
 #[path = "by_hand.rs"]
 mod by_hand;
+#[path = "desk.rs"]
+mod desk;
 #[path = "plan.rs"]
 mod plan;
 
@@ -616,11 +618,16 @@ fn waited(watched: &Watched, sent: u64) -> u64 {
 
 /// The whole run over an input of which at most 65,537 bytes were read.
 fn run(input: &[u8]) -> Run {
-    let mut run = Run::default();
     // "The program checks 10 before all else and then runs nothing."
     if input.len() > MOST_INPUT {
-        return run.stop(Refusal { number: 10, place: MOST_INPUT });
+        return Run::default().stop(Refusal { number: 10, place: MOST_INPUT });
     }
+    run_of_any_length(input)
+}
+
+/// The run of an input of any length: without number 10, which is the program's.
+fn run_of_any_length(input: &[u8]) -> Run {
+    let mut run = Run::default();
     // "`stop` is the only line where the plan is refused"; "the program makes no link".
     let (tree, used) = match read_plan(input) {
         Ok(plan) => plan,
@@ -671,11 +678,12 @@ fn print(run: &Run) -> std::io::Result<()> {
     Ok(())
 }
 
-/// The lines of a run worked by hand: the words are `tables FROM TABLE` or `waits FROM`.
+/// The lines of a run worked by hand: the words are `tables FROM TABLE`, `waits FROM`, `worked FROM TO` or `state EVENT`.
 fn worked(words: &[String], input: &[u8]) -> Vec<String> {
     let number = |position: usize| words.get(position).and_then(|word| word.parse().ok()).expect("tables FROM TABLE, or waits FROM");
     match words[0].as_str() {
         "tables" => by_hand::tables(input, number(1), number(2)),
+        "worked" | "state" => desk::answer(words, input),
         _ => by_hand::waits(input, number(1)),
     }
 }
@@ -683,10 +691,12 @@ fn worked(words: &[String], input: &[u8]) -> Vec<String> {
 /// Reads, runs, prints; input or output that fails ends with 1, a failed assertion (its message is on standard error) with 2.
 fn main() {
     let words: Vec<String> = std::env::args().skip(1).collect();
-    let Ok(input) = read_input() else { std::process::exit(1) };
-    let Ok(run) = std::panic::catch_unwind(|| match words.is_empty() {
-        true => run(&input),
-        false => Run { lines: worked(&words, &input), ..Run::default() },
+    let any_length = matches!(words.first().map(String::as_str), Some("long" | "worked" | "state"));
+    let Ok(input) = (if any_length { read_all() } else { read_input() }) else { std::process::exit(1) };
+    let Ok(run) = std::panic::catch_unwind(|| match words.first().map(String::as_str) {
+        None => run(&input),
+        Some("long") => run_of_any_length(&input),
+        Some(_) => Run { lines: worked(&words, &input), ..Run::default() },
     }) else {
         std::process::exit(2)
     };
