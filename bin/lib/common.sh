@@ -15,7 +15,7 @@
 #     refusal_of FILE              sets $number and $place where the last line of FILE is `stop`
 #     with_names FILE              FILE, the lines of planread, with the names of the classes
 #     in_words                     what a refusal means, from docs/refusals.md, the bytes and the text (lib/refusal.awk)
-#     refused_arrivals FILE        says what the `no` lines of a run mean
+#     refused_arrivals FILE [LAST] says what the `no` lines of a run mean; LAST gets the run's last line
 #     show FILE ..                 FILE on standard output; cannot where it cannot be written
 #     replace FILE BY              FILE gets what BY holds, or stays as it is
 #     locked, unlocked             one call at a time in target/
@@ -240,10 +240,12 @@ in_words() {
 }
 
 # The arrivals of a run that were refused, a sentence for each number: how many, what it means, and the first of them.
-refused_arrivals() { # FILE
-    LC_ALL=C awk -v me="$me" -v page="$root/docs/refusals.md" '
+refused_arrivals() { # FILE [LAST]
+    LAST=${2-} LC_ALL=C awk -v me="$me" -v page="$root/docs/refusals.md" '
         $1 == "no" { if (!many[$5]++) first[$5] = $0 }
+        { line = $0 }
         END {
+            if (ENVIRON["LAST"] != "") print line > ENVIRON["LAST"]
             while ((getline row < page) > 0) {
                 if (split(row, cell, / *[|] */) < 6 || !(cell[2] in many)) continue
                 n = many[cell[2]]

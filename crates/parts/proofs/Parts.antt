@@ -72,7 +72,7 @@ module _ (sound : Bool) (input : List ℕ) (room : ℕ) where
     pub same : partOf sound l input place room ≡ takes left sound input room p
     pub enough : p .more ≡ true → (1 ≤ left) × (length input < p .place + left)
 
-  part-first : (l : Link) (place : ℕ) → partOf sound l input place room ≡ takes (suc (length input)) sound input room (starts l place)
+  pub part-first : (l : Link) (place : ℕ) → partOf sound l input place room ≡ takes (suc (length input)) sound input room (starts l place)
   unfolding partOf
   part-first l place = refl
 
@@ -95,7 +95,7 @@ module _ (sound : Bool) (input : List ℕ) (room : ℕ) where
   part-done l place p e u = u .same ∙ takes-done (u .left) p e
 
   -- what holds of a part underway from one event to the next holds of the part
-  takes-keep : (P : Partway → Type 0) → ((p : Partway) → takesOne room p ≡ true → P p → P (onward sound input p))
+  pub takes-keep : (P : Partway → Type 0) → ((p : Partway) → takesOne room p ≡ true → P p → P (onward sound input p))
       → (n : ℕ) (p : Partway) → P p → P (takes n sound input room p)
   unfolding takes
   takes-keep P on zero p h = h
@@ -120,11 +120,11 @@ module _ (sound : Bool) (input : List ℕ) (room : ℕ) where
 -- ---- all parts put together
 
 -- one line more
-text-more : (line : Line) (rest : List Line) → printed (line ∷ rest) ≡ bytesOf line ++ printed rest
+pub text-more : (line : Line) (rest : List Line) → printed (line ∷ rest) ≡ bytesOf line ++ printed rest
 unfolding printed
 text-more line rest = refl
 
-text-none : printed [] ≡ []
+pub text-none : printed [] ≡ []
 unfolding printed
 text-none = refl
 
@@ -175,10 +175,10 @@ module _ (input : List ℕ) where
   module _
       (l : Link) (place : ℕ) (before : List ℕ) (r : PartRun) (after : List ℕ) (sound : SoundLink l)
       (p : Parts l input place before r after) where
-    part-is : r ≡ counted (partOf true l input place (length before))
+    pub part-is : r ≡ counted (partOf true l input place (length before))
     part-is = p .answer ∙ ap (λ (b : Bool). counted (partOf b l input place (length before))) (p .exactly .complete sound)
 
-    part-text : take (r .laid) after ≡ partOf true l input place (length before) .text
+    pub part-text : take (r .laid) after ≡ partOf true l input place (length before) .text
     part-text =
         let q = partOf (p .sound) l input place (length before) in
         ap₂ take (ap (λ (x : PartRun). x .laid) (p .answer)) (p .lays) ∙ take-append-seam (q .text) (drop (length (q .text)) before)

@@ -1,0 +1,2 @@
+-- A run whose input is read window by window (R243 to R248).
+pub mod Window
