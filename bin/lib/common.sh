@@ -157,6 +157,7 @@ take() { # SAMPLE [WORD]
     if [ "$word" = - ]; then
         given_as="standard input"
         why=$(head -c $((most_given + 1)) 2>&1 >"$work/given") || cannot "standard input cannot be kept in $work: ${why#head: }"
+        if [ $# = 0 ] && [ -n "$sample" ] && [ ! -s "$work/given" ]; then say "standard input is empty; bin/$me --sample shows the sample"; fi
         return
     fi
     given_as=$word

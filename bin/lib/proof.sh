@@ -3,13 +3,23 @@
 #     prove REPOSITORY NAME WORD ..  runs `rt WORD ..` there and says on standard error what it is at, or cannot; what rt says is kept in
 #                                    target/NAME.log, and $begun is a file made when it began
 
-# By RATTLE_HOME, by rt on PATH, or as the last proof found it.
+# By RATTLE_HOME, by rt on PATH, or else where the last call found it, or where rt's logs say that it was.
 kit_folder() {
-    local rt
-    kit=${RATTLE_HOME:-}
-    if [ -z "$kit" ] && rt=$(command -v rt); then kit=$(cd "$(dirname "$(readlink -f "$rt")")/.." && pwd -P); fi
-    if [ -z "$kit" ] && [ -r "$root/target/kit" ]; then kit=$(cat "$root/target/kit"); fi
-    if [ ! -d "$kit/on/$(uname -m)/toolchain" ]; then kit=; fi
+    local rt place places=()
+    if [ -n "${RATTLE_HOME:-}" ]; then
+        places=("$RATTLE_HOME")
+    elif rt=$(command -v rt); then
+        places=("$(cd "$(dirname "$(readlink -f "$rt")")/.." && pwd -P)")
+    else
+        mapfile -t places < <(
+            cat "$root/target/kit" 2>/dev/null || true
+            sed -n 's|^logic \(/.*\)/logic/antt-project[.]json: .*|\1|p' "$root"/target/log/*.say 2>/dev/null | sort -u || true
+        )
+    fi
+    kit=
+    for place in ${places[@]+"${places[@]}"}; do
+        if [ -d "$place/on/$(uname -m)/toolchain" ]; then kit=$place && return; fi
+    done
 }
 
 # What rt keeps of each crate that it has begun since $begun: `failed` while it is being proved, then `proved`, or `built` for a program.
