@@ -1,6 +1,6 @@
 # A question about a run, asked of the second program; sourced after lib/common.sh by bin/worked and bin/state.
-#     desk QUESTION MOST [FILE [EVENT ..]]   asks it of FILE, or of standard input, with at most MOST events, and shows the answer; where the
-#                                            run is refused, what comes before that, the refusal in words, and status 1
+#     desk QUESTION MOST [FILE [EVENT ..]]   asks it of FILE, or of standard input, with at most MOST events, and shows the answer; where
+#                                            the run is refused, what comes before that, the refusal in words, and status 1
 
 # The letters of the answers for a terminal without UTF-8.
 in_letters() { if is_utf8; then cat; else sed 's/├/|/g; s/│/|/g; s/└/`/g; s/─/-/g; s/÷/\//g; s/−/-/g; s/×/x/g; s/→/->/g'; fi; }
