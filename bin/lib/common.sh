@@ -8,6 +8,7 @@
 #     a_count NAME WORD LEAST MOST prints the number that a word is, or bad
 #     need TOOL ..                 cannot where a tool is missing: what it is, and which version
 #     work_folder                  $work, a folder of this call alone, gone at its end
+#     has_room                     cannot where $work takes no more
 #     kept_in NAME                 $kept, a folder that stays, for what is worth keeping
 #     a_file WORD                  bad where the word is no file that can be read
 #     take SAMPLE [WORD]           the input that a word names, as $work/given; $given_as says what it is
@@ -106,6 +107,12 @@ work_folder() {
     if [ -n "${work:-}" ]; then return; fi
     work=$(mktemp -d 2>/dev/null) || cannot "no room for temporary files in ${TMPDIR:-/tmp}"
     trap 'rm -rf "$work"' EXIT
+}
+
+# Before a difference is told: a full disk makes differences of its own.
+has_room() {
+    head -c 1048576 /dev/zero 2>/dev/null >"$work/room" || cannot "no room for temporary files in $work"
+    rm -f "$work/room"
 }
 
 # Where a comparison keeps an input that differs: $kept, in target/ or, for who may not write there, in a folder of its own.
