@@ -220,11 +220,10 @@ fn state(tree: &Tree, events: &[Event], event: usize) -> Vec<String> {
     let (link, line) = link_after(tree, &events[..event]);
     let (packets, bytes) = waits_below(&link, ROOT);
     let size = if tree.rule == ACTIVE_CLASSES { format!(", size in force {}", link.in_force) } else { String::new() };
-    let mut lines = vec![
-        format!("After event {event} of {all}: {line}"),
-        format!("Q {}{size}, place {}; waiting: packets {packets}, charged bytes {bytes}", link.size, link.place),
-        String::new(),
-    ];
+    let mut lines = wrapped(&format!("After event {event} of {all}: {line}"), "  ");
+    let moment = format!("Q {}{size}, place {}; waiting: packets {packets}, charged bytes {bytes}", link.size, link.place);
+    lines.extend(wrapped(&moment, "  "));
+    lines.push(String::new());
     let sum = link.total();
     lines.extend(classes_shown(&link));
     lines.extend([String::new(), format!("All balances and residuals: {sum}.")]);
