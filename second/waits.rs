@@ -1,10 +1,10 @@
-//! The independent program for "how long can a packet wait", written from the customer's words only: "From the acceptance of a packet, with D
-//! bytes then in its class's queue and a class of weight w, the whole link sends at most (D/w rounded up, plus 1) times Q bytes until it has
-//! gone", and "Balances, .. D, Q and the bytes sent .. use charges from now on, and Q adds the charge of each longest packet".
-//! It reads a plan from standard input and prints `wait` class alone full for each leaf in class order: the bound for the leaf's longest packet
-//! alone in its queue, and as the last of 32 such packets, which is all that a queue holds; or `stop` number place.
-//! It is plain and slow on purpose: what is rounded up is counted one by one.
-//! Build: rustc -O --edition 2021 waits.rs; test: rustc -O --edition 2021 --test waits.rs -o waits_test
+//! The independent program for "how long can a packet wait", written from the customer's words only: "From the acceptance of a packet,
+//! with D bytes then in its class's queue and a class of weight w, the whole link sends at most (D/w rounded up, plus 1) times Q bytes
+//! until it has gone", and "Balances, .. D, Q and the bytes sent .. use charges from now on, and Q adds the charge of each longest
+//! packet". It reads a plan from standard input and prints `wait` class alone full for each leaf in class order: the bound for the leaf's
+//! longest packet alone in its queue, and as the last of 32 such packets, which is all that a queue holds; or `stop` number place. It is
+//! plain and slow on purpose: what is rounded up is counted one by one. Build: rustc -O --edition 2021 waits.rs; test: rustc -O --edition
+//! 2021 --test waits.rs -o waits_test
 
 #[path = "plan.rs"]
 mod plan;

@@ -6,7 +6,7 @@ use Prim.Native.Nat.{ℕ}
 use Rattle.sets.specs.Set.{has}
 use Rattle.tree.specs.declared.Tree.{Tree}
 use Rattle.tree.specs.Class.{isLeaf}
-use Rattle.state.specs.Queue.{table}
+use Rattle.tree.specs.Sum.{table}
 use Rattle.rules.specs.Active.{upward, weightSum}
 
 -- a set of classes that is its leaves and every class above one

@@ -11,7 +11,7 @@ ghost use Rattle.rules.specs.Steps.{holdsSome};
 ghost use Rattle.rules.specs.Active.{upward, weightSums};
 ghost use Rattle.tree.specs.Class.{noWeight, isLeaf};
 ghost use Rattle.tree.specs.Rules.{PlanRules};
-ghost use Rattle.state.specs.Queue.{table};
+ghost use Rattle.tree.specs.Sum.{table};
 ghost use Rattle.active.specs.Known.{Raised, Kept};
 ghost use Rattle.rules.specs.Sizes.{activeSize};
 ghost use Rattle.units.specs.Cost.{costOf};
@@ -25,7 +25,7 @@ fn waiting_leaves(leaves: u64, held: &[u8; 64]) -> u64
 {
     let mut waiting: u64 = 0;
     let mut i: usize = 0;
-    while i < 64 {
+    while i < Tree::CLASSES {
         waiting = sets::with_if(waiting, i, 1 <= held[i]);
         i += 1;
     }
@@ -104,7 +104,7 @@ pub fn weight_numbers(weights: [Weight; Tree::CLASSES]) -> [u32; 64]
 {
     let mut out = [0u32; 64];
     let mut i: usize = 0;
-    while i < 64 {
+    while i < Tree::CLASSES {
         let w = weights[i];
         out[i] = number(w);
         i += 1;
@@ -119,7 +119,7 @@ pub fn weights_of(numbers: &[u32; 64]) -> [Weight; Tree::CLASSES]
     let none = Weight(0);
     let mut out = [none; Tree::CLASSES];
     let mut i: usize = 0;
-    while i < 64 {
+    while i < Tree::CLASSES {
         out[i] = Weight(numbers[i]);
         i += 1;
     }

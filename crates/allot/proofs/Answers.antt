@@ -10,16 +10,17 @@ use Rattle.checks.specs.declared.Verdict.the-variants.{Passed, Refused}
 use Rattle.checks.specs.Check.{check, firstBroken, classByClass, Exactly}
 use Rattle.checks.proofs.Laws.{not-both, passed-parts, classes-each}
 use Rattle.tree.specs.declared.Tree.{Tree}
-use Rattle.tree.specs.Class.{parentOf, weightOf, isLeaf}
+use Rattle.tree.specs.Class.{parentOf, weightOf, isLeaf, childrenSum}
 use Rattle.tree.specs.Rules.{PlanRules}
 use Rattle.tree.proofs.Classes.{class-range}
 use Rattle.allot.specs.declared.Allotted.{Allotted}
 use Rattle.allot.specs.declared.Shares.{Shares}
 use Rattle.allot.specs.Request.{entry, requestOf}
-use Rattle.allot.specs.Share.{ofChildren, shareAt, Fits, Largest}
-use Rattle.allot.specs.Rates.{RootOrInner, Child, SharedBy}
+use Rattle.allot.specs.Share.{shareAt, Fits, Largest}
+use Rattle.allot.specs.Rates.{Child, SharedBy}
+use Rattle.tree.specs.Below.{Above}
 use Rattle.allot.specs.Answer.{badCapacity, badRequest, requestChecks, rangeChecks, rateChecks, nothingAllotted, Tables, Rates}
-use Rattle.allot.specs.Steps.{InRange, Requested, Settled, childGets}
+use Rattle.allot.specs.Steps.{RequestsInRange, Requested, Settled, childGets}
 use Rattle.allot.proofs.Fair.{parent-inner, children-same}
 use Rattle.allot.proofs.Requests.{requests-add}
 use Rattle.allot.proofs.Settling.{gets-within}
@@ -38,10 +39,10 @@ pub largest-same : (t : Tree) (x y : ℕ → ℕ) (p has f : ℕ) → ((i : ℕ)
     → Largest (Fits t y p has) f
 largest-same t x y p has f e l = record { holds = omega (arith, same f, l .holds); most = λ g h. l .most g (omega (arith, same g)) }
   where
-    same : (g : ℕ) → ofChildren t (shareAt t x g) p ≡ ofChildren t (shareAt t y g) p
+    same : (g : ℕ) → childrenSum t (shareAt t x g) p ≡ childrenSum t (shareAt t y g) p
     same g = children-same t (shareAt t x g) (shareAt t y g) p (λ i c. ap (λ (n : ℕ). min n (weightOf t i * g)) (e i c))
 
-module _ (t : Tree) (capacity : ℕ) (table requests : List ℕ) (s : Shares) (has : ℕ) (range : InRange t table)
+module _ (t : Tree) (capacity : ℕ) (table requests : List ℕ) (s : Shares) (has : ℕ) (range : RequestsInRange t table)
     (q : Requested t table requests) (h : has ≡ min capacity (entry requests 0)) (st : Settled t (entry requests) has (t .count) s) where
   -- a class is asked for what it requests
   asks : (p i : ℕ) → Child t p i → entry requests i ≡ requestOf t table i
@@ -71,7 +72,7 @@ module _ (t : Tree) (capacity : ℕ) (table requests : List ℕ) (s : Shares) (h
   met p i m c =
       part p i c
       ∙ gets-met (entry (s .gets) p) (entry requests p) (entry requests i) (weightOf t i) (entry (s .fair) p)
-      (omega (arith, q .each p (parent-inner t p i (range .rules) c .within)))
+      (omega (arith, q .each p (parent-inner t p i (range .rules) c .class)))
       ∙ asks p i c
 
   share : (p i : ℕ) → entry (s .gets) p < requestOf t table p → Child t p i
@@ -79,36 +80,36 @@ module _ (t : Tree) (capacity : ℕ) (table requests : List ℕ) (s : Shares) (h
   share p i m c =
       part p i c
       ∙ gets-unmet (entry (s .gets) p) (entry requests p) (entry requests i) (weightOf t i) (entry (s .fair) p)
-      (omega (arith, q .each p (parent-inner t p i (range .rules) c .within)))
+      (omega (arith, q .each p (parent-inner t p i (range .rules) c .class)))
 
-  left : (p : ℕ) → RootOrInner t p → entry (s .unallotted) p + ofChildren t (entry (s .gets)) p ≡ entry (s .gets) p
+  left : (p : ℕ) → Above t p → entry (s .unallotted) p + childrenSum t (entry (s .gets)) p ≡ entry (s .gets) p
   left p a = go (decLe (requestOf t table p) (entry (s .gets) p))
     where
-      go : Dec (requestOf t table p ≤ entry (s .gets) p) → entry (s .unallotted) p + ofChildren t (entry (s .gets)) p ≡ entry (s .gets) p
+      go : Dec (requestOf t table p ≤ entry (s .gets) p) → entry (s .unallotted) p + childrenSum t (entry (s .gets)) p ≡ entry (s .gets) p
       go (yes m) =
           omega (
             arith,
-            st .splits p (a .within) .met (omega (arith, q .each p (a .within))),
+            st .splits p (a .class) .met (omega (arith, q .each p (a .class))),
             children-same t (entry (s .gets)) (requestOf t table) p (λ i c. met p i m c),
-            requests-add t (range .rules) table p (a .within) (a .no-leaf),
-            most p (a .within),
-            q .each p (a .within),
+            requests-add t (range .rules) table p (a .inner),
+            most p (a .class),
+            q .each p (a .class),
           )
       go (no m) =
           omega (
             arith,
-            st .splits p (a .within) .rest (a .no-leaf) (omega (arith, q .each p (a .within))),
+            st .splits p (a .class) .rest (a .inner) (omega (arith, q .each p (a .class))),
             children-same t (entry (s .gets)) (shareAt t (entry requests) (entry (s .fair) p)) p (λ i c. share p i (omega arith) c),
           )
 
-  unmet : (p : ℕ) → RootOrInner t p → entry (s .gets) p < requestOf t table p
+  unmet : (p : ℕ) → Above t p → entry (s .gets) p < requestOf t table p
       → (f : ℕ) × SharedBy t (requestOf t table) (entry (s .gets)) p f
   unmet p a m = (
     entry (s .fair) p,
     record {
       largest =
           largest-same t (entry requests) (requestOf t table) p (entry (s .gets) p) (entry (s .fair) p) (λ i c. asks p i c)
-          (st .splits p (a .within) .unmet (a .no-leaf) (omega (arith, q .each p (a .within))));
+          (st .splits p (a .class) .unmet (a .inner) (omega (arith, q .each p (a .class))));
       each = λ i c. share p i m c ∙ ap (λ (n : ℕ). min n (weightOf t i * entry (s .fair) p)) (asks p i c);
     },
   )
@@ -167,7 +168,7 @@ passed-rules t capacity table r a e =
 
 -- and every leaf's request is in range
 pub passed-in-range : (t : Tree) (capacity : ℕ) (table : List ℕ) → PlanRules t → firstBroken (rangeChecks t capacity table) ≡ Passed
-    → InRange t table
+    → RequestsInRange t table
 unfolding badRequest
 passed-in-range t capacity table rules e = record {
   rules = rules;

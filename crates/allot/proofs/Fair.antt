@@ -11,15 +11,16 @@ use native.Mathlib.Omega.{arith}
 use lib.Dec.{ltb}
 use borrow.Author.Tests.{eqb-true, ltb-false}
 use Rattle.tree.specs.declared.Tree.{Tree}
-use Rattle.tree.specs.Class.{parentOf, weightOf, isChild}
+use Rattle.tree.specs.Class.{parentOf, weightOf, isChild, ofChild, childrenSum}
 use Rattle.tree.specs.Rules.{PlanRules}
 use Rattle.tree.specs.Sum.{sumTo}
 use Rattle.tree.proofs.Classes.{class-in, class-range}
 use Rattle.tree.proofs.Rules.{parent-lower, parent-no-leaf, weight-range}
 use Rattle.tree.proofs.Sums.{sum-same, sum-within, sum-zero, sum-add}
-use Rattle.allot.specs.Share.{ofChild, ofChildren, shareAt, Fits, Largest, unmetChild, unmetWeight}
+use Rattle.allot.specs.Share.{shareAt, Fits, Largest, unmetAt, unmetWeight}
 use Rattle.allot.specs.Request.{entry}
-use Rattle.allot.specs.Rates.{RootOrInner, Child}
+use Rattle.allot.specs.Rates.{Child}
+use Rattle.tree.specs.Below.{Above}
 use Rattle.allot.specs.Steps.{Adding}
 
 -- ---- sums over the children of a class
@@ -29,23 +30,23 @@ unfolding isChild
 child-of t p i l u e = record { class = class-in t i l u; parent = eqb-true (parentOf t i) p e }
 
 -- the parent of a class is the root or an inner class
-pub parent-inner : (t : Tree) (p i : ℕ) → PlanRules t → Child t p i → RootOrInner t p
+pub parent-inner : (t : Tree) (p i : ℕ) → PlanRules t → Child t p i → Above t p
 parent-inner t p i rules c = record {
-  within = omega (arith, c .parent, parent-lower t i rules (c .class), class-range t i (c .class) .1);
-  no-leaf = rw (c .parent) at (parent-no-leaf t i rules (c .class));
+  class = omega (arith, c .parent, parent-lower t i rules (c .class), class-range t i (c .class) .1);
+  inner = rw (c .parent) at (parent-no-leaf t i rules (c .class));
 }
 
 -- compared child by child
-pub children-within : (t : Tree) (x y : ℕ → ℕ) (p : ℕ) → ((i : ℕ) → Child t p i → x i ≤ y i) → ofChildren t x p ≤ ofChildren t y p
-unfolding ofChildren ofChild
+pub children-within : (t : Tree) (x y : ℕ → ℕ) (p : ℕ) → ((i : ℕ) → Child t p i → x i ≤ y i) → childrenSum t x p ≤ childrenSum t y p
+unfolding childrenSum ofChild
 children-within t x y p h = sum-within (ofChild t x p) (ofChild t y p) (t .count) (λ i l u. go i l u (isChild t p i) refl)
   where
     go : (i : ℕ) → 1 ≤ i → i ≤ t .count → (b : Bool) → isChild t p i ≡ b → cond b (x i) 0 ≤ cond b (y i) 0
     go i l u true e = h i (child-of t p i l u e)
     go i l u false e = zero-le
 
-pub children-same : (t : Tree) (x y : ℕ → ℕ) (p : ℕ) → ((i : ℕ) → Child t p i → x i ≡ y i) → ofChildren t x p ≡ ofChildren t y p
-unfolding ofChildren ofChild
+pub children-same : (t : Tree) (x y : ℕ → ℕ) (p : ℕ) → ((i : ℕ) → Child t p i → x i ≡ y i) → childrenSum t x p ≡ childrenSum t y p
+unfolding childrenSum ofChild
 children-same t x y p h = sum-same (ofChild t x p) (ofChild t y p) (t .count) (λ i l u. go i l u (isChild t p i) refl)
   where
     go : (i : ℕ) → 1 ≤ i → i ≤ t .count → (b : Bool) → isChild t p i ≡ b → cond b (x i) 0 ≡ cond b (y i) 0
@@ -63,7 +64,7 @@ sum-smaller f c (suc n) = omega (arith, sum-smaller f c n)
 module _ (t : Tree) (request : ℕ → ℕ) (p has : ℕ) where
   -- 0 fits
   pub fits-zero : Fits t request p has 0
-  unfolding ofChildren ofChild
+  unfolding childrenSum ofChild
   fits-zero =
       let e = sum-zero (ofChild t (shareAt t request 0) p) (t .count) (λ i l u. go i (isChild t p i)) in
       omega arith
@@ -81,7 +82,7 @@ module _ (t : Tree) (request : ℕ → ℕ) (p has : ℕ) where
       )
 
   -- every number fits where the request is met
-  pub fits-met : (f : ℕ) → ofChildren t request p ≤ has → Fits t request p has f
+  pub fits-met : (f : ℕ) → childrenSum t request p ≤ has → Fits t request p has f
   fits-met f h = omega (arith, children-within t (shareAt t request f) request p (λ i c. omega arith))
 
   -- a number that fits while the next does not is the largest
@@ -93,10 +94,10 @@ module _ (t : Tree) (request : ℕ → ℕ) (p has : ℕ) where
       go g k (no l) = absurd (n (fits-lower (f + 1) g (omega arith) k))
 
   -- and the next number is too large
-  pub next-too-large : (f : ℕ) → Largest (Fits t request p has) f → has < ofChildren t (shareAt t request (f + 1)) p
-  next-too-large f l = go (decLe (ofChildren t (shareAt t request (f + 1)) p) has)
+  pub next-too-large : (f : ℕ) → Largest (Fits t request p has) f → has < childrenSum t (shareAt t request (f + 1)) p
+  next-too-large f l = go (decLe (childrenSum t (shareAt t request (f + 1)) p) has)
     where
-      go : Dec (Fits t request p has (f + 1)) → has < ofChildren t (shareAt t request (f + 1)) p
+      go : Dec (Fits t request p has (f + 1)) → has < childrenSum t (shareAt t request (f + 1)) p
       go (yes h) = absurd (omega (arith, l .most (f + 1) h))
       go (no h) = omega arith
 
@@ -104,7 +105,7 @@ module _ (t : Tree) (request : ℕ → ℕ) (p has : ℕ) where
   pub fair-unique : (f g : ℕ) → Largest (Fits t request p has) f → Largest (Fits t request p has) g → f ≡ g
   fair-unique f g a b = omega (arith, a .most g (b .holds), b .most f (a .holds))
 
-  module _ (rules : PlanRules t) (unmet : has < ofChildren t request p) where
+  module _ (rules : PlanRules t) (unmet : has < childrenSum t request p) where
     -- a child gets at least the smaller of its request and F, since its weight is at least 1
     share-least : (f i : ℕ) → 1 ≤ i → i ≤ t .count → min (ofChild t request p i) f ≤ ofChild t (shareAt t request f) p i
     unfolding ofChild
@@ -116,7 +117,7 @@ module _ (t : Tree) (request : ℕ → ℕ) (p has : ℕ) where
 
     -- so what the class has plus 1 does not fit
     pub top-too-large : Fits t request p has (has + 1) → ⊥
-    unfolding ofChildren
+    unfolding childrenSum
     top-too-large h =
         let all = sum-smaller (ofChild t request p) (has + 1) (t .count) in
         let each =
@@ -131,7 +132,7 @@ module _ (t : Tree) (request : ℕ → ℕ) (p has : ℕ) where
       where
         go : (n : ℕ) → (Fits t request p has n → ⊥) → (f : ℕ) × Largest (Fits t request p has) f
         go zero none = absurd (none fits-zero)
-        go (suc n) none = on (decLe (ofChildren t (shareAt t request n) p) has) (λ h. go n h)
+        go (suc n) none = on (decLe (childrenSum t (shareAt t request n) p) has) (λ h. go n h)
           where
             on : Dec (Fits t request p has n) → ((Fits t request p has n → ⊥) → (f : ℕ) × Largest (Fits t request p has) f)
                 → (f : ℕ) × Largest (Fits t request p has) f
@@ -147,19 +148,19 @@ module _ (t : Tree) (request : ℕ → ℕ) (p has : ℕ) where
 
 -- one more in F adds to the children's shares at most the weight of each unmet child
 pub one-more : (t : Tree) (request gets : ℕ → ℕ) (p f : ℕ) → ((i : ℕ) → Child t p i → gets i ≡ shareAt t request f i)
-    → ofChildren t (shareAt t request (f + 1)) p ≤ ofChildren t (shareAt t request f) p + unmetWeight t request gets p
-unfolding ofChildren ofChild unmetWeight unmetChild
+    → childrenSum t (shareAt t request (f + 1)) p ≤ childrenSum t (shareAt t request f) p + unmetWeight t request gets p
+unfolding childrenSum ofChild unmetWeight unmetAt
 one-more t request gets p f share =
     let next =
-    sum-within (ofChild t (shareAt t request (f + 1)) p) (λ i. ofChild t (shareAt t request f) p i + unmetChild t request gets p i)
+    sum-within (ofChild t (shareAt t request (f + 1)) p) (λ i. ofChild t (shareAt t request f) p i + ofChild t (unmetAt t request gets) p i)
     (t .count) (λ i l u. go i l u (isChild t p i) refl (ltb (gets i) (request i)) refl)
     in
-    let parts = sum-add (ofChild t (shareAt t request f) p) (unmetChild t request gets p) (t .count) in
+    let parts = sum-add (ofChild t (shareAt t request f) p) (ofChild t (unmetAt t request gets) p) (t .count) in
     omega arith
   where
     go : (i : ℕ) → 1 ≤ i → i ≤ t .count → (x : Bool) → isChild t p i ≡ x → (y : Bool) → ltb (gets i) (request i) ≡ y
         → cond x (min (request i) (weightOf t i * (f + 1))) 0
-        ≤ cond x (min (request i) (weightOf t i * f)) 0 + cond (x && y) (weightOf t i) 0
+        ≤ cond x (min (request i) (weightOf t i * f)) 0 + cond x (cond y (weightOf t i) 0) 0
     go i l u true e true g = omega arith
     go i l u true e false g = omega (arith, ltb-false (gets i) (request i) g, share i (child-of t p i l u e))
     go i l u false e y g = zero-le

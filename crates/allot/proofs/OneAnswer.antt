@@ -14,26 +14,26 @@ use Rattle.checks.specs.Check.{Check, check, firstBroken}
 use Rattle.checks.proofs.Laws.{refused-or-passed, not-true-and-false, exactly-unique, classes-same}
 use Rattle.tree.specs.declared.Tree.{Tree}
 use Rattle.tree.specs.Class.{parentOf, weightOf, isClass, isLeaf}
-use Rattle.tree.specs.Below.{atOrBelow}
+use Rattle.tree.specs.Below.{atOrBelow, leafBelow, leavesSum, Above}
 use Rattle.tree.specs.Rules.{PlanRules}
 use Rattle.tree.specs.Sum.{sumTo}
 use Rattle.tree.proofs.Classes.{class-in, class-range}
 use Rattle.tree.proofs.Rules.{parent-lower}
 use Rattle.tree.proofs.Sums.{sum-same}
 use Rattle.allot.specs.declared.Allotted.{Allotted}
-use Rattle.allot.specs.Request.{entry, leafBelow, requestOf, SameAtLeaves}
+use Rattle.allot.specs.Request.{entry, requestOf, SameAtLeaves}
 use Rattle.allot.specs.Share.{Fits, Largest}
-use Rattle.allot.specs.Rates.{RootOrInner, Child, Allots}
+use Rattle.allot.specs.Rates.{Child, Allots}
 use Rattle.allot.specs.Answer.{badCapacity, badRequest, requestChecks, rateChecks, Tables, Rates}
 use Rattle.allot.proofs.Fair.{parent-inner, children-same, fair-unique}
-use Rattle.allot.proofs.Requests.{root-no-leaf}
+use Rattle.tree.proofs.Leaves.{root-no-leaf}
 use Rattle.allot.proofs.Answers.{largest-same, passed-rules}
 
 -- ---- only the leaves' entries are read
 
 -- two tables that agree at the leaves give the same requests
 same-requests : (t : Tree) (x y : List ℕ) → PlanRules t → SameAtLeaves t x y → (i : ℕ) → i ≤ t .count → requestOf t x i ≡ requestOf t y i
-unfolding requestOf leafBelow
+unfolding requestOf leavesSum leafBelow
 same-requests t x y rules same i u = go (isLeaf t i) refl
   where
     leaf : (j : ℕ) → isClass t j ≡ true → (a b : Bool) → isLeaf t j ≡ a → cond (a && b) (entry x j) 0 ≡ cond (a && b) (entry y j) 0
@@ -46,10 +46,10 @@ same-requests t x y rules same i u = go (isLeaf t i) refl
     least e (no z) = omega arith
 
     go : (b : Bool) → isLeaf t i ≡ b
-        → cond b (entry x i) (sumTo (leafBelow t x i) (t .count)) ≡ cond b (entry y i) (sumTo (leafBelow t y i) (t .count))
+        → cond b (entry x i) (leavesSum t (entry x) i) ≡ cond b (entry y i) (leavesSum t (entry y) i)
     go true e = same .at i (class-in t i (least e (ℕ-discrete i 0)) u) e
     go false e =
-        sum-same (leafBelow t x i) (leafBelow t y i) (t .count) (λ j l v. leaf j (class-in t j l v) (isLeaf t j) (atOrBelow t i j) refl)
+        sum-same (leafBelow t (entry x) i) (leafBelow t (entry y) i) (t .count) (λ j l v. leaf j (class-in t j l v) (isLeaf t j) (atOrBelow t i j) refl)
 
 -- the same verdict
 same-verdict : (t : Tree) (capacity : ℕ) (x y : List ℕ) (obeys : Bool) → SameAtLeaves t x y
@@ -72,9 +72,9 @@ same-tables t capacity x y r rules same tables = record {
   requests = λ i u. tables .requests i u ∙ eq i u;
   allots = record {
     root = a .root ∙ ap (λ (n : ℕ). min capacity n) (eq 0 (omega arith));
-    met = λ p i m c. a .met p i (omega (arith, eq p (parent-inner t p i rules c .within))) c ∙ child p i c;
+    met = λ p i m c. a .met p i (omega (arith, eq p (parent-inner t p i rules c .class))) c ∙ child p i c;
     unmet = λ p b u.
-        let w = a .unmet p b (omega (arith, eq p (b .within))) in (
+        let w = a .unmet p b (omega (arith, eq p (b .class))) in (
           w .0,
           record {
             largest = largest-same t (requestOf t x) (requestOf t y) p (entry (r .gets) p) (w .0) (child p) (w .1 .largest);
@@ -144,7 +144,7 @@ module _ (t : Tree) (capacity : ℕ) (request gets left gets′ left′ : ℕ �
       go : (x : Bool) → isLeaf t k ≡ x → left k ≡ left′ k
       go true e = a .leaf k e ∙ sym (b .leaf k e)
       go false e =
-          let inner : RootOrInner t k = record { within = u; no-leaf = e } in
+          let inner : Above t k = record { class = u; inner = e } in
           omega (
             arith,
             a .left k inner,

@@ -7,18 +7,20 @@ use native.Mathlib.Decide.{decLe, ℕ-discrete}
 use native.Mathlib.Omega.{arith}
 use Rattle.checks.proofs.Laws.{not-true-and-false}
 use Rattle.tree.specs.declared.Tree.{Tree}
-use Rattle.tree.specs.Class.{parentOf, weightOf, isLeaf, isChild}
+use Rattle.tree.specs.Class.{parentOf, weightOf, isLeaf, isChild, ofChild, childrenSum}
 use Rattle.tree.specs.Rules.{PlanRules}
 use Rattle.tree.specs.Sum.{sumTo}
 use Rattle.tree.proofs.Classes.{class-in}
 use Rattle.tree.proofs.Sums.{sum-same, sum-zero, sum-add}
 use Rattle.tree.proofs.ByParent.{by-parent}
 use Rattle.allot.specs.Request.{requestOf}
-use Rattle.allot.specs.Share.{ofChild, ofChildren, shareAt, Fits, Largest, unmetWeight}
-use Rattle.allot.specs.Rates.{RootOrInner, Child, SharedBy, Allots}
+use Rattle.allot.specs.Share.{shareAt, Fits, Largest, unmetWeight}
+use Rattle.allot.specs.Rates.{Child, SharedBy, Allots}
+use Rattle.tree.specs.Below.{Above}
 use Rattle.allot.proofs.Fair.{child-of, parent-inner, children-same, fits-met, fair-unique, fair-exists, fair-bound}
 use Rattle.allot.proofs.Fair.{next-too-large, one-more}
-use Rattle.allot.proofs.Requests.{root-no-leaf, requests-add}
+use Rattle.tree.proofs.Leaves.{root-no-leaf}
+use Rattle.allot.proofs.Requests.{requests-add}
 
 -- F of a class: it exists, it is at most what the class has, and it is the only one
 pub record OneF (t : Tree) (request : ℕ → ℕ) (p has : ℕ) : Type 0 where
@@ -29,7 +31,7 @@ pub record OneF (t : Tree) (request : ℕ → ℕ) (p has : ℕ) : Type 0 where
 
 module _ (t : Tree) (table : List ℕ) (rules : PlanRules t) where
   -- so it is at each class whose request is not met, whatever it has
-  pub one-f : (p has : ℕ) → RootOrInner t p → has < requestOf t table p → OneF t (requestOf t table) p has
+  pub one-f : (p has : ℕ) → Above t p → has < requestOf t table p → OneF t (requestOf t table) p has
   one-f p has a u = record {
     f = found .0;
     largest = found .1;
@@ -37,15 +39,15 @@ module _ (t : Tree) (table : List ℕ) (rules : PlanRules t) where
     only = λ g l. fair-unique t (requestOf t table) p has g (found .0) l (found .1);
   }
     where
-      unmet : has < ofChildren t (requestOf t table) p
-      unmet = omega (arith, requests-add t rules table p (a .within) (a .no-leaf))
+      unmet : has < childrenSum t (requestOf t table) p
+      unmet = omega (arith, requests-add t rules table p (a .inner))
 
       found : (f : ℕ) × Largest (Fits t (requestOf t table) p has) f
       found = fair-exists t (requestOf t table) p has rules unmet
 
   -- at a class whose request is met every number fits
-  pub every-f-fits : (p has f : ℕ) → RootOrInner t p → requestOf t table p ≤ has → Fits t (requestOf t table) p has f
-  every-f-fits p has f a m = fits-met t (requestOf t table) p has f (omega (arith, requests-add t rules table p (a .within) (a .no-leaf)))
+  pub every-f-fits : (p has f : ℕ) → Above t p → requestOf t table p ≤ has → Fits t (requestOf t table) p has f
+  every-f-fits p has f a m = fits-met t (requestOf t table) p has f (omega (arith, requests-add t rules table p (a .inner)))
 
 module _ (t : Tree) (capacity : ℕ) (table : List ℕ) (gets unallotted : ℕ → ℕ) (rules : PlanRules t)
     (a : Allots t capacity (requestOf t table) gets unallotted) where
@@ -87,18 +89,18 @@ module _ (t : Tree) (capacity : ℕ) (table : List ℕ) (gets unallotted : ℕ �
       cross f = omega arith
 
   -- nothing stays unallotted where the request is met
-  pub left-met : (p : ℕ) → RootOrInner t p → requestOf t table p ≤ gets p → unallotted p ≡ 0
+  pub left-met : (p : ℕ) → Above t p → requestOf t table p ≤ gets p → unallotted p ≡ 0
   left-met p b m =
       omega (
         arith,
         a .left p b,
         children-same t gets (requestOf t table) p (λ i c. a .met p i m c),
-        requests-add t rules table p (b .within) (b .no-leaf),
-        gets-most p (b .within),
+        requests-add t rules table p (b .inner),
+        gets-most p (b .class),
       )
 
   -- else less than the weight sum of the unmet children
-  pub left-unmet : (p : ℕ) → RootOrInner t p → gets p < requestOf t table p
+  pub left-unmet : (p : ℕ) → Above t p → gets p < requestOf t table p
       → unallotted p < unmetWeight t (requestOf t table) gets p
   left-unmet p b u =
       let w = a .unmet p b u in
@@ -114,27 +116,27 @@ module _ (t : Tree) (capacity : ℕ) (table : List ℕ) (gets unallotted : ℕ �
   -- all allotments to leaves and all that stays unallotted add to what the root has
   pub all-allotted : sumTo (λ i. cond (isLeaf t i) (gets i) 0) (t .count) + (unallotted 0 + sumTo unallotted (t .count))
       ≡ gets 0
-  unfolding ofChildren ofChild
+  unfolding childrenSum ofChild
   all-allotted =
-      let root = a .left 0 (record { within = omega arith; no-leaf = root-no-leaf t rules }) in
+      let root = a .left 0 (record { class = omega arith; inner = root-no-leaf t rules }) in
       let all = by-parent t gets rules in
       let each = sum-same
-      (λ p. (unallotted p + ofChildren t gets p) + cond (isLeaf t p) (gets p) 0)
+      (λ p. (unallotted p + childrenSum t gets p) + cond (isLeaf t p) (gets p) 0)
       gets (t .count) (λ p l u. at p l u (isLeaf t p) refl)
       in
-      let parts = sum-add (λ p. unallotted p + ofChildren t gets p) (λ p. cond (isLeaf t p) (gets p) 0) (t .count) in
-      let halves = sum-add unallotted (ofChildren t gets) (t .count) in
+      let parts = sum-add (λ p. unallotted p + childrenSum t gets p) (λ p. cond (isLeaf t p) (gets p) 0) (t .count) in
+      let halves = sum-add unallotted (childrenSum t gets) (t .count) in
       omega arith
     where
       -- a leaf has no children
-      none : (p : ℕ) → isLeaf t p ≡ true → ofChildren t gets p ≡ 0
+      none : (p : ℕ) → isLeaf t p ≡ true → childrenSum t gets p ≡ 0
       none p leaf = sum-zero (ofChild t gets p) (t .count) (λ i l u. child i l u (isChild t p i) refl)
         where
           child : (i : ℕ) → 1 ≤ i → i ≤ t .count → (b : Bool) → isChild t p i ≡ b → cond b (gets i) 0 ≡ 0
-          child i l u true e = absurd (not-true-and-false leaf (parent-inner t p i rules (child-of t p i l u e) .no-leaf))
+          child i l u true e = absurd (not-true-and-false leaf (parent-inner t p i rules (child-of t p i l u e) .inner))
           child i l u false e = refl
 
       at : (p : ℕ) → 1 ≤ p → p ≤ t .count → (b : Bool) → isLeaf t p ≡ b
-          → (unallotted p + ofChildren t gets p) + cond b (gets p) 0 ≡ gets p
+          → (unallotted p + childrenSum t gets p) + cond b (gets p) 0 ≡ gets p
       at p l u true e = omega (arith, none p e, a .leaf p e)
-      at p l u false e = omega (arith, a .left p (record { within = u; no-leaf = e }))
+      at p l u false e = omega (arith, a .left p (record { class = u; inner = e }))

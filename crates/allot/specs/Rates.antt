@@ -3,13 +3,9 @@ use mathlib.Core.Bool.{true, false}
 use mathlib.Core.Path.{_≡_}
 use Prim.Native.Nat.{ℕ, _+_, _≤_, _<_, min}
 use Rattle.tree.specs.declared.Tree.{Tree}
-use Rattle.tree.specs.Class.{parentOf, isClass, isLeaf}
-use Rattle.allot.specs.Share.{ofChildren, shareAt, Fits, Largest}
-
--- class p is the root or an inner class
-pub record RootOrInner (t : Tree) (p : ℕ) : Type 0 where
-  pub within : p ≤ t .count
-  pub no-leaf : isLeaf t p ≡ false
+use Rattle.tree.specs.Class.{parentOf, isClass, isLeaf, childrenSum}
+use Rattle.tree.specs.Below.{Above}
+use Rattle.allot.specs.Share.{shareAt, Fits, Largest}
 
 -- class i is a child of class p
 pub record Child (t : Tree) (p i : ℕ) : Type 0 where
@@ -29,8 +25,8 @@ pub record Allots (t : Tree) (capacity : ℕ) (request gets unallotted : ℕ →
   -- a class whose request is met meets all its children's (R72)
   pub met : (p i : ℕ) → request p ≤ gets p → Child t p i → gets i ≡ request i
   -- otherwise it shares out what it has by F (R73)
-  pub unmet : (p : ℕ) → RootOrInner t p → gets p < request p → (f : ℕ) × SharedBy t request gets p f
+  pub unmet : (p : ℕ) → Above t p → gets p < request p → (f : ℕ) × SharedBy t request gets p f
   -- what stays unallotted at the root or an inner class, and what its children get, add to what it has (R76)
-  pub left : (p : ℕ) → RootOrInner t p → unallotted p + ofChildren t gets p ≡ gets p
+  pub left : (p : ℕ) → Above t p → unallotted p + childrenSum t gets p ≡ gets p
   -- nothing stays unallotted at a leaf (R76)
   pub leaf : (i : ℕ) → isLeaf t i ≡ true → unallotted i ≡ 0

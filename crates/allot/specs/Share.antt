@@ -1,17 +1,9 @@
 -- How a class shares out what it has among its children: F, and what each child gets by it (R73, R74, R78).
-use mathlib.Core.Bool.{cond, _&&_}
+use mathlib.Core.Bool.{cond}
 use Prim.Native.Nat.{ℕ, _*_, _≤_, min}
 use lib.Dec.{ltb}
 use Rattle.tree.specs.declared.Tree.{Tree}
-use Rattle.tree.specs.Class.{weightOf, isChild}
-use Rattle.tree.specs.Sum.{sumTo}
-
--- what class i adds to a sum over the children of class p, and that sum (R73)
-unfoldable pub ofChild : Tree → (ℕ → ℕ) → ℕ → ℕ → ℕ
-ofChild t x p i = cond (isChild t p i) (x i) 0
-
-unfoldable pub ofChildren : Tree → (ℕ → ℕ) → ℕ → ℕ
-ofChildren t x p = sumTo (ofChild t x p) (t .count)
+use Rattle.tree.specs.Class.{weightOf, childrenSum}
 
 -- class i at F: min(request, weight × F) (R74)
 abbrev pub shareAt : Tree → (ℕ → ℕ) → ℕ → ℕ → ℕ
@@ -19,17 +11,16 @@ shareAt t request f i = min (request i) (weightOf t i * f)
 
 -- the children's min(request, weight × F) add to at most what class p has (R73)
 abbrev pub Fits : Tree → (ℕ → ℕ) → ℕ → ℕ → ℕ → Type 0
-Fits t request p has f = ofChildren t (shareAt t request f) p ≤ has
+Fits t request p has f = childrenSum t (shareAt t request f) p ≤ has
 
 -- f is the largest whole number for which P holds (R73)
 pub record Largest (P : ℕ → Type 0) (f : ℕ) : Type 0 where
   pub holds : P f
   pub most : (g : ℕ) → P g → g ≤ f
 
--- the weight of class i where it is a child of class p and gets less than it requests, and the weight sum of class p's unmet children
--- (R78)
-unfoldable pub unmetChild : Tree → (ℕ → ℕ) → (ℕ → ℕ) → ℕ → ℕ → ℕ
-unmetChild t request gets p i = cond (isChild t p i && ltb (gets i) (request i)) (weightOf t i) 0
+-- the weight of class i where it gets less than it requests, and the weight sum of class p's unmet children (R78)
+unfoldable pub unmetAt : Tree → (ℕ → ℕ) → (ℕ → ℕ) → ℕ → ℕ
+unmetAt t request gets i = cond (ltb (gets i) (request i)) (weightOf t i) 0
 
 unfoldable pub unmetWeight : Tree → (ℕ → ℕ) → (ℕ → ℕ) → ℕ → ℕ
-unmetWeight t request gets p = sumTo (unmetChild t request gets p) (t .count)
+unmetWeight t request gets p = childrenSum t (unmetAt t request gets) p

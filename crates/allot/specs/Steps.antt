@@ -6,15 +6,15 @@ use Prim.Native.Nat.{ℕ, _+_, _*_, _≤_, _<_, min}
 use lib.Dec.{leb}
 use lib.ListN.{length, set}
 use Rattle.tree.specs.declared.Tree.{Tree}
-use Rattle.tree.specs.Class.{parentOf, weightOf, isClass, isLeaf}
+use Rattle.tree.specs.Class.{parentOf, weightOf, isClass, isLeaf, childrenSum}
 use Rattle.tree.specs.Rules.{PlanRules}
 use Rattle.allot.specs.declared.Shares.{Shares}
 use Rattle.allot.specs.declared.Split.{Split}
 use Rattle.allot.specs.Request.{entry, requestOf}
-use Rattle.allot.specs.Share.{ofChildren, shareAt, Fits, Largest}
+use Rattle.allot.specs.Share.{shareAt, Fits, Largest}
 
 -- a tree and leaves' requests in range
-pub record InRange (t : Tree) (table : List ℕ) : Type 0 where
+pub record RequestsInRange (t : Tree) (table : List ℕ) : Type 0 where
   pub rules : PlanRules t
   pub leaves : (i : ℕ) → isClass t i ≡ true → isLeaf t i ≡ true → entry table i ≤ 1_000_000_000
 
@@ -28,14 +28,14 @@ pub record Requested (t : Tree) (table requests : List ℕ) : Type 0 where
 pub record Adding (t : Tree) (requests : List ℕ) : Type 0 where
   pub rules : PlanRules t
   pub small : (i : ℕ) → entry requests i ≤ 63_000_000_000
-  pub sums : (p : ℕ) → p ≤ t .count → isLeaf t p ≡ false → entry requests p ≡ ofChildren t (entry requests) p
+  pub sums : (p : ℕ) → p ≤ t .count → isLeaf t p ≡ false → entry requests p ≡ childrenSum t (entry requests) p
 
 -- how class p shares out what it has: F where its request is not met, and what stays unallotted
 pub record Splits (t : Tree) (request : ℕ → ℕ) (p has f left : ℕ) : Type 0 where
   pub leaf : isLeaf t p ≡ true → left ≡ 0
   pub met : request p ≤ has → left ≡ 0
   pub unmet : isLeaf t p ≡ false → has < request p → Largest (Fits t request p has) f
-  pub rest : isLeaf t p ≡ false → has < request p → left + ofChildren t (shareAt t request f) p ≡ has
+  pub rest : isLeaf t p ≡ false → has < request p → left + childrenSum t (shareAt t request f) p ≡ has
   pub small : f ≤ 63_000_000_000
 
 -- what a child gets of a class that has so much: all of its request where the class's is met, else its share at F

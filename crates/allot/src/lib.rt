@@ -9,9 +9,10 @@ ghost use lib.Dec.{eqb, ltb};
 ghost use Rattle.checks.specs.Check.{firstBroken, classByClass};
 ghost use Rattle.checks.specs.declared.Verdict.the-variants.{Passed};
 ghost use Rattle.allot.specs.Request.{entry};
-ghost use Rattle.allot.specs.Share.{ofChildren, shareAt, Fits, Largest};
+ghost use Rattle.allot.specs.Share.{shareAt, Fits, Largest};
+ghost use Rattle.tree.specs.Class.{childrenSum};
 ghost use Rattle.allot.specs.Answer.{requestChecks, rangeChecks, nothingAllotted, Tables, Rates};
-ghost use Rattle.allot.specs.Steps.{InRange, Requested, Adding, Splits, Settles, Settled, childGets};
+ghost use Rattle.allot.specs.Steps.{RequestsInRange, Requested, Adding, Splits, Settles, Settled, childGets};
 use checks::Verdict;
 use tree::Tree;
 use units::Weight;
@@ -70,7 +71,7 @@ fn child_share(parent: u8, p: usize, request: u64, weight: Weight, f: u64) -> u6
 // What the children of class p get together at F.
 fn children_get(tree: Tree, requests: [u64; Tree::CLASSES], p: usize, f: u64) -> u64
     requires { ⌜ Adding tree requests × (f ≤ 63_000_000_001) ⌝ }
-    ensures { λ r. ⌜ r ≡ ofChildren tree (shareAt tree (entry requests) f) p ⌝ }
+    ensures { λ r. ⌜ r ≡ childrenSum tree (shareAt tree (entry requests) f) p ⌝ }
 {
     let last = tree.count;
     let mut sum: u64 = 0;
@@ -86,7 +87,7 @@ fn children_get(tree: Tree, requests: [u64; Tree::CLASSES], p: usize, f: u64) ->
 
 // F of class p, whose request is not met: halving keeps a number that fits and a higher one that does not.
 fn fair_share(tree: Tree, requests: [u64; Tree::CLASSES], p: usize, has: u64) -> u64
-    requires { ⌜ Adding tree requests × (has < ofChildren tree (entry requests) p) × (has ≤ 63_000_000_000) ⌝ }
+    requires { ⌜ Adding tree requests × (has < childrenSum tree (entry requests) p) × (has ≤ 63_000_000_000) ⌝ }
     ensures { λ r. ⌜ Largest (Fits tree (entry requests) p has) r × (r ≤ has) ⌝ }
 {
     let mut low: u64 = 0;
@@ -151,7 +152,7 @@ fn settled(
 
 // What each class requests: from the highest class down, each adds itself to its parent.
 fn all_requests(tree: Tree, table: [u64; Tree::CLASSES]) -> [u64; Tree::CLASSES]
-    requires { ⌜ InRange tree table ⌝ }
+    requires { ⌜ RequestsInRange tree table ⌝ }
     ensures { λ r. ⌜ Requested tree table r ⌝ }
 {
     let mut requests = [0u64; Tree::CLASSES];
@@ -261,7 +262,7 @@ fn nothing_allotted(verdict: Verdict) -> Allotted
 
 // The rates of a tree with everything in range.
 fn allot(tree: Tree, capacity: u64, table: [u64; Tree::CLASSES]) -> Allotted
-    requires { ⌜ InRange tree table ⌝ }
+    requires { ⌜ RequestsInRange tree table ⌝ }
     ensures { λ r. ⌜ (r .verdict ≡ Passed) × Tables tree capacity table r ⌝ }
 {
     let requests = all_requests(tree, table);

@@ -18,7 +18,7 @@ use Rattle.allot.specs.Answer.{rangeChecks}
 use Rattle.allot.proofs.OneAnswer.{rates-one-answer}
 use Rattle.lines.specs.declared.Line.the-variants.{Stop}
 use Rattle.asked.specs.declared.Answer.{Answer}
-use Rattle.asked.specs.Answer.{lastOf, lineBy, linesUpTo, linesOf, OfPlan, OfInput, Answered}
+use Rattle.asked.specs.Answer.{lastOf, lineBy, linesUpTo, answerLines, OfPlan, OfInput, Answered}
 
 -- an answer from its parts
 abbrev whole : ℕ → Allotted → Answer
@@ -83,7 +83,7 @@ module _ (capacity : ℕ) (requests : List ℕ) where
   pub stop-only : (input : List ℕ) (r : Answer) (n p : ℕ)
       → Answered input capacity requests r
       → r .allotted .verdict ≡ Refused n p
-      → linesOf r ≡ Stop n p ∷ []
+      → answerLines r ≡ Stop n p ∷ []
   stop-only input r n p one refused =
       ap (linesUpTo r) (input-last (firstBroken (inputChecks (length input))) input r n p one refused)
       ∙ ap (λ (v : Verdict). lineBy v (r .allotted) 0 ∷ []) refused

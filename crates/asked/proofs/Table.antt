@@ -19,9 +19,9 @@ use Rattle.words.specs.declared.Number.{Number}
 use Rattle.words.specs.declared.Number.the-variants.{Is, No}
 use Rattle.words.specs.declared.Pair.{Pair}
 use Rattle.words.specs.declared.Pair.the-variants.{Asks, Other}
-use Rattle.words.specs.Word.{numberOf, pairOf}
+use Rattle.words.specs.Word.{wordNumber, pairOf}
 use Rattle.asked.specs.declared.Asked.{Asked}
-use Rattle.asked.specs.Asked.{heeded, heededAll, opened, askedBy}
+use Rattle.asked.specs.Asked.{heeded, heededAll, begunBy, askedBy}
 
 -- the test of a good question is not both
 not-good : false ≡ true → ⊥
@@ -123,30 +123,30 @@ same-capacity (word ∷ words) a good =
 -- a good question: its first word is the capacity, each other is CLASS=REQUEST, and class k requests what the last word that names it
 -- asks, else the capacity
 pub record GoodQuestion (word : List ℕ) (words : List (List ℕ)) (a : Asked) : Type 0 where
-  pub number : numberOf word ≡ Is (a .capacity)
+  pub number : wordNumber word ≡ Is (a .capacity)
   pub taken : AllTaken words
   pub entry : (k : ℕ) → k < 64 → getD (a .requests) k 0 ≡ lastRequest k (a .capacity) words
 
 pub good-question : (word : List ℕ) (words : List (List ℕ)) → askedBy (word ∷ words) .good ≡ true
     → GoodQuestion word words (askedBy (word ∷ words))
-good-question word words good = go (numberOf word) refl good
+good-question word words good = go (wordNumber word) refl good
   where
-    go : (n : Number) → numberOf word ≡ n → heededAll (opened n) words .good ≡ true → GoodQuestion word words (heededAll (opened n) words)
+    go : (n : Number) → wordNumber word ≡ n → heededAll (begunBy n) words .good ≡ true → GoodQuestion word words (heededAll (begunBy n) words)
     go (Is n) e g =
-        let kept : heededAll (opened (Is n)) words .capacity ≡ n = same-capacity words (opened (Is n)) g in
+        let kept : heededAll (begunBy (Is n)) words .capacity ≡ n = same-capacity words (begunBy (Is n)) g in
         record {
           number = e ∙ ap Is (sym kept);
-          taken = good-taken words (opened (Is n)) g;
+          taken = good-taken words (begunBy (Is n)) g;
           entry = λ (k : ℕ) (few : k < 64).
-              entry-last words (opened (Is n)) k (omega (arith, few, length-replicate 64 n)) g
+              entry-last words (begunBy (Is n)) k (omega (arith, few, length-replicate 64 n)) g
               ∙ ap (λ (m : ℕ). lastRequest k m words) (getD-replicate 64 k n 0 few ∙ sym kept);
         }
-    go No e g = absurd (not-good (sym (spoilt words (opened No) refl) ∙ g))
+    go No e g = absurd (not-good (sym (spoilt words (begunBy No) refl) ∙ g))
 
 -- any words of that form are a good question
-pub question-good : (word : List ℕ) (words : List (List ℕ)) (n : ℕ) → numberOf word ≡ Is n → AllTaken words
+pub question-good : (word : List ℕ) (words : List (List ℕ)) (n : ℕ) → wordNumber word ≡ Is n → AllTaken words
     → askedBy (word ∷ words) .good ≡ true
-question-good word words n e all = ap (λ (m : Number). heededAll (opened m) words .good) e ∙ taken-good words (opened (Is n)) refl all
+question-good word words n e all = ap (λ (m : Number). heededAll (begunBy m) words .good) e ∙ taken-good words (begunBy (Is n)) refl all
 
 -- a word for a class that is no leaf is taken and changes nothing (R180)
 pub no-leaf-word : (t : Tree) (capacity : ℕ) (asked : Asked) (class request : ℕ) (r s : Allotted) → isLeaf t class ≡ false

@@ -51,5 +51,5 @@ abbrev pub linesUpTo : Answer → ℕ → List Line
 linesUpTo r zero = lineOf r 0 ∷ []
 linesUpTo r (suc k) = linesUpTo r k ++ (lineOf r (suc k) ∷ [])
 
-abbrev pub linesOf : Answer → List Line
-linesOf r = linesUpTo r (r .last)
+abbrev pub answerLines : Answer → List Line
+answerLines r = linesUpTo r (r .last)

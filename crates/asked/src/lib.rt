@@ -4,8 +4,8 @@ ghost use mathlib.Core.Path.{_≡_};
 ghost use Prim.Native.Nat.{_<_};
 ghost use Rattle.checks.specs.declared.Verdict.the-variants.{Passed};
 ghost use Rattle.words.specs.declared.Pair.the-variants.{Asks};
-ghost use Rattle.words.specs.Word.{numberOf, pairOf};
-ghost use Rattle.asked.specs.Asked.{notAsked, opened, heeded};
+ghost use Rattle.words.specs.Word.{wordNumber, pairOf};
+ghost use Rattle.asked.specs.Asked.{notAsked, begunBy, heeded};
 ghost use Rattle.asked.specs.Answer.{refusedWith, lastOf, OfPlan, Answered, lineOf};
 use allot::Allotted;
 use checks::Verdict;
@@ -42,7 +42,7 @@ pub fn nothing() -> Asked
 
 // The first word: the capacity.
 pub fn open(word: &[u8]) -> Asked
-    ensures { λ r. ⌜ r ≡ opened (numberOf (now (word .entry))) ⌝ }
+    ensures { λ r. ⌜ r ≡ begunBy (wordNumber (now (word .entry))) ⌝ }
 {
     let number = words::read_number(word);
     match number {

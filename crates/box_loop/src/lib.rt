@@ -1,5 +1,5 @@
-// The box's loop: it keeps one link record and lends it to both calls. It reads what `linkrun` reads and prints the same lines (document
-// 01, "A whole run"). Serves demands 1 and 2: the record goes through the whole run in one place. `box_runs` runs it in the gate.
+// The box's loop: it keeps one link record and lends it to both calls (R164). It reads what `linkrun` reads and prints the same lines (R185 to
+// R195). Serves demands 1 and 2: the record goes through the whole run in one place. `box_runs` runs it in the gate.
 ghost use mathlib.Core.Path.{_≡_};
 ghost use Rattle.plan.specs.declared.EventRead.the-variants.{NoMore};
 ghost use Rattle.run.specs.Event.{lastLine};
@@ -42,6 +42,7 @@ fn event_at(input: &[u8], place: usize) -> Event
 {
     let rest = plan::events_after(input, place);
     let read = plan::read_event(rest, place);
+    let after = place + plan::used(read);
     match read {
         EventRead::NoMore => plain(false, place, read),
         EventRead::Arrive(a) => Event {
@@ -52,10 +53,10 @@ fn event_at(input: &[u8], place: usize) -> Event
                 length: a.length,
                 tag: a.tag,
             },
-            place: place + 8,
+            place: after,
             read,
         },
-        EventRead::SendNext => plain(true, place + 1, read),
+        EventRead::SendNext => plain(true, after, read),
         EventRead::Fault(_, _) => plain(false, place, read),
     }
 }

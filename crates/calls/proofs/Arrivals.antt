@@ -13,7 +13,7 @@ use borrow.Author.Tests.{leb-false, ltb-false, not-false}
 use Rattle.checks.specs.declared.Verdict.{Verdict}
 use Rattle.checks.specs.declared.Verdict.the-variants.{Passed, Refused}
 use Rattle.checks.specs.Check.{check, firstBroken, Exactly}
-use Rattle.checks.proofs.Laws.{not-both, not-true-and-false, refused-or-passed, decides, pass-over, passed-parts, exactly-unique}
+use Rattle.checks.proofs.Laws.{not-both, not-true-and-false, refused-or-passed, decides, pass-over, none-broken, passed-parts, exactly-unique}
 use Rattle.units.specs.Cost.{costOf}
 use Rattle.tree.specs.Class.{longestOf, isLeaf}
 use Rattle.tree.proofs.Classes.{neither-true}
@@ -23,7 +23,7 @@ use Rattle.state.specs.declared.Packet.{Packet}
 use Rattle.state.specs.Account.{balanceOf}
 use Rattle.state.specs.Queue.{Shaped, noPacket, heldOf, queueOf, putLast}
 use Rattle.state.specs.State.{State, meaning, queueAt}
-use Rattle.state.proofs.Tables.{table-length}
+use Rattle.tree.proofs.Tables.{table-length}
 use Rattle.state.proofs.Queues.{shaped-put}
 use Rattle.state.proofs.Meaning.{meaning-held, meaning-put}
 use Rattle.sound.specs.Sound.{InRange, HoldsRight, Sound, SoundLink}
@@ -41,6 +41,20 @@ unsound-number s i p = decides _ _ refl
 pub no-leaf-number : (s : State) (i : ℕ) (p : Packet) → isLeaf (s .tree) i ≡ false → firstBroken (arrivalChecks true s i p) ≡ Refused 12 i
 unfolding noLeaf
 no-leaf-number s i p f = pass-over _ _ refl ∙ decides _ _ (rw f refl)
+
+-- of a leaf it is 13 where the length is out of range, then 14 where the queue is full, and otherwise it passes
+module _ (s : State) (i : ℕ) (p : Packet) (leaf : isLeaf (s .tree) i ≡ true) where
+  pub length-number : badLength s i p ≡ true → firstBroken (arrivalChecks true s i p) ≡ Refused 13 i
+  unfolding noLeaf
+  length-number bad = pass-over _ _ refl ∙ pass-over _ _ (rw leaf refl) ∙ decides _ _ bad
+
+  pub full-number : badLength s i p ≡ false → full s i ≡ true → firstBroken (arrivalChecks true s i p) ≡ Refused 14 i
+  unfolding noLeaf
+  full-number good many = pass-over _ _ refl ∙ pass-over _ _ (rw leaf refl) ∙ pass-over _ _ good ∙ decides _ _ many
+
+  pub no-number : badLength s i p ≡ false → full s i ≡ false → firstBroken (arrivalChecks true s i p) ≡ Passed
+  unfolding noLeaf
+  no-number good few = pass-over _ _ refl ∙ pass-over _ _ (rw leaf refl) ∙ pass-over _ _ good ∙ pass-over _ _ few ∙ none-broken
 
 -- what an arrival gives, by its verdict
 pub arrival-refused : (sound : Bool) (l : Link) (i : ℕ) (p : Packet) {n q : ℕ}

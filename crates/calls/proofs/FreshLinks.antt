@@ -20,7 +20,7 @@ use Rattle.state.specs.State.{meaning, queueAt, freshLink, noLink}
 use Rattle.state.proofs.Meaning.{meaning-held, fresh-queues}
 use Rattle.state.proofs.Queues.{queue-length}
 use Rattle.sound.specs.Sound.{total, SoundLink}
-use Rattle.calls.specs.declared.Answered.{Answered}
+use Rattle.calls.specs.declared.AfterFresh.{AfterFresh}
 use Rattle.calls.specs.declared.AfterArrival.{AfterArrival}
 use Rattle.calls.specs.Arrival.{arrivalAnswer, arrivalLeaves, Arrives}
 use Rattle.calls.specs.Fresh.{freshOf, MakesFresh}
@@ -85,7 +85,7 @@ unfolding noClass
 none-not-sound s = not-true-and-false refl (s .state .fits .tree .closing .classes)
 
 -- any two answers that the contract allows are equal
-pub fresh-one-answer : (t : Tree) (a b : Answered) → MakesFresh t a → MakesFresh t b → a ≡ b
+pub fresh-one-answer : (t : Tree) (a b : AfterFresh) → MakesFresh t a → MakesFresh t b → a ≡ b
 fresh-one-answer t a b x y =
     x .answer ∙ ap (λ (o : Bool). freshOf o t) (exactly-unique (x .exactly) (y .exactly)) ∙ sym (y .answer)
 

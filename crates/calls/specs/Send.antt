@@ -27,8 +27,8 @@ abbrev pub goes : ℕ → Packet → ℕ → Departure
 goes class p rounds = record { verdict = Passed; class = class; length = p .length; tag = p .tag; rounds = rounds }
 
 -- all other numbers of a refused send are 0 (R163)
-abbrev pub refused : Verdict → Departure
-refused verdict = record { verdict = verdict; class = 0; length = 0; tag = 0; rounds = 0 }
+abbrev pub refusedSend : Verdict → Departure
+refusedSend verdict = record { verdict = verdict; class = 0; length = 0; tag = 0; rounds = 0 }
 
 -- an answer and the link after it (R164)
 abbrev pub sendLeaves : Departure → Link → AfterSend
@@ -41,7 +41,7 @@ departs l trace = sendLeaves (goes (trace .class) (trace .packet) (length (trace
 -- a refused send gives the very same record (R162, R163, R197)
 abbrev pub sendGives : Verdict → Link → AfterSend
 sendGives Passed l = departs l (traceOf (meaning l))
-sendGives (Refused n q) l = sendLeaves (refused (Refused n q)) l
+sendGives (Refused n q) l = sendLeaves (refusedSend (Refused n q)) l
 
 unfoldable pub sendOf : Bool → Link → AfterSend
 sendOf sound l = sendGives (firstBroken (sendChecks sound (meaning l))) l

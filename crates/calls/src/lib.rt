@@ -4,7 +4,7 @@ use checks::Verdict;
 use state::Link;
 
 // What a fresh link asked of a tree gives: a verdict and the link.
-pub struct Answered {
+pub struct AfterFresh {
     pub verdict: Verdict,
     pub link: Link,
 }

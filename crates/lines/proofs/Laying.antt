@@ -9,14 +9,14 @@ use Rattle.io.specs.Counts.{Counts}
 use Rattle.digits.specs.Laid.{LaidAt}
 use Rattle.digits.proofs.Laying.{over-start, laid-same, laid-as}
 use Rattle.lines.specs.declared.Line.{Line}
-use Rattle.lines.specs.Line.{numbersOf, textOf, bytesOf, Lays}
+use Rattle.lines.specs.Line.{spacedNumbers, textOf, bytesOf, Lays}
 use Rattle.lines.specs.Laid.{endOf}
 
 -- a text before the last numbers of a line
 pub laid-end : (at : ℕ) (t ns b c d : List ℕ) (m r : ℕ) → at + length t ≤ length b → LaidAt at t b m c → LaidAt m (endOf ns) c r d
     → LaidAt at (textOf t ns) b r d
 unfolding endOf
-laid-end at t ns b c d m r = laid-as at t (endOf ns) (textOf t ns) b c d m r (append-assoc t (numbersOf ns) (10 ∷ []))
+laid-end at t ns b c d m r = laid-as at t (endOf ns) (textOf t ns) b c d m r (append-assoc t (spacedNumbers ns) (10 ∷ []))
 
 -- a line's bytes laid, by its case
 pub line-at : (at : ℕ) (line same : Line) (b d : List ℕ) (r : ℕ) → line ≡ same → LaidAt at (bytesOf same) b r d

@@ -12,13 +12,13 @@ abbrev pub spaced : ℕ → List ℕ
 spaced n = 32 ∷ decimal n
 
 -- each number after one space (R165)
-abbrev pub numbersOf : List ℕ → List ℕ
-numbersOf [] = []
-numbersOf (n ∷ ns) = spaced n ++ numbersOf ns
+abbrev pub spacedNumbers : List ℕ → List ℕ
+spacedNumbers [] = []
+spacedNumbers (n ∷ ns) = spaced n ++ spacedNumbers ns
 
 -- a word, its numbers, the end of the line (R165)
 abbrev pub textOf : List ℕ → List ℕ → List ℕ
-textOf word ns = word ++ numbersOf ns ++ (10 ∷ [])
+textOf word ns = word ++ spacedNumbers ns ++ (10 ∷ [])
 
 -- the bytes of a line, its word in ASCII (R167 to R174)
 unfoldable pub bytesOf : Line → List ℕ

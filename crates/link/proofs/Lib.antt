@@ -1,3 +1,2 @@
--- Laws of the calls over numbers and over the parts of a link.
-pub mod Judging
+-- Laws of the calls over the parts of a link.
 pub mod OverParts

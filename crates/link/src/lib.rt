@@ -4,35 +4,29 @@
 // and put it together.
 // Serves demand 1 (numbers 11 to 15, a refused call hands the record back unaltered) and demand 2.
 pub use calls::AfterArrival;
+pub use calls::AfterFresh;
 pub use calls::AfterSend;
-pub use calls::Answered;
 pub use calls::Arrival;
 pub use calls::Departure;
-ghost use mathlib.Core.List.{List};
 ghost use mathlib.Core.Path.{_≡_};
-ghost use Prim.Native.Nat.{ℕ, _+_, _<_};
-ghost use lib.ListN.{getD, set};
 ghost use Rattle.calls.specs.Fresh.{MakesFresh};
 ghost use Rattle.calls.specs.Arrival.{Arrives};
-ghost use Rattle.checks.specs.declared.Verdict.the-variants.{Passed, Refused};
+ghost use Rattle.checks.specs.declared.Verdict.the-variants.{Refused};
 ghost use Rattle.state.specs.State.{linkOf};
-ghost use Rattle.calls.specs.Send.{refused, Sends};
-ghost use Rattle.link.specs.Parts.{placedAt, ArrivesIn, ArrivesAt, changedTo, goesBy, SendsIn};
+ghost use Rattle.calls.specs.Send.{refusedSend, Sends};
+ghost use Rattle.link.specs.Parts.{ArrivesIn, changedTo, goesBy, SendsIn};
 use checks::Verdict;
 use state::Account;
 use state::Link;
 use state::Packet;
-use state::queue;
 use steps::Moved;
 use tree::Tree;
 use units::Bytes;
 
-// An arrival over the parts of a link: the packets held after it, the waiting place where the packet goes, 2,048, which is no place, where
-// it is refused, and its answer. The answer stands last, here and below: the walks of the lent entries count bytes, and no other place
-// moves when it gets a field.
+// An arrival over the parts of a link: the packets held after it, and its answer. The answer stands last, here and below: the walks of the
+// lent entries count bytes, and no other place moves when it gets a field.
 pub struct Placed {
     pub held: [u8; Link::CLASSES],
-    pub at: usize,
     pub answer: Arrival,
 }
 
@@ -48,74 +42,20 @@ pub struct Changed {
 }
 
 // A fresh link of a tree, any tree.
-pub fn fresh(tree: Tree) -> Answered
+pub fn fresh(tree: Tree) -> AfterFresh
     ensures { λ r. ⌜ MakesFresh tree r ⌝ }
 {
     if !tree::is_plan(tree) {
         let verdict = Verdict::Refused(checks::NOT_SOUND, 0);
         let link = Link::none();
-        return Answered { verdict, link };
+        return AfterFresh { verdict, link };
     }
     let verdict = Verdict::Passed;
     let link = Link::fresh(tree);
-    Answered { verdict, link }
+    AfterFresh { verdict, link }
 }
 
-// A refused arrival over parts: the packet goes nowhere.
-fn nowhere(verdict: Verdict, held: [u8; Link::CLASSES]) -> Placed
-    ensures { λ r. ⌜ r ≡ placedAt verdict held 2_048 ⌝ }
-{
-    let answer = Arrival { verdict };
-    Placed {
-        answer,
-        held,
-        at: 2048,
-    }
-}
-
-// An accepted one: its leaf holds one packet more.
-fn somewhere(held: [u8; Link::CLASSES], class: usize, at: usize) -> Placed
-    requires { ⌜ (class < 64) × (getD held class 0 < 32) ⌝ }
-    ensures { λ r. ⌜ r ≡ placedAt Passed (set held class (getD held class 0 + 1)) at ⌝ }
-{
-    let mut held = held;
-    held[class] += 1;
-    let verdict = Verdict::Passed;
-    let answer = Arrival { verdict };
-    Placed { answer, held, at }
-}
-
-// An arrival over the parts of a link: any class number, any length and any tag.
-pub fn arrive_of(
-    tree: Tree,
-    size: Bytes,
-    active: u64,
-    place: usize,
-    accounts: [Account; Link::CLASSES],
-    start: [u8; Link::CLASSES],
-    held: [u8; Link::CLASSES],
-    lengths: &[u16; 2048],
-    class: usize,
-    packet: Packet,
-) -> Placed
-    ensures { λ r. ⌜ ((tags : List ℕ)
-        → ArrivesIn (linkOf tree size active place accounts start held (now (lengths .entry)) tags) class packet r) ⌝ }
-{
-    let sound = sound::is_sound_of(tree, size, active, place, accounts, start, held, lengths);
-    let leaf = sets::holds(tree.leaves, class);
-    if Link::CLASSES <= class {
-        return nowhere(steps::judge(sound, leaf, class, packet.length, 0, 0), held);
-    }
-    let h = held[class];
-    let verdict = steps::judge(sound, leaf, class, packet.length, tree.longest[class], h);
-    if let Verdict::Refused(_, _) = verdict {
-        return nowhere(verdict, held);
-    }
-    let at = queue::free_place(class, start[class], h);
-    somewhere(held, class, at)
-}
-
-// An arrival over the parts of a link, the packet laid where it goes.
+// An arrival over the parts of a link, with its waiting places lent: any class number, any length and any tag.
 pub fn arrive_in<'a>(
     tree: Tree,
     size: Bytes,
@@ -129,27 +69,27 @@ pub fn arrive_in<'a>(
     class: usize,
     packet: Packet,
 ) -> Placed
-    ensures { λ r. ⌜ ArrivesAt (linkOf tree size active place accounts start held (now (lengths .entry)) (now (tags .entry))) class packet
+    ensures { λ r. ⌜ ArrivesIn (linkOf tree size active place accounts start held (now (lengths .entry)) (now (tags .entry))) class packet
         (r .answer) (linkOf tree size active place accounts start (r .held) (now (lengths .exit)) (now (tags .exit))) ⌝ }
 {
-    let placed = arrive_of(
-        tree,
-        size,
-        active,
-        place,
-        accounts,
-        start,
-        held,
-        lengths,
+    let sound = sound::is_sound_of(tree, size, active, place, accounts, start, held, lengths);
+    let longest = tree.longest;
+    let mut after = held;
+    let answer = steps::arrive(
+        sound,
         class,
         packet,
+        tree.leaves,
+        &longest,
+        &start,
+        &mut after,
+        lengths,
+        tags,
     );
-    let at = placed.at;
-    if at < 2048 {
-        lengths[at] = packet.length;
-        tags[at] = packet.tag;
+    Placed {
+        held: after,
+        answer,
     }
-    placed
 }
 
 // An arrival: any class number, any length and any tag.
@@ -161,8 +101,9 @@ pub fn arrive(link: Link, class: usize, packet: Packet) -> AfterArrival
     let accounts = link.accounts;
     let start = link.start;
     let held = link.held;
-    let lengths = link.lengths;
-    let placed = arrive_of(
+    let mut lengths = link.lengths;
+    let mut tags = link.tags;
+    let placed = arrive_in(
         tree,
         size,
         link.active,
@@ -170,19 +111,17 @@ pub fn arrive(link: Link, class: usize, packet: Packet) -> AfterArrival
         accounts,
         start,
         held,
-        &lengths,
+        &mut lengths,
+        &mut tags,
         class,
         packet,
     );
     let answer = placed.answer;
-    let at = placed.at;
+    let held_after = placed.held;
     let mut after = link;
-    let more = placed.held;
-    after.held = more;
-    if at < 2048 {
-        after.lengths[at] = packet.length;
-        after.tags[at] = packet.tag;
-    }
+    after.held = held_after;
+    after.lengths = lengths;
+    after.tags = tags;
     AfterArrival {
         answer,
         link: after,
@@ -199,7 +138,7 @@ fn stays(
     start: [u8; Link::CLASSES],
     held: [u8; Link::CLASSES],
 ) -> Changed
-    ensures { λ r. ⌜ r ≡ changedTo (refused (Refused number 0)) active place accounts start held size ⌝ }
+    ensures { λ r. ⌜ r ≡ changedTo (refusedSend (Refused number 0)) active place accounts start held size ⌝ }
 {
     let verdict = Verdict::Refused(number, 0);
     let answer = Departure {

@@ -10,7 +10,7 @@ use Rattle.plan.specs.Reader.{planOf}
 use Rattle.plan.proofs.Numbers.{plan-rules}
 use Rattle.state.specs.declared.Link.{Link}
 use Rattle.sound.specs.Sound.{SoundLink}
-use Rattle.calls.specs.declared.Answered.{Answered}
+use Rattle.calls.specs.declared.AfterFresh.{AfterFresh}
 use Rattle.calls.specs.Fresh.{freshOf, MakesFresh}
 use Rattle.calls.specs.Run.{Call, runOf, madeIn}
 use Rattle.calls.proofs.FreshLinks.{fresh-sound}
@@ -44,7 +44,7 @@ follows l exchanges sound e run is calls =
     ap (exchangesOf exchanges l) (run-is run l sound is ∙ ap (λ (cs : List Call). madeIn (runOf true l cs)) calls) ∙ e
 
 -- a fresh link of a tree that obeys the plan rules is the rules' own
-fresh-is : (t : Tree) (r : Answered) → PlanRules t → MakesFresh t r → r ≡ freshOf true t
+fresh-is : (t : Tree) (r : AfterFresh) → PlanRules t → MakesFresh t r → r ≡ freshOf true t
 fresh-is t r rules x = x .answer ∙ ap (λ (b : Bool). freshOf b t) (x .exactly .complete rules)
 
 -- so a computed entry is right
@@ -60,7 +60,7 @@ right e same = record {
     go Passed passed same = λ fresh x.
         let t = planOf (e .input) .tree in
         let rules = plan-rules (e .input) (planOf (e .input)) refl passed in
-        subst (λ (r : Answered). Follows (r .link) (e .exchanges)) (sym (fresh-is t fresh rules x))
+        subst (λ (r : AfterFresh). Follows (r .link) (e .exchanges)) (sym (fresh-is t fresh rules x))
         (follows (freshOf true t .link) (e .exchanges) (fresh-sound t rules) same)
     go (Refused n p) refused same = sym same
 

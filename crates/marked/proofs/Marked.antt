@@ -4,15 +4,15 @@ use mathlib.Core.Path.{_≡_, refl}
 use Rattle.checks.specs.Check.{firstBroken, classByClass}
 use Rattle.sets.specs.Set.{has, with, without}
 use Rattle.units.specs.Cost.{costOf}
-use Rattle.tree.specs.Class.{isClass, isLeaf, isInner, isChild, childWeight, childrenWeight, hasChild}
-use Rattle.tree.specs.Sum.{sumTo, someTo}
+use Rattle.tree.specs.Class.{isClass, isLeaf, isInner, isChild, ofChild, childrenSum, childrenWeight, hasChild}
+use Rattle.tree.specs.Sum.{sumTo, someTo, table}
 use Rattle.tree.specs.Rules.{tooMany, badParent, badWeight, badLongest, tooHeavy, childless, noClass}
 use Rattle.tree.specs.Size.{allWeights, longestCost, allLongest, roundSize}
 use Rattle.rules.specs.Sizes.{ifActive, activeWeights, activeLongest, activeSize, mainSize}
 use Rattle.plan.specs.Kind.{recordKind}
 use Rattle.plan.specs.Record.{kindAt, missing, unknown, cut, bodyOf, ruleOf, lateRule, badRule, classAt}
 use Rattle.plan.specs.Reader.{recordChecks, ruleFirst, after, followsOf, treeOf, passes, inRow, passedOver, decidingChecks, planOf}
-use Rattle.state.specs.Queue.{table, queueOf}
+use Rattle.state.specs.Queue.{queueOf}
 use Rattle.tree.specs.Below.{climbs, atOrBelow}
 use Rattle.rules.specs.Active.{waits, someWaits, someBelow, setOf, upward, roundActive, activeChild, activeWeight, weightSum}
 use Rattle.rules.specs.Opening.{surplusAt, hasSurplus, kindOf, quotaIn, quota, due, handsDown, openedLeaf, openedInner, openedAccount}
@@ -29,7 +29,7 @@ use Rattle.marked.proofs.Computed.{exchangesOn, found, expected, all-ri
 computed : map found markedCases ≡ map expected markedCases
 unfolding markedCases found expected readOf accountsOf openingOf classesIn callsIn exchangesOf exchangesOn
     firstBroken classByClass has with without costOf
-    isClass isLeaf isInner isChild childWeight childrenWeight hasChild sumTo someTo allWeights longestCost allLongest roundSize
+    isClass isLeaf isInner isChild ofChild childrenSum childrenWeight hasChild sumTo someTo allWeights longestCost allLongest roundSize
     tooMany badParent badWeight badLongest tooHeavy childless noClass
     recordKind kindAt missing unknown cut bodyOf ruleOf lateRule badRule classAt recordChecks ruleFirst after followsOf treeOf passes
     inRow passedOver decidingChecks planOf

@@ -14,11 +14,11 @@ use Rattle.plan.specs.Reader.{planOf}
 use Rattle.state.specs.declared.Account.{Account}
 use Rattle.state.specs.declared.Link.{Link}
 use Rattle.state.specs.Account.{balanceOf, residualOf}
-use Rattle.state.specs.Queue.{table}
+use Rattle.tree.specs.Sum.{table}
 use Rattle.state.specs.State.{meaning}
 use Rattle.rules.specs.Opening.{Kind}
 use Rattle.rules.specs.Sending.{Turn}
-use Rattle.calls.specs.declared.Answered.{Answered}
+use Rattle.calls.specs.declared.AfterFresh.{AfterFresh}
 use Rattle.calls.specs.Fresh.{MakesFresh}
 use Rattle.calls.specs.Run.{Call, send, Answer, Made, made, callOf, runOf, closedIn, waitingIn, Run}
 
@@ -123,7 +123,7 @@ Follows l exchanges = (run : List Made) → Run l run → map callOf run ≡ cal
 
 -- on the fresh link of an accepted plan; of a refused plan no link is made, and there are no exchanges
 abbrev pub Runs : Verdict → PlanRead → List Exchange → Type 0
-Runs Passed read exchanges = (fresh : Answered) → MakesFresh (read .tree) fresh → Follows (fresh .link) exchanges
+Runs Passed read exchanges = (fresh : AfterFresh) → MakesFresh (read .tree) fresh → Follows (fresh .link) exchanges
 Runs (Refused n p) read exchanges = exchanges ≡ []
 
 -- an entry: the input, what the reader is to say of it, and its exchanges

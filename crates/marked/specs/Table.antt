@@ -5,7 +5,7 @@ use mathlib.Core.List.{List, [], _∷_, _++_}
 use Prim.Native.Nat.{ℕ}
 use lib.ListN.{replicate}
 use Rattle.checks.specs.declared.Verdict.the-variants.{Passed, Refused}
-use Rattle.state.specs.Queue.{table}
+use Rattle.tree.specs.Sum.{table}
 use Rattle.rules.specs.Opening.{main, surplus}
 use Rattle.calls.specs.declared.Arrival.{Arrival}
 use Rattle.calls.specs.declared.Departure.{Departure}

@@ -18,8 +18,8 @@ use Rattle.tree.proofs.Rules.{parent-no-leaf, parent-below}
 use Rattle.tree.specs.Size.{mostSize}
 use Rattle.state.specs.declared.Account.{Account}
 use Rattle.state.specs.Account.{noAccount, accountOf, fundsOf, tookQuota, handedDown}
-use Rattle.state.specs.Queue.{table}
-use Rattle.state.proofs.Tables.{table-none, table-length, table-fill, table-front, table-over, table-behind}
+use Rattle.tree.specs.Sum.{table}
+use Rattle.tree.proofs.Tables.{table-none, table-length, table-fill, table-front, table-over, table-behind}
 use Rattle.rules.specs.Active.{weightSum, weightSums}
 use Rattle.rules.specs.Opening.{Kind, kindIs, surplusAt, hasSurplus, rootOpened, rootQuota, quota, due, handsDown, openedLeaf, openedInner}
 use Rattle.rules.specs.Opening.{openedAccount, openedAccounts}
@@ -27,8 +27,8 @@ use Rattle.rules.specs.Steps.{CanOpen}
 use Rattle.rules.proofs.Sums.{sum-without, sums-at}
 use Rattle.rules.proofs.Shares.{quota-root, quota-step, quota-inactive, due-most}
 use Rattle.opening.specs.declared.Shared.{Shared}
-use Rattle.opening.specs.Parts.{zipAccounts}
-use Rattle.opening.specs.Opens.{rootShared, classShared, Opening}
+use Rattle.state.specs.Account.{zipAccounts}
+use Rattle.opening.specs.Opens.{rootShared, classShared, OpenedUpTo}
 
 abbrev both : Account → ℕ → Shared
 both a q = record { account = a; quota = q }
@@ -82,7 +82,7 @@ module _ (kind : Kind) (t : Tree) (active : ℕ) (accounts : List Account) (can 
           (dueOf (weightSum t active i) q)) q)
           (sym (quota-step kind t active accounts (can .rules) i l u))
 
-  module _ (i : ℕ) (l : 1 ≤ i) (u : i < 64) {q : List ℕ} (b r : List ℕ) (o : Opening kind t active accounts i q b r) where
+  module _ (i : ℕ) (l : 1 ≤ i) (u : i < 64) {q : List ℕ} (b r : List ℕ) (o : OpenedUpTo kind t active accounts i q b r) where
     -- there are as many accounts, the parent's quota is there, the account at hand has not opened yet
     pub opening-wide : length (zipAccounts b r) ≡ 64
     opening-wide =
@@ -110,7 +110,7 @@ module _ (kind : Kind) (t : Tree) (active : ℕ) (accounts : List Account) (can 
         → sums ≡ weightSums t active → on ≡ has active i → leaf ≡ has (t .leaves) i → d ≡ dueOf (weightOf t i) (getD q (parentOf t i) 0)
         → x ≡ accountOf (zipAccounts b r) i → s ≡ classShared on leaf (getD sums i noWeight .0) d x
         → zipAccounts b′ r′ ≡ set (zipAccounts b r) i (s .account)
-        → Opening kind t active accounts (i + 1) (set q i (s .quota)) b′ r′
+        → OpenedUpTo kind t active accounts (i + 1) (set q i (s .quota)) b′ r′
     unfolding isLeaf
     opening-on b′ r′ {s} {d} {on} {leaf} {x} sums w e f g h k y =
         let sum : getD sums i noWeight .0 ≡ weightSum t active i = ap (λ (xs : List Weight). getD xs i noWeight .0) w
@@ -129,7 +129,7 @@ pub opening-starts : (surplus : Bool) (t : Tree) (active : ℕ) (accounts : List
     → (b r : List ℕ) {s : Shared} {x : Account} (sums : List Weight)
     → sums ≡ weightSums t active → x ≡ accountOf accounts 0 → s ≡ rootShared surplus (getD sums 0 noWeight .0) x
     → zipAccounts b r ≡ set accounts 0 (s .account)
-    → Opening (kindIs surplus) t active accounts 1 (set (replicate 64 0) 0 (s .quota)) b r
+    → OpenedUpTo (kindIs surplus) t active accounts 1 (set (replicate 64 0) 0 (s .quota)) b r
 unfolding openedAccount
 opening-starts surplus t active accounts can b r {s} {x} sums w h k y =
     let sum : getD sums 0 noWeight .0 ≡ weightSum t active 0 = ap (λ (xs : List Weight). getD xs 0 noWeight .0) w
@@ -148,7 +148,7 @@ opening-starts surplus t active accounts can b r {s} {x} sums w h k y =
 -- and ends with all
 pub opening-ends : (kind : Kind) (t : Tree) (active : ℕ) (accounts : List Account) → CanOpen t active accounts → (i : ℕ) → i ≡ 64
     → {q : List ℕ} (b r : List ℕ)
-    → Opening kind t active accounts i q b r → zipAccounts b r ≡ openedAccounts kind t active accounts
+    → OpenedUpTo kind t active accounts i q b r → zipAccounts b r ≡ openedAccounts kind t active accounts
 unfolding openedAccounts
 opening-ends kind t active accounts can i e b r o =
     let end : length accounts ≤ 64 = omega (arith, can .many) in

@@ -1,3 +1,2 @@
 -- What a round's opening says, over number arrays.
-pub mod Parts
 pub mod Opens

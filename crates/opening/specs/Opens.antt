@@ -8,10 +8,10 @@ use Rattle.units.specs.Unit.{dueOf, quotaOf}
 use Rattle.tree.specs.declared.Tree.{Tree}
 use Rattle.state.specs.declared.Account.{Account}
 use Rattle.state.specs.Account.{fundsOf, tookQuota, handedDown}
-use Rattle.state.specs.Queue.{table}
+use Rattle.tree.specs.Sum.{table}
 use Rattle.rules.specs.Opening.{Kind, kindOf, sizeIn, resized, quota, openedAccount, openedAccounts}
 use Rattle.opening.specs.declared.Shared.{Shared}
-use Rattle.opening.specs.Parts.{zipAccounts}
+use Rattle.state.specs.Account.{zipAccounts}
 
 -- an account that takes its due and shares out what it has over a weight sum
 abbrev pub sharedOut : ℕ → Account → ℕ → Shared
@@ -36,6 +36,6 @@ pub record OpensWith (t : Tree) (active size : ℕ) (accounts : List Account) (n
       (resized (kindOf t active accounts) size (sizeIn (kindOf t active accounts) t active size) accounts)
 
 -- the opening has come to class i
-pub record Opening (kind : Kind) (t : Tree) (active : ℕ) (accounts : List Account) (i : ℕ) (quotas balance residual : List ℕ) : Type 0 where
+pub record OpenedUpTo (kind : Kind) (t : Tree) (active : ℕ) (accounts : List Account) (i : ℕ) (quotas balance residual : List ℕ) : Type 0 where
   pub shares : quotas ≡ table (quota kind t active accounts) i ++ replicate (64 - i) 0
   pub opened : zipAccounts balance residual ≡ table (openedAccount kind t active accounts) i ++ drop i accounts

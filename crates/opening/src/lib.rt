@@ -1,18 +1,10 @@
-// A round opens: main or surplus, and what each account then shares out. The accounts as lent arrays stand in the module. Named for
+// A round opens: main or surplus, and what each account then shares out, the accounts as lent arrays (`state::lent_accounts`). Named for
 // specs/Opens. Serves demand 2.
-mod accounts;
-
-pub use accounts::account_of;
-pub use accounts::balances;
-pub use accounts::keep;
-pub use accounts::keep_balance;
-pub use accounts::residuals;
-pub use accounts::zipped;
 ghost use mathlib.Core.Path.{_≡_};
 ghost use mathlib.Core.Bool.{false, not, _&&_};
 ghost use lib.ListN.{length};
 ghost use Prim.Native.Nat.{_+_, _*_, _≤_};
-ghost use Rattle.state.specs.Account.{accountOf, fundsOf};
+ghost use Rattle.state.specs.Account.{accountOf, fundsOf, zipAccounts};
 ghost use Rattle.rules.specs.Steps.{CanOpen, CanResize};
 ghost use Rattle.tree.specs.Rules.{PlanRules};
 ghost use Rattle.rules.specs.Active.{weightSums};
@@ -20,10 +12,11 @@ ghost use Rattle.tree.specs.Size.{mostSize, SizeRight};
 ghost use Rattle.rules.specs.Opening.{kindIs, kindOf, sizeIn, resized, openedAccounts};
 ghost use Rattle.opening.specs.Opens.{sharedOut, rootShared, classShared, OpensWith};
 ghost use Rattle.units.specs.Unit.{surplusOf};
-ghost use Rattle.opening.specs.Parts.{zipAccounts};
 use active::active_size;
 use state::Account;
 use state::Link;
+use state::lent_accounts::account_of;
+use state::lent_accounts::keep;
 use tree::Tree;
 use units::Bytes;
 use units::Weight;
@@ -98,7 +91,7 @@ fn open_accounts(
     let first = root.account;
     keep(0, first, balance, residual);
     let mut i: usize = 1;
-    while i < 64 {
+    while i < Link::CLASSES {
         let p = tree.parent[i] as usize;
         let w = tree.weight[i];
         let s = sums[i];

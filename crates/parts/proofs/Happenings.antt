@@ -4,97 +4,60 @@ use mathlib.Core.List.{List}
 use mathlib.Core.Path.{_≡_, refl, sym, ap, ap₂, subst, _∙_}
 use Prim.Native.Nat.{ℕ, _+_}
 use lib.ListN.{drop, getD}
-use Rattle.checks.specs.declared.Verdict.{Verdict}
-use Rattle.checks.specs.declared.Verdict.the-variants.{Passed, Refused}
-use Rattle.checks.specs.Check.{Exactly, check, firstBroken}
-use Rattle.checks.proofs.Laws.{decides}
+use Rattle.checks.specs.declared.Verdict.the-variants.{Refused}
+use Rattle.checks.specs.Check.{Exactly}
 use Rattle.units.specs.declared.Bytes.{Bytes}
 use Rattle.tree.specs.declared.Tree.{Tree}
-use Rattle.tree.specs.Class.{longestOf, isLeaf}
-use Rattle.tree.specs.Sum.{sumTo}
-use Rattle.tree.proofs.Rules.{leaf-number}
+use Rattle.tree.specs.Sum.{sumTo, table}
 use Rattle.plan.specs.declared.Arrived.{Arrived}
 use Rattle.plan.specs.declared.EventRead.the-variants.{NoMore, Arrive, SendNext, Fault}
-use Rattle.plan.specs.Event.{eventAt}
+use Rattle.plan.specs.Event.{usedOf, eventAt}
 use Rattle.state.specs.declared.Link.{Link}
 use Rattle.state.specs.declared.Packet.{Packet}
 use Rattle.state.specs.declared.Account.{Account}
 use Rattle.state.specs.Account.{balanceOf, residualOf}
-use Rattle.state.specs.Queue.{Shaped, heldOf, table}
+use Rattle.state.specs.Queue.{Shaped}
 use Rattle.state.specs.State.{meaning, linkOf}
 use Rattle.sound.specs.Sound.{SoundLink}
 use Rattle.rules.specs.Active.{someWaits}
 use Rattle.rules.specs.After.{Sent}
+use Rattle.calls.specs.declared.Arrival.{Arrival}
 use Rattle.calls.specs.declared.AfterArrival.{AfterArrival}
 use Rattle.calls.specs.declared.Departure.{Departure}
 use Rattle.calls.specs.declared.AfterSend.{AfterSend}
-use Rattle.calls.specs.Arrival.{arrivalChecks, arrivalGives, arrivalOf, arrivalAnswer, arrivalLeaves}
-use Rattle.calls.specs.Send.{goes, refused, sendOf, sendLeaves}
+use Rattle.calls.specs.Send.{goes, refusedSend, sendOf, sendLeaves}
 use Rattle.calls.specs.Run.{Call, arrival, send, linkLeft, makes}
 use Rattle.calls.proofs.Arrivals.{arrival-shaped}
 use Rattle.calls.proofs.Departures.{send-unsound, send-goes, send-nothing, send-shaped}
 use Rattle.calls.proofs.Runs.{rules-meet}
-use Rattle.link.proofs.Judging.{same-checks, no-leaf-checks}
 use Rattle.lines.specs.declared.Line.{Line}
 use Rattle.lines.specs.declared.Line.the-variants.{Out, Nothing, End, Stop}
 use Rattle.steps.specs.declared.Went.{Went}
 use Rattle.steps.specs.Parts.{lentLink}
-use Rattle.steps.specs.Arrivals.{judgeChecks, putWhere, Judged}
+use Rattle.steps.specs.Arrivals.{ArrivesOn}
 use Rattle.steps.specs.Rounds.{sentWhere, Departs}
 use Rattle.steps.proofs.Wholes.{in-lists}
-use Rattle.run.specs.Event.{arrivalLine, sendLine, packetIn, callLine}
+use Rattle.run.specs.Event.{arrivalLine, sendLine, packetIn, callLine, stepBy}
 use Rattle.parts.specs.Steps.{LaysLine, ArrivesAs, wentSays, DepartsAs, Happens}
 use Rattle.run.proofs.Events.{gives-by, waiting-means}
 
 -- ---- an arrival
 
-module _ (sound : Bool) (l : Link) (i : ℕ) (p : Packet) (exactly : Exactly sound (SoundLink l)) where
-  -- what the step judges, and what the call does
-  abbrev judged : Verdict
-  judged = firstBroken (judgeChecks sound (isLeaf (l .tree) i) i (p .length) (longestOf (l .tree) i) (heldOf l i))
-
-  abbrev answered : Verdict
-  answered = firstBroken (arrivalChecks sound (meaning l) i p)
-
-  -- the numbers that the step reads are those of the meaning; on a record that is not sound neither reads any
-  checks-same : judged ≡ answered
-  checks-same = go sound refl
-    where
-      leafed : (b : Bool) → isLeaf (l .tree) i ≡ b → sound ≡ true → judged ≡ answered
-      leafed true e on = ap firstBroken (same-checks sound l i p (leaf-number (l .tree) i (exactly .sound on .state .fits .tree) e))
-      leafed false e on = no-leaf-checks sound (isLeaf (l .tree) i) l i (longestOf (l .tree) i) (heldOf l i) p refl e
-
-      go : (b : Bool) → sound ≡ b → judged ≡ answered
-      go true on = leafed (isLeaf (l .tree) i) refl on
-      go false off = rw off (decides (check 11 true 0) _ refl ∙ sym (decides (check 11 true 0) _ refl))
-
-  gives-where : (v : Verdict) → arrivalLeaves (arrivalAnswer v) (putWhere v l i p) ≡ arrivalGives v l i p
-  gives-where Passed = refl
-  gives-where (Refused n q) = refl
-
-  -- and its answer is that of the call
-  judged-is : (v : Verdict) (after : Link) → Judged sound l i p v after → arrivalLeaves (arrivalAnswer v) after ≡ arrivalOf sound l i p
-  unfolding arrivalOf
-  judged-is v after j =
-      ap (arrivalLeaves (arrivalAnswer v)) (j .link) ∙ gives-where v
-      ∙ ap (λ (w : Verdict). arrivalGives w l i p) (j .verdict ∙ checks-same)
-
--- the line of a judged arrival is laid
-pub arrives-in-place : (sound : Bool) (l : Link) (a : Arrived) (v : Verdict) (line : Line) (at : ℕ) (before : List ℕ) (r : ℕ) (out : List ℕ)
-    (after : Link) → Exactly sound (SoundLink l) → Judged sound l (a .class) (packetIn a) v after → line ≡ arrivalLine (arrivalAnswer v) a
-    → LaysLine at line before r out → ArrivesAs sound l a at before r out after
-arrives-in-place sound l a v line at before r out after exactly j e lays =
-    let is = judged-is sound l (a .class) (packetIn a) exactly v after j in (
-      subst (λ (x : Line). LaysLine at x before r out) (e ∙ ap (λ (x : AfterArrival). arrivalLine (x .answer) a) is) lays,
-      ap (λ (x : AfterArrival). x .link) is,
-    )
+-- its line is laid
+pub arrives-in-place : (sound : Bool) (l : Link) (a : Arrived) (r : Arrival) (line : Line) (at : ℕ) (before : List ℕ) (n : ℕ) (out : List ℕ)
+    (after : Link) → ArrivesOn sound l (a .class) (packetIn a) r after → line ≡ arrivalLine r a → LaysLine at line before n out
+    → ArrivesAs sound l a at before n out after
+arrives-in-place sound l a r line at before n out after is e lays = (
+  subst (λ (x : Line). LaysLine at x before n out) (e ∙ ap (λ (x : AfterArrival). arrivalLine (x .answer) a) is) lays,
+  ap (λ (x : AfterArrival). x .link) is,
+)
 
 -- ---- a send
 
 -- what the call gives, of what the step gives
 abbrev answerOf : Bool → ℕ → Packet → ℕ → Departure
 answerOf true class p rounds = goes class p rounds
-answerOf false class p rounds = refused (Refused 15 0)
+answerOf false class p rounds = refusedSend (Refused 15 0)
 
 abbrev departureOf : Bool → Went → Link → AfterSend
 departureOf some w after = sendLeaves (answerOf some (w .class) (w .packet) (w .rounds)) after
@@ -160,11 +123,11 @@ module _ (l : Link) (input : List ℕ) (place : ℕ) (shape : Shaped l) (at : �
 
   module _ (sound : Bool) (exactly : Exactly sound (SoundLink l)) (after : Link) where
     -- an arrival
-    pub arrival-in-place : (a : Arrived) (active visit : ℕ) (size : Bytes) → eventAt (drop place input) place ≡ Arrive a
-        → ArrivesAs sound l a at before r out after
+    pub arrival-in-place : (a : Arrived) (active visit n : ℕ) (size : Bytes) → eventAt (drop place input) place ≡ Arrive a
+        → n ≡ usedOf (Arrive a) → ArrivesAs sound l a at before r out after
         → Happens l input place at before
-        (record { laid = r; more = true; place = place + 8; active = active; visit = visit; size = size }) out after
-    arrival-in-place a active visit size told is =
+        (record { laid = r; more = true; place = place + n; active = active; visit = visit; size = size }) out after
+    arrival-in-place a active visit n size told used is =
         let call = arrival (a .class) (packetIn a) in
         record {
           line = callLine (makes sound l call);
@@ -173,24 +136,26 @@ module _ (l : Link) (input : List ℕ) (place : ℕ) (shape : Shaped l) (at : �
             answer = _;
             after = _;
             meets = rules-meet l call sound exactly shape;
-            step = ap (λ (x : Link). record { line = callLine (makes sound l call); more = true; link = x; place = place + 8 }) (is .1);
+            step = ap₂ (λ (x : Link) (k : ℕ). record { line = callLine (makes sound l call); more = true; link = x; place = place + k })
+                (is .1) used;
           });
           shape = subst Shaped (sym (is .1)) (call-shaped l call sound exactly shape);
         }
 
     -- a send
-    pub send-in-place : (w : Went) → eventAt (drop place input) place ≡ SendNext → DepartsAs sound l w after
+    pub send-in-place : (w : Went) (n : ℕ) → eventAt (drop place input) place ≡ SendNext → n ≡ usedOf SendNext → DepartsAs sound l w after
         → LaysLine at (wentSays w) before r out
         → Happens l input place at before
-        (record { laid = r; more = true; place = place + 1; active = w .active; visit = w .place; size = w .size }) out after
-    send-in-place w told is lays = record {
+        (record { laid = r; more = true; place = place + n; active = w .active; visit = w .place; size = w .size }) out after
+    send-in-place w n told used is lays = record {
       line = wentSays w;
       lays = lays;
       goes = gives-by l input place SendNext _ told (record {
         answer = _;
         after = _;
         meets = rules-meet l send sound exactly shape;
-        step = ap₂ (λ (x : Line) (y : Link). record { line = x; more = true; link = y; place = place + 1 }) (is .0) (is .1);
+        step = ap₂ (λ (x : Line) (y : Link). record { line = x; more = true; link = y; place = place + n }) (is .0) (is .1)
+            ∙ ap (λ (k : ℕ). stepBy (makes sound l send) (place + k)) used;
       });
       shape = subst Shaped (sym (is .1)) (call-shaped l send sound exactly shape);
     }

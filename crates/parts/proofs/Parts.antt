@@ -22,7 +22,7 @@ use Rattle.digits.proofs.Laying.{over-none, over-start, laid-then, laid-length}
 use Rattle.parts.specs.declared.PartRun.{PartRun}
 use Rattle.run.specs.declared.Step.{Step}
 use Rattle.run.specs.Event.{stepOf, GoesOn}
-use Rattle.run.specs.Run.{beginOf, linesOf, firstOf, programLines}
+use Rattle.run.specs.Run.{beginOf, linesOf, programBegins, programLines}
 use Rattle.parts.specs.Part.{Partway, onward, takesOne, takes, partOf, counted, Parts, RunOn, laidBy, printed}
 use Rattle.parts.specs.Part.RunOn.{last, then}
 use Rattle.parts.specs.Steps.{Taken}
@@ -207,11 +207,11 @@ run-lines input m run =
     ∙ ap (λ (b : Bool). bytesOf (s .line) ++ printed (following (s .link) input (s .place) b)) m)
 
 -- a program's run: likewise
-pub program-lines : (input : List ℕ) → firstOf input .more ≡ true → (run : RunOn input (firstOf input .link) (firstOf input .place))
-    → bytesOf (firstOf input .line) ++ laidBy run ≡ printed (programLines input)
+pub program-lines : (input : List ℕ) → programBegins input .more ≡ true → (run : RunOn input (programBegins input .link) (programBegins input .place))
+    → bytesOf (programBegins input .line) ++ laidBy run ≡ printed (programLines input)
 unfolding following
 program-lines input m run =
-    let s = firstOf input in
+    let s = programBegins input in
     ap (λ (x : List ℕ). bytesOf (s .line) ++ x) (parts-lines input (s .link) (s .place) (first-sound input m) run)
     ∙ sym (ap printed (lines-first input) ∙ text-more (s .line) _
     ∙ ap (λ (b : Bool). bytesOf (s .line) ++ printed (following (s .link) input (s .place) b)) m)

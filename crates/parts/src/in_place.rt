@@ -16,7 +16,6 @@ ghost use Rattle.parts.specs.Steps.{LaysLine, wentSays, Taken, ArrivesAs
 use crate::PartRun;
 use checks::Verdict;
 use lines::Line;
-use link::Arrival;
 use plan::Arrived;
 use plan::EventRead;
 use state::Link;
@@ -51,7 +50,6 @@ fn arrives(
 ) -> usize
     requires { ⌜ at + lineRoom ≤ length (now out) ⌝ }
     ensures { λ r. ⌜ ((l : Link) → l .tree .leaves ≡ leaves → l .tree .longest ≡ now (longest .entry)
-        → Exactly sound (SoundLink (queued l (now (start .entry)) (now (held .entry)) (now (lengths .entry)) (now (tags .entry))))
         → ArrivesAs sound (queued l (now (start .entry)) (now (held .entry)) (now (lengths .entry)) (now (tags .entry))) a
         at (now (out .entry)) r (now (out .exit))
         (queued l (now (start .entry)) (now (held .exit)) (now (lengths .exit)) (now (tags .exit)))) ⌝ }
@@ -59,7 +57,7 @@ fn arrives(
     let class = a.class as usize;
     let len = a.length;
     let tag = a.tag;
-    let verdict = steps::arrive(
+    let answer = steps::arrive(
         sound,
         class,
         Packet { length: len, tag },
@@ -70,10 +68,11 @@ fn arrives(
         lengths,
         tags,
     );
+    let verdict = answer.verdict;
     if let Verdict::Passed = verdict {
         return lines::lay_in(a.class as u64, len as u64, tag as u64, at, out);
     }
-    let line = run::arrival_line(Arrival { verdict }, a);
+    let line = run::arrival_line(answer, a);
     lines::lay_at(line, at, out)
 }
 
@@ -208,6 +207,7 @@ fn event(
 {
     let rest = plan::events_after(input, place);
     let read = plan::read_event(rest, place);
+    let after = place + plan::used(read);
     match read {
         EventRead::NoMore => {
             let laid = lines::lay_at(Line::End(run::waiting(held)), at, out);
@@ -226,7 +226,7 @@ fn event(
                 at,
                 out,
             );
-            outcome(laid, true, place + 8, active, visit, size)
+            outcome(laid, true, after, active, visit, size)
         }
         EventRead::SendNext => {
             let went = departs(
@@ -250,7 +250,7 @@ fn event(
                 tags,
             );
             let laid = lay_went(went, at, out);
-            outcome(laid, true, place + 1, went.active, went.place, went.size)
+            outcome(laid, true, after, went.active, went.place, went.size)
         }
         EventRead::Fault(n, p) => {
             let laid = lines::lay_at(Line::Stop(n as u64, p as u64), at, out);
@@ -292,8 +292,8 @@ pub fn part_of(sound: bool, link: Link, input: &[u8], place: usize, out: &mut [u
     let weight = steps::weight_numbers(weights);
     let longest = tree.longest;
     let before = link.accounts;
-    let mut balance = steps::balances(before);
-    let mut residual = steps::residuals(before);
+    let mut balance = state::lent_accounts::balances(before);
+    let mut residual = state::lent_accounts::residuals(before);
     let mut start = link.start;
     let mut held = link.held;
     let mut lengths = link.lengths;
@@ -338,7 +338,7 @@ pub fn part_of(sound: bool, link: Link, input: &[u8], place: usize, out: &mut [u
         visit = did.visit;
         size = did.size;
     }
-    let accounts = steps::zipped(&balance, &residual);
+    let accounts = state::lent_accounts::zipped(&balance, &residual);
     let after = Link {
         tree,
         size,

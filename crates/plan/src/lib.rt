@@ -7,10 +7,10 @@ pub mod reader;
 pub mod record;
 
 ghost use mathlib.Core.Path.{_≡_};
-ghost use Prim.Native.Nat.{_+_, _^_, _<_};
+ghost use Prim.Native.Nat.{_+_, _^_, _<_, _≤_};
 ghost use lib.ListN.{length, drop};
 ghost use Rattle.plan.specs.Reader.{planOf};
-ghost use Rattle.plan.specs.Event.{eventAt};
+ghost use Rattle.plan.specs.Event.{usedOf, eventAt};
 use checks::Verdict;
 use kind::Section;
 use record::Head;
@@ -66,5 +66,17 @@ pub fn read_event(rest: &[u8], place: usize) -> EventRead
         Head::Strange => EventRead::Fault(checks::UNKNOWN_KIND, place),
         Head::Cut => EventRead::Fault(checks::CUT, place),
         Head::Whole(kind) => event::whole_event(rest, kind),
+    }
+}
+
+// How many bytes an event that was read has used: the next one stands after them.
+pub fn used(read: EventRead) -> usize
+    ensures { λ r. ⌜ (r ≡ usedOf read) × (r ≤ 8) ⌝ }
+{
+    match read {
+        EventRead::NoMore => 0,
+        EventRead::Arrive(_) => 8,
+        EventRead::SendNext => 1,
+        EventRead::Fault(_, _) => 0,
     }
 }

@@ -9,18 +9,6 @@ use shown::number;
 use shown::pair;
 use shown::word;
 
-// The bytes that an event takes.
-fn size(event: EventRead) -> usize
-    ensures { λ r. ⌜ r ≤ 8 ⌝ }
-{
-    match event {
-        EventRead::NoMore => 0,
-        EventRead::Arrive(_) => 8,
-        EventRead::SendNext => 1,
-        EventRead::Fault(_, _) => 0,
-    }
-}
-
 // An arrival's class, length and tag.
 fn arrival(a: Arrived) {
     number(b": arrive ", a.class as u64);
@@ -35,7 +23,7 @@ fn answer(event: EventRead) {
         EventRead::SendNext => word(b": send"),
         EventRead::Fault(n, p) => refusal(n, p),
     }
-    number(b" used ", size(event) as u64);
+    number(b" used ", plan::used(event) as u64);
     word(b"\n");
 }
 
@@ -53,7 +41,7 @@ fn event(name: &[u8], rest: &[u8], place: usize) -> usize
     word(name);
     number(b", at ", place as u64);
     answer(e);
-    size(e)
+    plan::used(e)
 }
 
 // The events after a plan, one after the other, until the input ends or one is refused.

@@ -1,6 +1,6 @@
 // Named cases of the plan rules and the readers (R21 to R67), packed as commands: each is run, and its lines are compared with the
 // written-down ones. Serves demand 1: what the plan reader, the event reader and the plan rules say. The cases are edited in
-// second/plan_cases.txt.
+// cases/plan_cases.txt.
 mod events;
 mod kinds;
 mod output;

@@ -1,7 +1,7 @@
 // Written-down cases of the rates of a tree (R68 to R85) that no single run of `rates` reaches; it runs, and is compared.
 // The cases are the lines of its input: `# NAME` begins a case with no tree, `inner PARENT WEIGHT` and `leaf PARENT WEIGHT` add a class,
 // `wild COUNT` sets the class count, `capacity N`, `every N` and `request CLASS N` set what is asked, and `answer` prints the rates.
-// The expected lines are worked out by second/rate_cases.py.
+// The expected lines are worked out by cases/rate_cases.py.
 ghost use Prim.Native.Nat.{_≤_, _<_};
 ghost use lib.ListN.{length};
 use allot::Allotted;

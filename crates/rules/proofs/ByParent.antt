@@ -8,12 +8,12 @@ use lib.Dec.{eqb}
 use borrow.Author.Tests.{eqb-true}
 use Rattle.sets.specs.Set.{has}
 use Rattle.tree.specs.declared.Tree.{Tree}
-use Rattle.tree.specs.Class.{parentOf, weightOf, isChild}
+use Rattle.tree.specs.Class.{parentOf, weightOf, isChild, ofChild, childrenSum}
 use Rattle.tree.specs.Rules.{PlanRules}
 use Rattle.tree.specs.Sum.{sumTo}
 use Rattle.tree.proofs.ByParent.{by-parent}
 use Rattle.tree.proofs.Sums.{sum-same, sum-times}
-use Rattle.rules.specs.Active.{activeChild, activeWeight, weightSum}
+use Rattle.rules.specs.Active.{activeWeight, weightSum}
 
 module _ (t : Tree) (active : ℕ) (q : ℕ → ℕ) where
   -- what class i is due from its parent where it is active
@@ -22,14 +22,14 @@ module _ (t : Tree) (active : ℕ) (q : ℕ → ℕ) where
 
   -- the children of class p are due what it hands down
   handed : (p : ℕ) → sumTo (λ i. cond (isChild t p i) (due i) 0) (t .count) ≡ weightSum t active p * q p
-  unfolding due weightSum activeWeight activeChild isChild
+  unfolding due weightSum childrenSum ofChild activeWeight isChild
   handed p =
-      sum-same (λ i. cond (isChild t p i) (due i) 0) (λ i. activeWeight t active p i * q p) (t .count)
+      sum-same (λ i. cond (isChild t p i) (due i) 0) (λ i. ofChild t (activeWeight t active) p i * q p) (t .count)
       (λ i l u. go i (isChild t p i) refl (has active i))
-      ∙ sum-times (activeWeight t active p) (q p) (t .count)
+      ∙ sum-times (ofChild t (activeWeight t active) p) (q p) (t .count)
     where
       go : (i : ℕ) (a : Bool) → eqb (parentOf t i) p ≡ a → (b : Bool)
-          → cond a (cond b (weightOf t i * q (parentOf t i)) 0) 0 ≡ cond (a && b) (weightOf t i) 0 * q p
+          → cond a (cond b (weightOf t i * q (parentOf t i)) 0) 0 ≡ cond a (cond b (weightOf t i) 0) 0 * q p
       go i true e true = rw (eqb-true (parentOf t i) p e) refl
       go i true e false = omega (arith, zero-mul (q p))
       go i false e b = omega (arith, zero-mul (q p))

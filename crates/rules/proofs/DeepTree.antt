@@ -10,13 +10,13 @@ use Rattle.sets.specs.Set.{has, with, without}
 use Rattle.units.specs.Cost.{costOf}
 use Rattle.tree.specs.declared.Tree.{Tree}
 use Rattle.tree.specs.declared.Class.{Class}
-use Rattle.tree.specs.Class.{noTree, ruled, added, isClass, isLeaf, isInner, isChild}
-use Rattle.tree.specs.Sum.{sumTo, someTo}
+use Rattle.tree.specs.Class.{noTree, ruled, added, isClass, isLeaf, isInner, isChild, ofChild, childrenSum}
+use Rattle.tree.specs.Sum.{sumTo, someTo, table}
 use Rattle.tree.specs.Size.{roundSize, allWeights, allLongest, longestCost}
 use Rattle.rules.specs.Sizes.{ifActive, activeWeights, activeLongest, activeSize, mainSize}
 use Rattle.state.specs.declared.Account.{Account}
 use Rattle.state.specs.Account.{balanceOf, residualOf}
-use Rattle.state.specs.Queue.{table, queueOf}
+use Rattle.state.specs.Queue.{queueOf}
 use Rattle.state.specs.State.{State, meaning, freshLink, queueAt, withQueue}
 use Rattle.tree.specs.Below.{climbs, atOrBelow}
 use Rattle.rules.specs.Active.{waits, someBelow, setOf, upward, roundActive, activeChild, activeWeight, weightSum}
@@ -132,6 +132,7 @@ six-sends : table (seenOf false) 6
     ∷ []
 unfolding class none tree arrive start after seenOf shownIn balances residuals roundSize allWeights allLongest longestCost sumTo someTo isClass
     isLeaf isInner isChild has with without costOf table queueOf climbs atOrBelow waits someBelow setOf upward roundActive activeChild
+    ofChild childrenSum
     activeWeight weightSum surplusAt hasSurplus kindOf quotaIn quota due handsDown openedLeaf openedInner openedAccount openedAccounts
     nextKind nextSize mainSize resizedAccounts openedWith ready firstFrom nextLeaf givenUp turnsOff paid booksAfter sentState turnOf sends traceOf
 six-sends = refl
@@ -192,7 +193,7 @@ six-sends-active : table (seenOf true) 6
     ∷ []
 unfolding class none tree arrive start after seenOf shownIn balances residuals roundSize allWeights allLongest longestCost sumTo someTo isClass
     isLeaf isInner isChild has with without costOf table queueOf climbs atOrBelow waits someBelow setOf upward roundActive activeChild
-    activeWeight weightSum surplusAt hasSurplus kindOf quotaIn quota due handsDown openedLeaf openedInner openedAccount openedAccounts
+    ofChild childrenSum activeWeight weightSum surplusAt hasSurplus kindOf quotaIn quota due handsDown openedLeaf openedInner openedAccount openedAccounts
     nextKind nextSize mainSize ifActive activeWeights activeLongest
     activeSize resizedAccounts openedWith ready firstFrom nextLeaf givenUp turnsOff paid booksAfter sentState turnOf sends traceOf
 six-sends-active = refl

@@ -8,16 +8,16 @@ use native.Mathlib.Omega.{arith}
 use borrow.Author.Tests.{ltb-false}
 use Rattle.sets.specs.Set.{has}
 use Rattle.tree.specs.declared.Tree.{Tree}
-use Rattle.tree.specs.Class.{parentOf, weightOf, isClass, isLeaf, isInner, isChild, childWeight, childrenWeight}
+use Rattle.tree.specs.Class.{parentOf, weightOf, isClass, isLeaf, isInner, isChild, ofChild, childrenSum, childrenWeight}
 use Rattle.tree.specs.Rules.{tooHeavy, PlanRules}
 use Rattle.tree.proofs.Classes.{class-in, class-range}
 use Rattle.tree.proofs.Rules.{parent-lower}
 use Rattle.state.specs.Account.{accountOf, balanceOf, fundsOf}
 use Rattle.state.specs.State.{State}
-use Rattle.sound.specs.Below.{Above}
+use Rattle.tree.specs.Below.{Above}
 use Rattle.sound.specs.Sound.{Sound}
 use Rattle.sound.proofs.Active.{parent-above}
-use Rattle.rules.specs.Active.{activeChild, activeWeight, weightSum, roundActive}
+use Rattle.rules.specs.Active.{activeWeight, weightSum, roundActive}
 use Rattle.rules.specs.Opening.{main, quota, nextKind, resizedAccounts, openedWith, Resizes}
 use Rattle.rules.specs.Sending.{nextLeaf}
 use Rattle.rules.proofs.Shares.{quota-root, quota-step}
@@ -30,10 +30,10 @@ use Rattle.rules.proofs.Taken.{taken-up, sum-some}
 
 -- the active children of a class weigh at most what all its children weigh
 sum-children : (t : Tree) (active p : ℕ) → weightSum t active p ≤ childrenWeight t p
-unfolding weightSum childrenWeight activeWeight activeChild childWeight
+unfolding weightSum childrenWeight childrenSum ofChild activeWeight
 sum-children t active p = sum-within _ _ (t .count) (λ i l u. go (isChild t p i) (has active i) (weightOf t i))
   where
-    go : (a b : Bool) (w : ℕ) → cond (a && b) w 0 ≤ cond a w 0
+    go : (a b : Bool) (w : ℕ) → cond a (cond b w 0) 0 ≤ cond a w 0
     go true true w = omega arith
     go true false w = zero-le
     go false b w = zero-le

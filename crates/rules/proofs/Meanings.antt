@@ -22,7 +22,7 @@ use Rattle.state.specs.declared.Link.{Link}
 use Rattle.state.specs.declared.Packet.{Packet}
 use Rattle.state.specs.Queue.{Shaped, queueOf, startOf, heldOf, packetAt, takenFirst}
 use Rattle.state.specs.State.{State, meaning, queueAt}
-use Rattle.state.proofs.Tables.{table-length}
+use Rattle.tree.proofs.Tables.{table-length}
 use Rattle.state.proofs.Meaning.{meaning-held, meaning-take, meaning-first}
 use Rattle.sound.specs.Sound.{Sound, SoundLink}
 use Rattle.tree.proofs.Rules.{few-classes, size-ceiling}

@@ -13,15 +13,14 @@ use Rattle.tree.specs.declared.Tree.{Tree}
 use Rattle.tree.specs.Class.{parentOf, weightOf, isClass, isLeaf}
 use Rattle.tree.specs.Rules.{PlanRules}
 use Rattle.tree.specs.Size.{mostSize}
-use Rattle.tree.specs.Sum.{sumTo}
+use Rattle.tree.specs.Sum.{sumTo, table}
 use Rattle.tree.proofs.Classes.{root-no-class, class-range}
 use Rattle.tree.proofs.Rules.{few-classes, size-ceiling}
 use Rattle.state.specs.declared.Account.{Account}
 use Rattle.state.specs.Account.{noAccount, accountOf, balanceOf, residualOf, fundsOf, tookQuota, handedDown}
-use Rattle.state.specs.Queue.{table}
 use Rattle.state.specs.State.{State}
-use Rattle.state.proofs.Tables.{table-at, table-length}
-use Rattle.sound.specs.Below.{Above}
+use Rattle.tree.proofs.Tables.{table-at, table-length}
+use Rattle.tree.specs.Below.{Above}
 use Rattle.sound.specs.Sound.{Sound, HoldsRight, ActiveHolds, AboveActive, ZeroWhere, BehindPlace, total}
 use Rattle.tree.proofs.Sums.{sum-same, sum-longer, sum-add}
 use Rattle.sound.proofs.Totals.{total-part}

@@ -14,11 +14,10 @@ use Rattle.tree.specs.declared.Tree.{Tree}
 use Rattle.tree.specs.Class.{parentOf, isClass, isLeaf}
 use Rattle.tree.specs.Rules.{PlanRules}
 use Rattle.tree.proofs.Classes.{both-true, class-in, class-range}
-use Rattle.tree.specs.Below.{atOrBelow}
+use Rattle.tree.specs.Below.{atOrBelow, Below, child, under, Above}
 use Rattle.tree.proofs.Sums.{some-found, some-which}
 use Rattle.tree.proofs.Rules.{few-classes, parent-lower, parent-no-leaf, weight-range}
 use Rattle.state.specs.State.{State, queueAt}
-use Rattle.sound.specs.Below.{Below, child, under, Above}
 use Rattle.sound.specs.Sound.{Sound}
 use Rattle.sound.proofs.Active.{ActiveChild, ByChild, ByLeaf, child-to-leaf}
 use Rattle.rules.specs.Active.{waits, someWaits, someBelow, upward, roundActive, weightSum}

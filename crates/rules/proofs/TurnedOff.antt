@@ -20,7 +20,7 @@ use Rattle.tree.proofs.Rules.{parent-lower, parent-no-leaf, few-classes}
 use Rattle.tree.proofs.Sums.{some-found, some-which}
 use Rattle.state.specs.declared.Account.{Account}
 use Rattle.state.specs.Account.{noAccount, accountOf, residualOf, fundsOf, returned, received}
-use Rattle.sound.specs.Below.{Above}
+use Rattle.tree.specs.Below.{Above}
 use Rattle.sound.proofs.Active.{ActiveChild, ByChild, parent-above}
 use Rattle.rules.specs.Sending.{Books}
 use Rattle.rules.specs.Active.{activeChild}

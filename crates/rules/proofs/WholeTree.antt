@@ -11,9 +11,9 @@ use Rattle.tree.specs.declared.Tree.{Tree}
 use Rattle.tree.specs.Class.{parentOf, weightOf}
 use Rattle.state.specs.declared.Account.{Account}
 use Rattle.state.specs.Account.{account, accountOf, fundsOf, noAccount}
-use Rattle.state.specs.Queue.{table}
+use Rattle.tree.specs.Sum.{table}
 use Rattle.state.specs.State.{State, inRound}
-use Rattle.state.proofs.Tables.{table-same}
+use Rattle.tree.proofs.Tables.{table-same}
 use Rattle.sound.specs.Sound.{Sound}
 use Rattle.rules.specs.Active.{roundActive, weightSum}
 use Rattle.rules.specs.Opening.{Kind, main, surplus, quotaIn, quota, rootQuota, due, handsDown, openedLeaf, openedInner}

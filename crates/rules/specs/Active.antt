@@ -7,10 +7,9 @@ use lib.ListN.{length}
 use Rattle.sets.specs.Set.{has, with}
 use Rattle.units.specs.declared.Weight.{Weight}
 use Rattle.tree.specs.declared.Tree.{Tree}
-use Rattle.tree.specs.Class.{weightOf, isLeaf, isChild}
+use Rattle.tree.specs.Class.{weightOf, isLeaf, isChild, childrenSum}
 use Rattle.tree.specs.Below.{atOrBelow}
-use Rattle.tree.specs.Sum.{sumTo, someTo}
-use Rattle.state.specs.Queue.{table}
+use Rattle.tree.specs.Sum.{someTo, table}
 use Rattle.state.specs.State.{State, queueAt}
 
 -- class i is a leaf that holds a packet (R119, R120)
@@ -38,16 +37,17 @@ upward t w = setOf (someBelow t w) (t .count)
 unfoldable pub roundActive : State → ℕ
 roundActive s = upward (s .tree) (waits s)
 
--- class i is an active child of class p, and what it adds to its weight sum (R122)
+-- class i is an active child of class p (R122)
 unfoldable pub activeChild : Tree → ℕ → ℕ → ℕ → Bool
 activeChild t active p i = isChild t p i && has active i
 
-unfoldable pub activeWeight : Tree → ℕ → ℕ → ℕ → ℕ
-activeWeight t active p i = cond (activeChild t active p i) (weightOf t i) 0
+-- the weight of class i where it is active (R122)
+unfoldable pub activeWeight : Tree → ℕ → ℕ → ℕ
+activeWeight t active i = cond (has active i) (weightOf t i) 0
 
 -- the weight sum of the active children of class p (R122)
 unfoldable pub weightSum : Tree → ℕ → ℕ → ℕ
-weightSum t active p = sumTo (activeWeight t active p) (t .count)
+weightSum t active p = childrenSum t (activeWeight t active) p
 
 -- all weight sums, by class number (R123)
 unfoldable pub weightSums : Tree → ℕ → List Weight

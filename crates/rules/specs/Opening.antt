@@ -10,10 +10,9 @@ use Rattle.units.specs.Unit.{dueOf, quotaOf, surplusOf}
 use Rattle.tree.specs.declared.Tree.{Tree}
 use Rattle.tree.specs.Class.{parentOf, weightOf, isLeaf, isInner}
 use Rattle.tree.specs.Size.{SizeRight}
-use Rattle.tree.specs.Sum.{someTo}
+use Rattle.tree.specs.Sum.{someTo, table}
 use Rattle.state.specs.declared.Account.{Account}
 use Rattle.state.specs.Account.{accountOf, fundsOf, tookSize, tookQuota, handedDown}
-use Rattle.state.specs.Queue.{table}
 use Rattle.state.specs.State.{State, inRound}
 use Rattle.rules.specs.Active.{roundActive, weightSum}
 use Rattle.rules.specs.Sizes.{activeSize, mainSize}

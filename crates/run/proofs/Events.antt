@@ -19,7 +19,7 @@ use Rattle.tree.proofs.Sums.{sum-same}
 use Rattle.run.specs.declared.Step.{Step}
 use Rattle.calls.specs.Run.{waitingIn}
 use Rattle.run.specs.Event.{Gives, GoesOn}
-use Rattle.run.specs.Run.{planGives, beginOf, inputGives, firstOf}
+use Rattle.run.specs.Run.{planGives, beginOf, inputGives, programBegins}
 
 -- the packets still waiting, counted in the record
 pub waiting-means : (l : Link) → sumTo (λ i. getD (l .held) i 0) 63 ≡ waitingIn (meaning l)
@@ -32,8 +32,8 @@ unfolding beginOf
 begin-by s r v e is = ap (λ (x : Verdict). planGives x r) (sym is) ∙ ap (λ (x : PlanRead). planGives (x .verdict) x) e
 
 -- the first step of a program's run, by the verdict on its input's length
-pub first-by : (s : List ℕ) (w v : Verdict) → w ≡ firstBroken (inputChecks (length s)) → w ≡ v → inputGives v s ≡ firstOf s
-unfolding firstOf
+pub first-by : (s : List ℕ) (w v : Verdict) → w ≡ firstBroken (inputChecks (length s)) → w ≡ v → inputGives v s ≡ programBegins s
+unfolding programBegins
 first-by s w v e is = ap (λ (x : Verdict). inputGives x s) (sym is ∙ e)
 
 -- an event's step, by the event that was read

@@ -24,7 +24,7 @@ use Rattle.calls.proofs.Runs.{meets-by, meets-keeps, made-next}
 use Rattle.lines.specs.declared.Line.{Line}
 use Rattle.run.specs.declared.Step.{Step}
 use Rattle.run.specs.Event.{packetIn, callLine, lastLine, stepBy, eventGives, stepOf, Calls, Gives, GoesOn}
-use Rattle.run.specs.Run.{planGives, beginOf, linesOf, linesAfter, programLines, inputGives, firstOf}
+use Rattle.run.specs.Run.{planGives, beginOf, linesOf, linesAfter, programLines, inputGives, programBegins}
 use Rattle.run.specs.Run.{EventsRead, noCall, callFirst, eventFirst, eventsFrom, eventLines}
 use Rattle.run.proofs.Events.{used-fits}
 
@@ -212,9 +212,9 @@ lines-begin input = ap (λ (rest : List Line). beginOf input .line ∷ rest) (go
     go false = refl
 
 -- what a program prints is the line of its first step and, where the run goes on, the lines from there
-pub lines-first : (input : List ℕ) → programLines input ≡ firstOf input .line ∷ following (firstOf input .link) input (firstOf input .place)
-    (firstOf input .more)
-unfolding programLines firstOf following
+pub lines-first : (input : List ℕ) → programLines input ≡ programBegins input .line ∷ following (programBegins input .link) input (programBegins input .place)
+    (programBegins input .more)
+unfolding programLines programBegins following
 lines-first input = go (firstBroken (inputChecks (length input)))
   where
     go : (v : Verdict) → linesAfter v input ≡ inputGives v input .line ∷ following (inputGives v input .link) input
@@ -223,8 +223,8 @@ lines-first input = go (firstBroken (inputChecks (length input)))
     go (Refused n p) = refl
 
 -- it goes on with a sound link
-pub first-sound : (input : List ℕ) → firstOf input .more ≡ true → SoundLink (firstOf input .link)
-unfolding firstOf
+pub first-sound : (input : List ℕ) → programBegins input .more ≡ true → SoundLink (programBegins input .link)
+unfolding programBegins
 first-sound input m = go (firstBroken (inputChecks (length input))) m
   where
     go : (v : Verdict) → inputGives v input .more ≡ true → SoundLink (inputGives v input .link)

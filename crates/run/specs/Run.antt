@@ -82,5 +82,5 @@ abbrev pub inputGives : Verdict → List ℕ → Step
 inputGives Passed input = beginOf input
 inputGives (Refused n p) input = record { line = Stop n p; more = false; link = noLink; place = 0 }
 
-unfoldable pub firstOf : List ℕ → Step
-firstOf input = inputGives (firstBroken (inputChecks (length input))) input
+unfoldable pub programBegins : List ℕ → Step
+programBegins input = inputGives (firstBroken (inputChecks (length input))) input

@@ -2,14 +2,15 @@
 // Serves demands 1 and 2: the lines are those of R185 to R195, from the input's bytes, whatever they are (R196).
 ghost use mathlib.Core.Path.{_≡_};
 ghost use mathlib.Core.Bool.{true};
-ghost use Prim.Native.Nat.{_+_, _^_, _<_};
+ghost use Prim.Native.Nat.{_<_};
 ghost use lib.ListN.{getD};
 ghost use Rattle.checks.specs.declared.Verdict.the-variants.{Passed};
 ghost use Rattle.tree.specs.Rules.{PlanRules};
 ghost use Rattle.tree.specs.Sum.{sumTo};
-ghost use Rattle.plan.specs.declared.EventRead.the-variants.{NoMore, Arrive, SendNext, Fault};
-ghost use Rattle.run.specs.Event.{arrivalLine, sendLine, eventGives, Gives, GoesOn};
-ghost use Rattle.run.specs.Run.{planGives, beginOf, firstOf};
+ghost use Rattle.plan.specs.declared.EventRead.the-variants.{NoMore, Fault};
+ghost use Rattle.calls.specs.Run.{arrival, send};
+ghost use Rattle.run.specs.Event.{packetIn, arrivalLine, sendLine, eventGives, Calls, GoesOn};
+ghost use Rattle.run.specs.Run.{planGives, beginOf, programBegins};
 use checks::Verdict;
 use lines::Line;
 use link::Arrival;
@@ -105,10 +106,9 @@ fn stop(link: Link, place: usize, n: u8, p: usize) -> Step
     }
 }
 
-// An arrival.
+// An arrival, after which the run goes on from a place.
 fn arrival(link: Link, a: Arrived, place: usize) -> Step
-    requires { ⌜ place + 8 < 2 ^ 64 ⌝ }
-    ensures { λ r. ⌜ Gives link place (Arrive a) r ⌝ }
+    ensures { λ r. ⌜ Calls link (arrival (a .class) (packetIn a)) place r ⌝ }
 {
     let length = a.length;
     let tag = a.tag;
@@ -120,14 +120,13 @@ fn arrival(link: Link, a: Arrived, place: usize) -> Step
         line,
         more: true,
         link: after,
-        place: place + 8,
+        place,
     }
 }
 
-// A send.
+// A send, likewise.
 fn send(link: Link, place: usize) -> Step
-    requires { ⌜ place + 1 < 2 ^ 64 ⌝ }
-    ensures { λ r. ⌜ Gives link place SendNext r ⌝ }
+    ensures { λ r. ⌜ Calls link send place r ⌝ }
 {
     let sent = link::send(link);
     let answer = sent.answer;
@@ -137,7 +136,7 @@ fn send(link: Link, place: usize) -> Step
         line,
         more: true,
         link: after,
-        place: place + 1,
+        place,
     }
 }
 
@@ -173,7 +172,7 @@ pub fn begin(input: &[u8]) -> Step
 
 // A program's run begins here: number 10 before all else, and then nothing runs.
 pub fn first(input: &[u8]) -> Step
-    ensures { λ r. ⌜ r ≡ firstOf (now (input .entry)) ⌝ }
+    ensures { λ r. ⌜ r ≡ programBegins (now (input .entry)) ⌝ }
 {
     let verdict = checks::input_length(input.len());
     match verdict {
@@ -188,10 +187,11 @@ pub fn next(link: Link, input: &[u8], place: usize) -> Step
 {
     let rest = plan::events_after(input, place);
     let event = plan::read_event(rest, place);
+    let after = place + plan::used(event);
     match event {
         EventRead::NoMore => end(link, place),
-        EventRead::Arrive(a) => arrival(link, a, place),
-        EventRead::SendNext => send(link, place),
+        EventRead::Arrive(a) => arrival(link, a, after),
+        EventRead::SendNext => send(link, after),
         EventRead::Fault(n, p) => stop(link, place, n, p),
     }
 }

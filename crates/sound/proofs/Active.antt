@@ -13,7 +13,8 @@ use Rattle.tree.specs.Class.{parentOf, isClass, isLeaf}
 use Rattle.tree.specs.Rules.{PlanRules}
 use Rattle.tree.proofs.Classes.{class-range}
 use Rattle.tree.proofs.Rules.{parent-lower, parent-no-leaf}
-use Rattle.sound.specs.Below.{Below, child, under, Above, ActiveLeafBelow}
+use Rattle.sound.specs.Sound.{ActiveLeafBelow}
+use Rattle.tree.specs.Below.{Below, child, under, Above}
 use Rattle.sound.specs.Steps.{parentsDown}
 
 -- a child of class i is active

@@ -22,7 +22,7 @@ use Rattle.state.specs.declared.Packet.{Packet}
 use Rattle.state.specs.Account.{balanceOf, residualOf}
 use Rattle.state.specs.Queue.{noPacket, startOf, heldOf, slot, packetAt}
 use Rattle.state.specs.State.{meaning, queueAt}
-use Rattle.sound.specs.Below.{Above}
+use Rattle.tree.specs.Below.{Above}
 use Rattle.sound.specs.Sound.{InRange, PlaceRight, Sound, SoundLink}
 use Rattle.sound.specs.Steps.{parentsAfter, viewOf, ViewRight, ClassRight, ClassesRight}
 use Rattle.sound.proofs.Active.{ActiveChild, ByChild, child-to-leaf, leaf-to-child, parents-in, parents-only}

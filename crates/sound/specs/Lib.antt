@@ -1,4 +1,3 @@
 -- When a state is sound.
-pub mod Below
 pub mod Sound
 pub mod Steps

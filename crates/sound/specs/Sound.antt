@@ -17,7 +17,7 @@ use Rattle.state.specs.declared.Packet.{Packet}
 use Rattle.state.specs.Account.{accountOf, balanceOf, residualOf, fundsOf}
 use Rattle.state.specs.Queue.{noPacket, startOf}
 use Rattle.state.specs.State.{State, meaning, queueAt}
-use Rattle.sound.specs.Below.{Above, ActiveLeafBelow}
+use Rattle.tree.specs.Below.{Below, Above}
 
 -- its tree obeys the plan rules, and its size is one that may be in force (R101, R102)
 pub record TreeFits (s : State) : Type 0 where
@@ -47,6 +47,13 @@ pub record StartRight (l : Link) (i : ℕ) : Type 0 where
 pub record NonePast (s : State) : Type 0 where
   pub word : s .active < 2 ^ 64
   pub past : (i : ℕ) → s .tree .count < i → has (s .active) i ≡ false
+
+-- an active leaf is below class i (R109)
+pub record ActiveLeafBelow (t : Tree) (active i : ℕ) : Type 0 where
+  pub leaf : ℕ
+  pub is-leaf : isLeaf t leaf ≡ true
+  pub is-active : has active leaf ≡ true
+  pub below : Below t i leaf
 
 -- a class above is active exactly when an active leaf is below it (R109)
 pub record AboveActive (s : State) (i : ℕ) : Type 0 where

@@ -41,8 +41,8 @@ viewOf l i = record {
 }
 
 -- the numbers of a class, which is in no set yet
-abbrev pub numbersOf : ℕ → ℕ → Bytes → ℕ → ℕ → Account → List ℕ → View
-numbersOf i place size start held account lengths = record {
+abbrev pub viewBy : ℕ → ℕ → Bytes → ℕ → ℕ → Account → List ℕ → View
+viewBy i place size start held account lengths = record {
   class = i;
   place = place;
   size = size;

@@ -9,7 +9,7 @@ ghost use Rattle.tree.specs.Rules.{PlanRules};
 ghost use Rattle.state.specs.State.{linkOf};
 ghost use Rattle.sound.specs.Sound.{SoundLink};
 ghost use Rattle.sound.specs.Steps.{LeafRight, OtherRight, ViewRight, PlaceInRange, LengthsRight, ClassRight};
-ghost use Rattle.sound.specs.Steps.{numbersOf, ClassesRight, SizeWithin};
+ghost use Rattle.sound.specs.Steps.{viewBy, ClassesRight, SizeWithin};
 use state::Account;
 use state::Link;
 use state::queue::slot;
@@ -152,7 +152,7 @@ fn numbers_of(
     lengths: &[u16; 2048],
 ) -> View
     requires { ⌜ class < 64 ⌝ }
-    ensures { λ r. ⌜ r ≡ numbersOf class place size start held account (now (lengths .entry)) ⌝ }
+    ensures { λ r. ⌜ r ≡ viewBy class place size start held account (now (lengths .entry)) ⌝ }
 {
     let first = lengths[slot(class, wide(start) % Link::PLACES)];
     View {

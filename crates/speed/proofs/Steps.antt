@@ -12,14 +12,14 @@ use Rattle.units.specs.declared.Bytes.{Bytes}
 use Rattle.tree.specs.declared.Tree.{Tree}
 use Rattle.state.specs.declared.Account.{Account}
 use Rattle.state.specs.Account.{balanceOf, residualOf}
-use Rattle.state.specs.Queue.{table}
+use Rattle.tree.specs.Sum.{table}
 use Rattle.state.specs.State.{meaning, linkOf}
 use Rattle.steps.specs.Parts.{lentLink}
 use Rattle.steps.specs.Rounds.{InParts}
 use Rattle.steps.proofs.Wholes.{in-lists}
 use Rattle.steps.proofs.Rounding.{CoversNext}
 use Rattle.state.specs.declared.Link.{Link}
-use Rattle.state.proofs.Tables.{table-length}
+use Rattle.tree.proofs.Tables.{table-length}
 use Rattle.sound.specs.Sound.{SoundLink}
 use Rattle.rules.specs.Opening.{openedAccounts, openedWith}
 use Rattle.rules.specs.After.{openedLink}

@@ -59,8 +59,8 @@ fn open_times(link: Link, times: usize) -> Link
     let size = link.size;
     let held = link.held;
     let before = link.accounts;
-    let mut balance = steps::balances(before);
-    let mut residual = steps::residuals(before);
+    let mut balance = state::lent_accounts::balances(before);
+    let mut residual = state::lent_accounts::residuals(before);
     let mut active = link.active;
     let mut place = link.place;
     let mut n: usize = 0;
@@ -69,7 +69,7 @@ fn open_times(link: Link, times: usize) -> Link
         place = 1;
         n += 1;
     }
-    let accounts = steps::zipped(&balance, &residual);
+    let accounts = state::lent_accounts::zipped(&balance, &residual);
     let mut after = link;
     after.active = active;
     after.place = place;

@@ -13,7 +13,7 @@ use Rattle.state.specs.declared.Packet.{Packet}
 use Rattle.state.specs.Account.{account, noAccount}
 use Rattle.state.specs.Queue.{noPacket, startOf, heldOf, slotOf, packetAt, queueOf, putLast, takenFirst, Shaped}
 use Rattle.state.specs.State.{State, meaning, queueAt, withQueues, withQueue, freshLink, noLink}
-use Rattle.state.proofs.Tables.{table-at, table-same, table-set}
+use Rattle.tree.proofs.Tables.{table-at, table-same, table-set}
 use Rattle.state.proofs.Queues.{queue-length, queue-at, queue-none, queue-put-same, queue-put-other, queue-take-same}
 use Rattle.state.proofs.Queues.{queue-take-other}
 

@@ -8,8 +8,9 @@ use lib.ListN.{getD, length, length-set}
 use lib.Seq.{getD-set-same, getD-set-other}
 use Rattle.state.specs.declared.Link.{Link}
 use Rattle.state.specs.declared.Packet.{Packet}
-use Rattle.state.specs.Queue.{table, noPacket, startOf, heldOf, slot, slotOf, packetAt, queueOf, putLast, takenFirst, Shaped}
-use Rattle.state.proofs.Tables.{table-none, table-last, table-length, table-at, table-same, table-first}
+use Rattle.state.specs.Queue.{noPacket, startOf, heldOf, slot, slotOf, packetAt, queueOf, putLast, takenFirst, Shaped}
+use Rattle.tree.specs.Sum.{table}
+use Rattle.tree.proofs.Tables.{table-none, table-last, table-length, table-at, table-same, table-first}
 
 -- what two waiting places hold is the same where their lengths and their tags are
 same-packet : (p q : Packet) → p .length ≡ q .length → p .tag ≡ q .tag → p ≡ q

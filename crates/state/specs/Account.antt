@@ -1,5 +1,5 @@
 -- A class's account, and what it is after each step on it (R86 to R92). Demands 2 and 3.
-use mathlib.Core.List.{List}
+use mathlib.Core.List.{List, [], _∷_}
 use Prim.Native.Nat.{ℕ, _+_, _-_}
 use lib.ListN.{getD}
 use Rattle.state.specs.declared.Account.{Account}
@@ -53,3 +53,9 @@ received a given = account (a .balance .0) (a .residual .0 + given)
 -- B + R (R92, R124)
 abbrev pub fundsOf : Account → ℕ
 fundsOf a = a .balance .0 + a .residual .0
+
+-- the accounts with these balances and these residuals: as two lists they lie in the arrays that the steps are lent
+unfoldable pub zipAccounts : List ℕ → List ℕ → List Account
+zipAccounts [] rs = []
+zipAccounts (b ∷ bs) [] = []
+zipAccounts (b ∷ bs) (r ∷ rs) = account b r ∷ zipAccounts bs rs

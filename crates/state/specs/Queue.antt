@@ -1,16 +1,12 @@
 -- Each class's queue, first in first out, in its 32 of the 2,048 waiting places (R93 to R95). Demands 2 and 3.
-use mathlib.Core.List.{List, [], _∷_, _++_}
+use mathlib.Core.List.{List, [], _∷_}
 use mathlib.Core.Path.{_≡_}
-use Prim.Native.Nat.{ℕ, zero, suc, _+_, _-_, _*_, _%_}
+use Prim.Native.Nat.{ℕ, _+_, _-_, _*_, _%_}
 use lib.ListN.{getD, set, length}
 use Rattle.units.specs.Cost.{costOf}
+use Rattle.tree.specs.Sum.{table}
 use Rattle.state.specs.declared.Link.{Link}
 use Rattle.state.specs.declared.Packet.{Packet}
-
--- f 0, f 1, .. f (n - 1)
-unfoldable pub table : {A : Type 0} → (ℕ → A) → ℕ → List A
-table f zero = []
-table f (suc n) = table f n ++ (f n ∷ [])
 
 -- a packet whose numbers are 0
 abbrev pub noPacket : Packet

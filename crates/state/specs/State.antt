@@ -10,7 +10,8 @@ use Rattle.state.specs.declared.Account.{Account}
 use Rattle.state.specs.declared.Link.{Link}
 use Rattle.state.specs.declared.Packet.{Packet}
 use Rattle.state.specs.Account.{account, noAccount}
-use Rattle.state.specs.Queue.{table, queueOf}
+use Rattle.state.specs.Queue.{queueOf}
+use Rattle.tree.specs.Sum.{table}
 
 -- the tree, the round size in force, the set of active classes, the place in the round, each class's account and each class's queue (R96)
 pub record State : Type 0 where

@@ -20,7 +20,7 @@ use Rattle.rules.specs.Steps.{Fit}
 use Rattle.rules.specs.After.{sentLink}
 use Rattle.rules.proofs.Fitting.{fit-paid}
 use Rattle.rules.proofs.Meanings.{start-low, sound-fit, link-sender, sender-holds, first-cost, paid-means, books-more, books-last}
-use Rattle.opening.specs.Parts.{zipAccounts}
+use Rattle.state.specs.Account.{zipAccounts}
 use Rattle.steps.specs.Parts.{lentLink, booksOf, Grown, GoesNext}
 
 -- the link after, from the books and the queues after

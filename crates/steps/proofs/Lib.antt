@@ -4,5 +4,4 @@ pub mod Goings
 pub mod Wholes
 pub mod Rounding
 pub mod Departures
-pub mod Judging
 pub mod Children

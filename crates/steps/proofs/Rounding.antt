@@ -23,10 +23,10 @@ use Rattle.rules.specs.After.{openedLink}
 use Rattle.rules.specs.Steps.{OnTheWay}
 use Rattle.rules.proofs.OnTheWay.{way-starts, way-on}
 use Rattle.rules.proofs.Meanings.{meaning-wide, opened-means, opened-link-sound}
-use Rattle.opening.specs.Parts.{zipAccounts}
+use Rattle.state.specs.Account.{zipAccounts}
 use Rattle.opening.specs.Opens.{OpensWith}
 use Rattle.steps.specs.Parts.{lentLink, Searched}
-use Rattle.opening.proofs.Zips.{zip-at}
+use Rattle.state.proofs.Zips.{zip-at}
 pub use Rattle.active.proofs.Raised.{raised-none, raised-round}
 use Rattle.steps.specs.Rounds.{InParts, Unseen, Opens, closedLink, openLink}
 

@@ -11,19 +11,19 @@ use Rattle.tree.specs.Class.{noWeight, weightOf}
 use Rattle.state.specs.declared.Account.{Account}
 use Rattle.state.specs.declared.Link.{Link}
 use Rattle.state.specs.Account.{balanceOf, residualOf}
-use Rattle.state.specs.Queue.{table}
+use Rattle.tree.specs.Sum.{table}
 use Rattle.state.specs.State.{meaning, linkOf}
-use Rattle.state.proofs.Tables.{table-same, table-at}
+use Rattle.tree.proofs.Tables.{table-same, table-at}
 use Rattle.sound.specs.Sound.{SoundLink}
 use Rattle.rules.specs.Active.{someWaits}
 use Rattle.rules.proofs.Traces.{trace-wide}
 use Rattle.rules.specs.After.{Sent}
 use Rattle.rules.proofs.Meanings.{meaning-wide, waits-leaf}
 use Rattle.steps.specs.declared.Went.{Went}
-use Rattle.opening.specs.Parts.{zipAccounts}
+use Rattle.state.specs.Account.{zipAccounts}
 use Rattle.steps.specs.Parts.{lentLink, lentTree}
 use Rattle.steps.specs.Rounds.{InParts, sentWhere, Departs, Moves}
-use Rattle.opening.proofs.Zips.{zip-parts, list-table}
+use Rattle.state.proofs.Zips.{zip-parts, list-table}
 
 -- every class number keeps an account
 sent-many : (l : Link) (some : Bool) → length (l .accounts) ≡ 64 → SoundLink l → some ≡ someWaits (meaning l)

@@ -11,12 +11,12 @@ use Rattle.state.specs.declared.Link.{Link}
 use Rattle.tree.specs.Rules.{PlanRules}
 use Rattle.state.specs.Account.{balanceOf}
 use Rattle.state.specs.State.{linkOf}
-use Rattle.state.specs.Queue.{table}
+use Rattle.tree.specs.Sum.{table}
 pub use Rattle.state.specs.Queue.{queued}
 use Rattle.sound.specs.Sound.{SoundLink}
 use Rattle.rules.specs.Sending.{Books}
 use Rattle.rules.specs.Steps.{SendsNext}
-use Rattle.opening.specs.Parts.{zipAccounts}
+use Rattle.state.specs.Account.{zipAccounts}
 
 -- the tree with these parts, its weights as bare numbers
 abbrev pub lentTree : ℕ → ℕ → List ℕ → List ℕ → List ℕ → Bool → Tree

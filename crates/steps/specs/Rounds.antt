@@ -16,7 +16,7 @@ use Rattle.rules.specs.Sending.{nextLeaf, traceOf}
 use Rattle.rules.specs.Steps.{OnTheWay}
 use Rattle.rules.specs.Waits.{Waits}
 use Rattle.rules.specs.After.{Sent, sentBy}
-use Rattle.opening.specs.Parts.{zipAccounts}
+use Rattle.state.specs.Account.{zipAccounts}
 pub use Rattle.active.specs.Known.{Raised, Kept}
 use Rattle.steps.specs.declared.leaf.Gone.{Gone}
 use Rattle.steps.specs.declared.reopening.Found.{Found}

@@ -9,10 +9,10 @@ ghost use Rattle.tree.specs.declared.Tree.{Tree};
 ghost use Rattle.tree.specs.Class.{parentOf, isClass};
 ghost use Rattle.tree.specs.Sum.{someTo};
 ghost use Rattle.rules.specs.Active.{activeChild};
-ghost use Rattle.opening.specs.Parts.{zipAccounts};
+ghost use Rattle.state.specs.Account.{zipAccounts};
 ghost use Rattle.steps.specs.Parts.{booksOf, Grown};
-use opening::account_of;
-use opening::keep;
+use state::lent_accounts::account_of;
+use state::lent_accounts::keep;
 use tree::wide;
 
 // Class i turns inactive and gives what it holds to its parent's residual.

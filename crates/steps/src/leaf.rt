@@ -10,14 +10,15 @@ ghost use Rattle.state.specs.declared.Link.{Link};
 ghost use Rattle.state.specs.Queue.{packetAt};
 ghost use Rattle.state.specs.State.{meaning};
 ghost use Rattle.tree.specs.declared.Tree.{Tree};
-ghost use Rattle.opening.specs.Parts.{zipAccounts};
+ghost use Rattle.state.specs.Account.{zipAccounts};
 ghost use Rattle.steps.specs.Parts.{lentLink, Searched, GoesNext};
 ghost use Rattle.units.specs.declared.Bytes.{Bytes};
 ghost use Rattle.rules.specs.After.{sentLink};
 use crate::inactive::turn_off;
-use opening::account_of;
-use opening::keep_balance;
+use state::Link;
 use state::Packet;
+use state::lent_accounts::account_of;
+use state::lent_accounts::keep_balance;
 use state::queue;
 use tree::wide;
 use units::Bytes;
@@ -37,11 +38,13 @@ pub(crate) fn next_leaf(
     let mut at = place;
     loop {
         let i = sets::next(leaves, at);
-        if i == 64 {
-            return 64;
+        if i == Link::CLASSES {
+            return Link::CLASSES;
         }
         let s = start[i] as usize;
-        if units::cost(lengths[queue::slot(i, s)]).0 <= balance[i] {
+        let cost = units::cost(lengths[queue::slot(i, s)]);
+        let held = Bytes(balance[i]);
+        if held.covers(cost) {
             return i;
         }
         at = i + 1;

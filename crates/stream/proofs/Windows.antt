@@ -106,7 +106,8 @@ module _ (input window rest : List ℕ) (offset : ℕ) (is : drop offset input �
             record { text = p .text ++ bytesOf (s .line); more = s .more; link = s .link; place = s .place }
 
         -- a call: its line is laid, and the lines go on after it
-        called : (e : EventRead) (line : Line) (link : Link) (used : ℕ) → bytesOf line ++ printed (linesFrom link input (offset + p .place + used))
+        called : (e : EventRead) (line : Line) (link : Link) (used : ℕ)
+            → bytesOf line ++ printed (linesFrom link input (offset + p .place + used))
             ≡ printed (linesFrom (p .link) input (offset + p .place))
             → p .place + used ≤ length window
             → Along (record { text = p .text ++ bytesOf line; more = true; link = link; place = p .place + used })
@@ -178,7 +179,9 @@ module _ (input window rest : List ℕ) (offset : ℕ) (is : drop offset input �
 
       laid-by : (b : Bool) → way .more ≡ b → r .laid ≡ cond b (length (way .text)) (length (way .text) - length lastLaid)
       unfolding lastLaid
-      laid-by b e = ap (λ (x : PartRun). x .laid) same ∙ ap (λ (c : Bool). cond c (length (way .text)) (length (way .text) - length lastLaid)) e
+      laid-by b e =
+          ap (λ (x : PartRun). x .laid) same
+          ∙ ap (λ (c : Bool). cond c (length (way .text)) (length (way .text) - length lastLaid)) e
 
       text-is : (b : Bool) → way .more ≡ b → take (r .laid) after ≡ along .text
       unfolding lastLaid
@@ -209,7 +212,8 @@ module _ (input window rest : List ℕ) (offset : ℕ) (is : drop offset input �
           ap (λ (x : PartRun). isCall (eventAt (drop (x .place) window) (x .place))) same
           ∙ along .call (sym (ap (λ (x : PartRun). x .more) same) ∙ e)
 
-  -- what the parts of a window come to: what they wrote, and the lines of the input from where they end are all lines; no call stands there
+  -- what the parts of a window come to: what they wrote, and the lines of the input from where they end are all lines; no call stands
+  -- there
   record Over (l : Link) (place : ℕ) (text : List ℕ) (l′ : Link) (place′ : ℕ) : Type 0 where
     pub lines : printed (linesFrom l input (offset + place)) ≡ text ++ printed (linesFrom l′ input (offset + place′))
     pub sound : SoundLink l′

@@ -1,15 +1,17 @@
 -- The plan rules and what the walk from the highest class down decides of each class: a parent is lower, so children come later. Demand 1.
-use mathlib.Core.Bool.{Bool, true, false}
-use mathlib.Core.Path.{_≡_, refl, subst}
+use mathlib.Core.Bool.{Bool, true, false, cond}
+use mathlib.Core.Path.{_≡_, refl, sym, ap, ap₂, subst, _∙_}
 use Prim.Native.Nat.{ℕ, _^_, _≤_, _<_}
 use native.Mathlib.Decide.{decLe, ℕ-discrete}
 use native.Mathlib.Omega.{arith}
 use borrow.Author.Tests.{le-ltb, ltb-false, eqb-true, ne-eqb, not-false}
-use Rattle.checks.proofs.Laws.{not-true-and-false}
+use Rattle.checks.proofs.Laws.{not-true-and-false, exactly-unique}
 use Rattle.tree.specs.declared.Tree.{Tree}
-use Rattle.tree.specs.Class.{parentOf, weightOf, isClass, isLeaf, isInner, isChild, childWeight, childrenWeight, hasChild}
+use Rattle.tree.specs.declared.size.PlanSize.{PlanSize}
+use Rattle.tree.specs.Class.{parentOf, weightOf, isClass, isLeaf, isInner, isChild, ofChild, childrenSum, childrenWeight, hasChild}
 use Rattle.tree.specs.Rules.{tooMany, badParent, tooHeavy, childless, noClass, ClassesPass, UnsetIsZero, PlanRules}
-use Rattle.tree.specs.Steps.{NumberUnset, RestUnset, childrenAfter, ClassesRight}
+use Rattle.tree.specs.Steps.{NumberUnset, RestUnset, childrenAfter, ClassesObey, Sizes}
+use Rattle.tree.specs.Size.{roundSize}
 use Rattle.tree.specs.Sum.{someTo}
 use Rattle.tree.proofs.Classes.{class-in, class-range, class-past, root-no-class, child-own, child-other}
 use Rattle.tree.proofs.Rules.{few-classes, lower-parent, weight-range}
@@ -17,37 +19,37 @@ use Rattle.tree.proofs.Sums.{sum-zero, sum-part, some-found, some-which
 
 -- where parents are lower, all that the children of a class weigh comes after it
 after-all : (t : Tree) (i : ℕ) → ((k : ℕ) → 1 ≤ k → k ≤ i → badParent t k ≡ false) → childrenWeight t i ≡ childrenAfter t i
-unfolding childrenWeight
+unfolding childrenWeight childrenSum
 after-all t i rows =
-    omega (arith, sum-zero (childWeight t i) i (λ k l u. child-other t k i (λ e. omega (arith, lower-parent t k (rows k l u)))))
+    omega (arith, sum-zero (ofChild t (weightOf t) i) i (λ k l u. child-other t (weightOf t) k i (λ e. omega (arith, lower-parent t k (rows k l u)))))
 
 -- a class whose children weigh something has a child
 weighs-child : (t : Tree) (i : ℕ) → 1 ≤ childrenWeight t i → hasChild t i ≡ true
-unfolding childrenWeight hasChild childWeight
+unfolding childrenWeight childrenSum hasChild ofChild
 weighs-child t i h = go (someTo (isChild t i) (t .count)) refl
   where
-    none : (k : ℕ) → 1 ≤ k → k ≤ t .count → someTo (isChild t i) (t .count) ≡ false → childWeight t i k ≡ 0
+    none : (k : ℕ) → 1 ≤ k → k ≤ t .count → someTo (isChild t i) (t .count) ≡ false → ofChild t (weightOf t) i k ≡ 0
     none k l u e = at (isChild t i k) refl
       where
-        at : (b : Bool) → isChild t i k ≡ b → childWeight t i k ≡ 0
+        at : (b : Bool) → isChild t i k ≡ b → ofChild t (weightOf t) i k ≡ 0
         at true c = absurd (not-true-and-false (some-found (isChild t i) (t .count) k l u c) e)
         at false c = rw c
 
     go : (b : Bool) → someTo (isChild t i) (t .count) ≡ b → someTo (isChild t i) (t .count) ≡ true
     go true e = e
-    go false e = absurd (omega (arith, h, sum-zero (childWeight t i) (t .count) (λ k l u. none k l u e)))
+    go false e = absurd (omega (arith, h, sum-zero (ofChild t (weightOf t) i) (t .count) (λ k l u. none k l u e)))
 
 module _ (t : Tree) (rules : PlanRules t) where
   -- each child weighs something
   child-weighs : (i : ℕ) → hasChild t i ≡ true → 1 ≤ childrenWeight t i
-  unfolding hasChild childrenWeight isChild
+  unfolding hasChild childrenWeight childrenSum isChild
   child-weighs i h =
       let w = some-which (isChild t i) (t .count) h in
-      let own : childWeight t i (w .0) ≡ weightOf t (w .0) = rw (eqb-true (parentOf t (w .0)) i (w .3)) at (child-own t (w .0)) in
+      let own : ofChild t (weightOf t) i (w .0) ≡ weightOf t (w .0) = rw (eqb-true (parentOf t (w .0)) i (w .3)) at (child-own t (weightOf t) (w .0)) in
       omega (
         arith,
         own,
-        sum-part (childWeight t i) (t .count) (w .0) (w .1) (w .2),
+        sum-part (ofChild t (weightOf t) i) (t .count) (w .0) (w .1) (w .2),
         weight-range t (w .0) (rules .each .weights (w .0) (class-in t (w .0) (w .1) (w .2))) .0,
       )
 
@@ -61,7 +63,7 @@ module _ (t : Tree) (rules : PlanRules t) where
   rules-rest = record { root = number-unset 0 (omega arith) (root-no-class t); past = λ i l u. number-unset i u (class-past t i l) }
 
   -- by the plan rules each class is right
-  pub rules-classes : ClassesRight t
+  pub rules-classes : ClassesObey t
   unfolding tooHeavy childless isInner
   rules-classes = record {
     at = λ i is. record {
@@ -80,7 +82,7 @@ module _ (t : Tree) (rules : PlanRules t) where
     };
   }
 
-module _ (t : Tree) (rest : RestUnset t) (right : ClassesRight t) where
+module _ (t : Tree) (rest : RestUnset t) (right : ClassesObey t) where
   all-after : (i : ℕ) → isClass t i ≡ true → childrenWeight t i ≡ childrenAfter t i
   all-after i is = after-all t i (λ k l u. right .at k (class-in t k l (omega (arith, class-range t i is .1))) .parent)
 
@@ -133,3 +135,10 @@ module _ (t : Tree) (rest : RestUnset t) (right : ClassesRight t) where
     closing = record { classes = ne-eqb (t .count) 0 (λ e. omega arith); children = classes-childless; shares = classes-heavy };
     unset = record { at = unset-zero; word = word };
   }
+
+-- the decision of a tree with its size has one answer
+pub plan-size-one-answer : (t : Tree) (r s : PlanSize) → Sizes t r → Sizes t s → r ≡ s
+plan-size-one-answer t r s x y =
+    let same = exactly-unique (x .right) (y .right) in
+    ap₂ (λ (b : Bool) (n : ℕ). record { right = b; size = record { 0 = n } }) same
+    (x .size ∙ ap (λ (b : Bool). cond b (roundSize t) 0) same ∙ sym (y .size))

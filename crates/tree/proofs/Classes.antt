@@ -5,7 +5,7 @@ use Prim.Native.Nat.{ℕ, _≤_, _<_, zero-le}
 use lib.Dec.{leb}
 use borrow.Author.Tests.{le-leb, lt-leb, leb-true, eq-eqb, ne-eqb}
 use Rattle.tree.specs.declared.Tree.{Tree}
-use Rattle.tree.specs.Class.{parentOf, weightOf, isClass, isChild, childWeight}
+use Rattle.tree.specs.Class.{parentOf, weightOf, isClass, isChild, ofChild}
 use Rattle.checks.specs.Check.{firstBroken}
 use Rattle.checks.specs.declared.Verdict.the-variants.{Passed}
 use Rattle.checks.proofs.Laws.{passed-parts}
@@ -48,18 +48,18 @@ cond-le : (b : Bool) (x m : ℕ) → x ≤ m → cond b x 0 ≤ m
 cond-le true x m h = h
 cond-le false x m h = zero-le
 
-pub child-light : (t : Tree) (p i m : ℕ) → weightOf t i ≤ m → childWeight t p i ≤ m
-unfolding childWeight
-child-light t p i m h = cond-le (isChild t p i) (weightOf t i) m h
+pub child-light : (t : Tree) (x : ℕ → ℕ) (p i m : ℕ) → x i ≤ m → ofChild t x p i ≤ m
+unfolding ofChild
+child-light t x p i m h = cond-le (isChild t p i) (x i) m h
 
 -- what a class adds to its parent's children, and to any other number's
-pub child-own : (t : Tree) (i : ℕ) → childWeight t (parentOf t i) i ≡ weightOf t i
-unfolding childWeight isChild
-child-own t i = rw (eq-eqb (parentOf t i) (parentOf t i) refl)
+pub child-own : (t : Tree) (x : ℕ → ℕ) (i : ℕ) → ofChild t x (parentOf t i) i ≡ x i
+unfolding ofChild isChild
+child-own t x i = rw (eq-eqb (parentOf t i) (parentOf t i) refl)
 
-pub child-other : (t : Tree) (i p : ℕ) → (parentOf t i ≡ p → ⊥) → childWeight t p i ≡ 0
-unfolding childWeight isChild
-child-other t i p ne = rw (ne-eqb (parentOf t i) p ne)
+pub child-other : (t : Tree) (x : ℕ → ℕ) (i p : ℕ) → (parentOf t i ≡ p → ⊥) → ofChild t x p i ≡ 0
+unfolding ofChild isChild
+child-other t x i p ne = rw (ne-eqb (parentOf t i) p ne)
 
 -- where the checks of a class pass none of its numbers is broken
 pub class-passed : (t : Tree) (i p : ℕ) → firstBroken (classChecks t i p) ≡ Passed → (badParent t i ≡ false) × (badWeight t i ≡ false)

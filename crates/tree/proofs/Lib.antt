@@ -1,8 +1,10 @@
 pub mod Sums
+pub mod Tables
 pub mod Down
 pub mod Classes
 pub mod Rules
 pub mod Below
+pub mod Leaves
 pub mod ByParent
 pub mod Children
 pub mod AfterEnd

@@ -1,9 +1,11 @@
--- Which classes are at or below a class (R24). Demand 2.
-use mathlib.Core.Bool.{Bool, _||_}
-use Prim.Native.Nat.{ℕ, zero, suc}
+-- Which classes are at or below a class, which are above others (R24, R109), and sums over the leaves at or below one. Demands 1 to 3.
+use mathlib.Core.Bool.{Bool, true, false, cond, _&&_, _||_}
+use mathlib.Core.Path.{_≡_}
+use Prim.Native.Nat.{ℕ, zero, suc, _≤_}
 use lib.Dec.{eqb}
 use Rattle.tree.specs.declared.Tree.{Tree}
-use Rattle.tree.specs.Class.{parentOf}
+use Rattle.tree.specs.Class.{parentOf, isClass, isLeaf}
+use Rattle.tree.specs.Sum.{sumTo}
 
 -- class j is class i, or below it; n is as many steps up as there can be (R24)
 unfoldable pub climbs : ℕ → Tree → ℕ → ℕ → Bool
@@ -13,3 +15,20 @@ climbs (suc n) t i (suc j) = eqb i (suc j) || climbs n t i (parentOf t (suc j))
 
 unfoldable pub atOrBelow : Tree → ℕ → ℕ → Bool
 atOrBelow t i j = climbs 63 t i j
+
+-- what class j adds to a sum of x over the leaves at or below class i, and that sum (R70)
+unfoldable pub leafBelow : Tree → (ℕ → ℕ) → ℕ → ℕ → ℕ
+leafBelow t x i j = cond (isLeaf t j && atOrBelow t i j) (x j) 0
+
+unfoldable pub leavesSum : Tree → (ℕ → ℕ) → ℕ → ℕ
+leavesSum t x i = sumTo (leafBelow t x i) (t .count)
+
+-- class i is below class a: a child of it, or a child of a class below it (R109)
+pub data Below (t : Tree) (a : ℕ) : ℕ → Type 0 where
+  child : (i : ℕ) → isClass t i ≡ true → parentOf t i ≡ a → Below t a i
+  under : (i : ℕ) → isClass t i ≡ true → Below t a (parentOf t i) → Below t a i
+
+-- a class above others: the root or an inner class (R109)
+pub record Above (t : Tree) (i : ℕ) : Type 0 where
+  pub class : i ≤ t .count
+  pub inner : isLeaf t i ≡ false

@@ -38,13 +38,16 @@ isInner t i = isClass t i && not (isLeaf t i)
 unfoldable pub isChild : Tree → ℕ → ℕ → Bool
 isChild t p i = eqb (parentOf t i) p
 
--- what class i adds to the weight of class p's children (R29)
-unfoldable pub childWeight : Tree → ℕ → ℕ → ℕ
-childWeight t p i = cond (isChild t p i) (weightOf t i) 0
+-- what class i adds to a sum of x over the children of class p, and that sum (R29, R73, R122)
+unfoldable pub ofChild : Tree → (ℕ → ℕ) → ℕ → ℕ → ℕ
+ofChild t x p i = cond (isChild t p i) (x i) 0
+
+unfoldable pub childrenSum : Tree → (ℕ → ℕ) → ℕ → ℕ
+childrenSum t x p = sumTo (ofChild t x p) (t .count)
 
 -- what the children of class p weigh together (R29)
 unfoldable pub childrenWeight : Tree → ℕ → ℕ
-childrenWeight t p = sumTo (childWeight t p) (t .count)
+childrenWeight t p = childrenSum t (weightOf t) p
 
 -- class p has a child (R30)
 unfoldable pub hasChild : Tree → ℕ → Bool

@@ -1,10 +1,13 @@
 -- What the inner functions of the decision say, of a class number and of all; no rule of its own.
-use mathlib.Core.Bool.{true, false}
+use mathlib.Core.Bool.{true, false, cond}
 use mathlib.Core.Path.{_≡_}
 use Prim.Native.Nat.{ℕ, _-_, _≤_, _<_}
+use Rattle.checks.specs.Check.{Exactly}
 use Rattle.tree.specs.declared.Tree.{Tree}
-use Rattle.tree.specs.Class.{parentOf, weightOf, longestOf, isClass, isLeaf, childWeight}
-use Rattle.tree.specs.Rules.{badParent, badWeight, badLongest, NothingSet}
+use Rattle.tree.specs.declared.size.PlanSize.{PlanSize}
+use Rattle.tree.specs.Class.{parentOf, weightOf, longestOf, isClass, isLeaf, ofChild}
+use Rattle.tree.specs.Rules.{badParent, badWeight, badLongest, NothingSet, PlanRules}
+use Rattle.tree.specs.Size.{roundSize}
 use Rattle.tree.specs.Sum.{sumTo}
 
 -- these are the numbers of class number i
@@ -31,7 +34,7 @@ pub record InnerRight (weight longest children : ℕ) : Type 0 where
   pub share : children ≤ weight
 
 -- numbers 4, 5 and 6 are not broken at class i, and where it is inner its children weigh this much together
-pub record ClassRight (t : Tree) (i children : ℕ) : Type 0 where
+pub record ClassObeys (t : Tree) (i children : ℕ) : Type 0 where
   pub parent : badParent t i ≡ false
   pub weight : badWeight t i ≡ false
   pub longest : badLongest t i ≡ false
@@ -39,7 +42,12 @@ pub record ClassRight (t : Tree) (i children : ℕ) : Type 0 where
 
 -- what the classes after class i add to its children
 abbrev pub childrenAfter : Tree → ℕ → ℕ
-childrenAfter t i = sumTo (childWeight t i) (t .count) - sumTo (childWeight t i) i
+childrenAfter t i = sumTo (ofChild t (weightOf t) i) (t .count) - sumTo (ofChild t (weightOf t) i) i
 
-pub record ClassesRight (t : Tree) : Type 0 where
-  pub at : (i : ℕ) → isClass t i ≡ true → ClassRight t i (childrenAfter t i)
+pub record ClassesObey (t : Tree) : Type 0 where
+  pub at : (i : ℕ) → isClass t i ≡ true → ClassObeys t i (childrenAfter t i)
+
+-- whether a tree obeys the plan rules, and if so its round size, otherwise 0
+pub record Sizes (t : Tree) (r : PlanSize) : Type 0 where
+  pub right : Exactly (r .right) (PlanRules t)
+  pub size : r .size .0 ≡ cond (r .right) (roundSize t) 0

@@ -1,14 +1,14 @@
 // The plan rules decided for any tree whatever, and with them the round size. Named for specs/Size.
 // Serves demand 1 (numbers 3 to 9) and demand 3 (Q).
 ghost use mathlib.Core.Path.{_≡_};
-ghost use mathlib.Core.Bool.{true};
+ghost use mathlib.Core.Bool.{true, false};
 ghost use Prim.Native.Nat.{ℕ, _≤_, _<_};
 ghost use Rattle.checks.specs.Check.{Exactly};
 ghost use Rattle.tree.specs.declared.Tree.{Tree};
 ghost use Rattle.tree.specs.Class.{parentOf, weightOf, longestOf, isLeaf};
 ghost use Rattle.tree.specs.Rules.{PlanRules};
 ghost use Rattle.tree.specs.Size.{roundSize, allWeights, allLongest, longestCost};
-ghost use Rattle.tree.specs.Steps.{Numbers, NumberUnset, RestUnset, InnerRight, ClassRight, ClassesRight};
+ghost use Rattle.tree.specs.Steps.{Sizes, Numbers, NumberUnset, RestUnset, InnerRight, ClassObeys, ClassesObey};
 use crate::Tree;
 use crate::class_rules::bad_longest;
 use crate::class_rules::bad_parent;
@@ -30,7 +30,7 @@ pub struct ClassJudged {
     pub cost: Bytes,
 }
 
-// Whether a tree obeys the plan rules, and if so its round size.
+// Whether a tree obeys the plan rules, and if so its round size, otherwise 0.
 pub struct PlanSize {
     pub right: bool,
     pub size: Bytes,
@@ -105,7 +105,7 @@ fn class_right(
 ) -> ClassJudged
     requires { ⌜ i < 64 ⌝ }
     ensures { λ r. ⌜ ((t : Tree) → Numbers t i leaves parent (weight .0) longest
-        → Exactly (r .right) (ClassRight t i (children .0)) × (r .right ≡ true → r .cost .0 ≡ longestCost t i)) ⌝ }
+        → Exactly (r .right) (ClassObeys t i (children .0)) × (r .right ≡ true → r .cost .0 ≡ longestCost t i)) ⌝ }
 {
     let leaf = sets::has(leaves, i);
     let none = Bytes(0);
@@ -135,7 +135,7 @@ fn class_right(
 // The classes from the highest down, each adding its weight to its parent's sum: whether all are right, and what goes into the round size.
 fn walk(tree: Tree) -> Walked
     requires { ⌜ tree .count ≤ 63 ⌝ }
-    ensures { λ r. ⌜ Exactly (r .right) (ClassesRight tree)
+    ensures { λ r. ⌜ Exactly (r .right) (ClassesObey tree)
         × (r .right ≡ true → (r .weights .0 ≡ allWeights tree) × (r .packets .0 ≡ allLongest tree)) ⌝ }
 {
     let parent = tree.parent;
@@ -172,37 +172,32 @@ fn walk(tree: Tree) -> Walked
     }
 }
 
+// A tree that breaks the plan rules has no round size: 0.
+fn no_size() -> PlanSize
+    ensures { λ r. ⌜ r ≡ record { right = false; size = record { 0 = 0 } } ⌝ }
+{
+    let size = Bytes(0);
+    PlanSize { right: false, size }
+}
+
 // Whether a tree, any tree whatever, obeys the plan rules, and then its round size.
 pub fn plan_size(tree: Tree) -> PlanSize
-    ensures { λ r. ⌜ Exactly (r .right) (PlanRules tree) × (r .right ≡ true → r .size .0 ≡ roundSize tree) ⌝ }
+    ensures { λ r. ⌜ Sizes tree r ⌝ }
 {
-    let none = Bytes(0);
     if Tree::MOST < tree.count {
-        return PlanSize {
-            right: false,
-            size: none,
-        };
+        return no_size();
     }
     if tree.count == 0 {
-        return PlanSize {
-            right: false,
-            size: none,
-        };
+        return no_size();
     }
     if !rest_unset(tree) {
-        return PlanSize {
-            right: false,
-            size: none,
-        };
+        return no_size();
     }
     let walked = walk(tree);
     let weights = walked.weights;
     let packets = walked.packets;
     if !walked.right {
-        return PlanSize {
-            right: false,
-            size: none,
-        };
+        return no_size();
     }
     let size = units::size(weights, packets);
     PlanSize { right: true, size }

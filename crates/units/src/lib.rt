@@ -2,6 +2,7 @@
 // Serves demand 2: a share is never taken for a byte count.
 ghost use mathlib.Core.Path.{_≡_};
 ghost use Prim.Native.Nat.{_+_, _-_, _*_, _^_, _<_, _≤_, max};
+ghost use lib.Dec.{leb};
 ghost use Rattle.units.specs.Unit.{dueOf, quotaOf, surplusOf, sizeOf};
 ghost use Rattle.units.specs.Cost.{costOf};
 
@@ -36,6 +37,13 @@ impl Bytes {
         ensures { λ r. ⌜ r .0 ≡ self .0 - other .0 ⌝ }
     {
         Bytes(self.0 - other.0)
+    }
+
+    // Whether a balance covers a cost.
+    pub fn covers(self, cost: Bytes) -> bool
+        ensures { λ r. ⌜ r ≡ leb (cost .0) (self .0) ⌝ }
+    {
+        cost.0 <= self.0
     }
 }
 

@@ -28,14 +28,14 @@ use Rattle.wait.proofs.InOrder.{packetBehind, send-in-order}
 use Rattle.wait.proofs.OneCall.{send-falls, holds-waits, any-arrival}
 
 -- what was sent is no more than a number; as long as the packet waits there were fewer sends than that; where it has gone it was this one
-pub record Within (f : Followed) (sends number : ℕ) (p : Packet) : Type 0 where
+pub record GoneWithin (f : Followed) (sends number : ℕ) (p : Packet) : Type 0 where
   pub sent : f .sent ≤ number
   pub waits : f .gone ≡ false → sends < number
   pub this : f .gone ≡ true → f .packet ≡ p
 
 -- one send more
-more-within : (c n less number : ℕ) (f : Followed) (p q : Packet) → 1 ≤ c → less + c ≤ number → p ≡ q → Within f n less p
-    → Within (more c f) (suc n) number q
+more-within : (c n less number : ℕ) (f : Followed) (p q : Packet) → 1 ≤ c → less + c ≤ number → p ≡ q → GoneWithin f n less p
+    → GoneWithin (more c f) (suc n) number q
 more-within c n less number f p q some fall same w = record {
   sent = omega (arith, fall, w .sent);
   waits = λ g. omega (arith, some, fall, w .waits g);
@@ -44,7 +44,7 @@ more-within c n less number f p q some fall same w = record {
 
 -- the calls keep a packet that waits in a state within the number that falls there, wherever it waits
 abbrev Keeps : List Made → ℕ → State → Type 0
-Keeps ms i s = (k : ℕ) → Holds s i k → Within (followed i k ms) (sendsIn ms) (falling s i k) (packetBehind s i k)
+Keeps ms i s = (k : ℕ) → Holds s i k → GoneWithin (followed i k ms) (sendsIn ms) (falling s i k) (packetBehind s i k)
 
 -- no call
 none-keeps : (i : ℕ) (s : State) → Keeps [] i s
@@ -81,17 +81,17 @@ module _
       go k h (subst (Keeps rest i) means later) (eqb (trace .class) i) refl
     where
       go : (k : ℕ) → Holds before i k → Keeps rest i (trace .state) → (b : Bool) → eqb (trace .class) i ≡ b
-          → Within (followed i k (made send answer after ∷ rest)) (suc (sendsIn rest)) (falling before i k) (packetBehind before i k)
+          → GoneWithin (followed i k (made send answer after ∷ rest)) (suc (sendsIn rest)) (falling before i k) (packetBehind before i k)
       go k h ih false e =
           let f = send-falls before i k h in
           let ne : i ≡ trace .class → ⊥ = λ z. eqb-false (trace .class) i e (sym z) in
-          subst (λ (r : Followed). Within r (suc (sendsIn rest)) (falling before i k) (packetBehind before i k)) (sym (goes-by k h false e))
+          subst (λ (r : Followed). GoneWithin r (suc (sendsIn rest)) (falling before i k) (packetBehind before i k)) (sym (goes-by k h false e))
           (more-within cost (sendsIn rest) (falling (trace .state) i k) (falling before i k) (followed i k rest) _ _
           (f .costs) (f .other-falls ne) (send-in-order before i k h .other i k ne) (ih k (f .other-holds ne)))
       go (suc j) h ih true e =
           let f = send-falls before i (suc j) h in
           let is : i ≡ trace .class = sym (eqb-true (trace .class) i e) in
-          subst (λ (r : Followed). Within r (suc (sendsIn rest)) (falling before i (suc j)) (packetBehind before i (suc j)))
+          subst (λ (r : Followed). GoneWithin r (suc (sendsIn rest)) (falling before i (suc j)) (packetBehind before i (suc j)))
           (sym (goes-by (suc j) h true e))
           (more-within cost (sendsIn rest) (falling (trace .state) i j) (falling before i (suc j)) (followed i j rest) _ _
           (f .costs) (f .own-falls j is refl)
@@ -101,7 +101,7 @@ module _
       go zero h ih true e =
           let f = send-falls before i 0 h in
           let is : i ≡ trace .class = sym (eqb-true (trace .class) i e) in
-          subst (λ (r : Followed). Within r (suc (sendsIn rest)) (falling before i 0) (packetBehind before i 0)) (sym (goes-by 0 h true e))
+          subst (λ (r : Followed). GoneWithin r (suc (sendsIn rest)) (falling before i 0) (packetBehind before i 0)) (sym (goes-by 0 h true e))
           (record {
             sent = omega (arith, f .itself is);
             waits = λ g. absurd (not-true-and-false refl g);
@@ -115,7 +115,7 @@ run-keeps [] l i sound run k h = none-keeps i (meaning l) k h
 run-keeps (made (arrival j p) answer after ∷ rest) l i sound run k h =
     let a = any-arrival l i k j p (arrivalLeaves answer after) sound (run .0) h in
     let later = run-keeps rest after i (run .0 .keeps sound) (run .1) k (a .holds) in
-    subst (Within (followed i k rest) (sendsIn rest) (falling (meaning l) i k)) (a .packet)
-    (subst (λ (n : ℕ). Within (followed i k rest) (sendsIn rest) n (packetBehind (meaning after) i k)) (a .same) later)
+    subst (GoneWithin (followed i k rest) (sendsIn rest) (falling (meaning l) i k)) (a .packet)
+    (subst (λ (n : ℕ). GoneWithin (followed i k rest) (sendsIn rest) n (packetBehind (meaning after) i k)) (a .same) later)
 run-keeps (made send answer after ∷ rest) l i sound run k h =
     send-keeps l answer after rest i sound (run .0) (run-keeps rest after i (run .0 .keeps sound) (run .1)) k h

@@ -26,7 +26,7 @@ use Rattle.calls.proofs.Runs.{left-taken}
 use Rattle.wait.specs.Wait.{followed, sendsIn, boundOf}
 use Rattle.wait.proofs.Credit.{Holds, falling}
 use Rattle.wait.proofs.InOrder.{packetBehind, accepted-last}
-use Rattle.wait.proofs.AnyRun.{Within, run-keeps}
+use Rattle.wait.proofs.AnyRun.{GoneWithin, run-keeps}
 use Rattle.wait.proofs.Accepted.{accepted-holds, starts-within, fits-64}
 
 -- an arrival of packet p to class i with the answer a, that is accepted
@@ -61,9 +61,9 @@ module _ (l : Link) (i : ℕ) (p : Packet) (a : AfterArrival) (arrives : Arrives
   within-bound = rw (means, ← meaning-held l i low, ← waiting) (starts-within (meaning l) i p (sound .state) wide low passes)
 
   within : (run : List Made) → Run (a .link) run
-      → Within (followed i (heldOf l i) run) (sendsIn run) (falling (meaning (a .link)) i (heldOf l i)) p
+      → GoneWithin (followed i (heldOf l i) run) (sendsIn run) (falling (meaning (a .link)) i (heldOf l i)) p
   within run is =
-      subst (Within (followed i (heldOf l i) run) (sendsIn run) (falling (meaning (a .link)) i (heldOf l i)))
+      subst (GoneWithin (followed i (heldOf l i) run) (sendsIn run) (falling (meaning (a .link)) i (heldOf l i)))
       (ap₂ (λ (s : State) (k : ℕ). packetBehind s i k) means (sym (meaning-held l i low)) ∙ accepted-last (meaning l) i p wide low)
       (run-keeps run (a .link) i (arrives .keeps sound) is (heldOf l i) holds)
 

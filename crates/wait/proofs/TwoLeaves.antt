@@ -12,16 +12,16 @@ use Rattle.sets.specs.Set.{has, with, without}
 use Rattle.units.specs.Cost.{costOf}
 use Rattle.tree.specs.declared.Tree.{Tree}
 use Rattle.tree.specs.declared.Class.{Class}
-use Rattle.tree.specs.Class.{noTree, added, isClass, isLeaf, isInner, isChild, childWeight, childrenWeight, hasChild}
+use Rattle.tree.specs.Class.{noTree, added, isClass, isLeaf, isInner, isChild, ofChild, childrenSum, childrenWeight, hasChild}
 use Rattle.tree.specs.Rules.{tooMany, badParent, badWeight, badLongest, tooHeavy, childless, noClass, closingChecks, ClassesPass, PlanRules}
-use Rattle.tree.specs.Sum.{sumTo, someTo}
+use Rattle.tree.specs.Sum.{sumTo, someTo, table}
 use Rattle.tree.specs.Size.{roundSize, allWeights, allLongest, longestCost}
 use Rattle.rules.specs.Sizes.{mainSize}
 use Rattle.tree.proofs.Growth.{Grown, none-grown, added-grown, none-pass, classes-kept}
 use Rattle.tree.proofs.AfterEnd.{closing-yes}
 use Rattle.state.specs.declared.Link.{Link}
 use Rattle.state.specs.declared.Packet.{Packet}
-use Rattle.state.specs.Queue.{table, queueOf}
+use Rattle.state.specs.Queue.{queueOf}
 use Rattle.state.specs.State.{State, meaning, freshLink}
 use Rattle.tree.specs.Below.{climbs, atOrBelow}
 use Rattle.rules.specs.Active.{waits, someWaits, someBelow, setOf, upward, roundActive, activeChild, activeWeight, weightSum}
@@ -53,7 +53,7 @@ unfolding leaf one tree badParent badWeight badLongest isLeaf has with
 passes = classes-kept one (leaf 1 10) (classes-kept noTree (leaf 1 10) (none-pass false) refl refl refl) refl refl refl
 
 closes : firstBroken (closingChecks tree) ≡ Passed
-unfolding leaf one tree firstBroken classByClass tooHeavy childless noClass isInner isClass isLeaf isChild childWeight childrenWeight
+unfolding leaf one tree firstBroken classByClass tooHeavy childless noClass isInner isClass isLeaf isChild ofChild childrenSum childrenWeight
     hasChild sumTo someTo has with
 closes = refl
 
@@ -109,6 +109,7 @@ pub record SendsAs (s : State) (mark many : ℕ) : Type 0 where
 pub two-sends : SendsAs withBoth 1 1 × SendsAs sentOnce 4 0 × (someWaits (traceOf sentOnce .state) ≡ false)
 unfolding leaf one tree fresh first second withFirst withBoth sentOnce roundSize allWeights allLongest longestCost sumTo someTo isClass
     isLeaf isInner isChild has with without costOf table queueOf climbs atOrBelow waits someWaits someBelow setOf upward roundActive
+    ofChild childrenSum
     activeChild activeWeight weightSum surplusAt hasSurplus kindOf quotaIn quota due handsDown openedLeaf openedInner openedAccount
     openedAccounts nextKind nextSize mainSize resizedAccounts openedWith ready firstFrom nextLeaf givenUp turnsOff paid booksAfter sentState turnOf sends traceOf
 two-sends = (record { waits = refl; tag = refl; rounds = refl }, record { waits = refl; tag = refl; rounds = refl }, refl)

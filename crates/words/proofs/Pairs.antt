@@ -10,7 +10,7 @@ use Rattle.bytes.specs.Bytes.{indexOf, slice}
 use Rattle.words.specs.declared.Number.{Number}
 use Rattle.words.specs.declared.Number.the-variants.{Is, No}
 use Rattle.words.specs.declared.Pair.the-variants.{Other}
-use Rattle.words.specs.Word.{numberOf, asks, pairOf}
+use Rattle.words.specs.Word.{wordNumber, asks, pairOf}
 use Rattle.words.proofs.Reading.{read-empty}
 
 -- the place that the library's search finds
@@ -28,11 +28,11 @@ pub pair-none : (text : List ℕ) (at : ℕ) → at ≡ indexOf 61 text → at �
 unfolding pairOf
 pair-none text at e all =
     let k = indexOf 61 text in
-    let past : numberOf (drop (k + 1) text) ≡ No = read-empty (drop (k + 1) text) (omega (arith, length-drop (k + 1) text)) in
-    sym (ap (asks (numberOf (take k text))) past ∙ asks-none (numberOf (take k text)))
+    let past : wordNumber (drop (k + 1) text) ≡ No = read-empty (drop (k + 1) text) (omega (arith, length-drop (k + 1) text)) in
+    sym (ap (asks (wordNumber (take k text))) past ∙ asks-none (wordNumber (take k text)))
 
 -- the two numbers around the first `=`
 pub pair-around : (text : List ℕ) (at : ℕ) → at ≡ indexOf 61 text
-    → asks (numberOf (take at text)) (numberOf (drop (at + 1) text)) ≡ pairOf text
+    → asks (wordNumber (take at text)) (wordNumber (drop (at + 1) text)) ≡ pairOf text
 unfolding pairOf
-pair-around text at e = ap (λ (k : ℕ). asks (numberOf (take k text)) (numberOf (drop (k + 1) text))) e
+pair-around text at e = ap (λ (k : ℕ). asks (wordNumber (take k text)) (wordNumber (drop (k + 1) text))) e

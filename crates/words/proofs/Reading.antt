@@ -11,7 +11,7 @@ use lib.Dec.{ltb}
 use lib.ListN.{length}
 use Rattle.words.specs.declared.Number.{Number}
 use Rattle.words.specs.declared.Number.the-variants.{Is, No}
-use Rattle.words.specs.Word.{isDigit, allDigits, valueOf, numberOf}
+use Rattle.words.specs.Word.{isDigit, allDigits, valueOf, wordNumber}
 use Rattle.words.specs.Step.{withDigit, allMore}
 
 -- which bytes are digits
@@ -80,15 +80,15 @@ read-after (b ∷ bs) n h = go (isDigit b) refl (decLt (n * 10 + (b - 48)) (2 ^ 
         step No (digit-over n b (omega arith)) ∙ stays-none bs ∙ sym (rw (le-ltb (andAfter n (b ∷ bs)) (2 ^ 64) large, and-false))
 
 -- a word read from its first byte on
-pub read-all : (text : List ℕ) → 0 < length text → allMore (Is 0) text ≡ numberOf text
-unfolding numberOf
+pub read-all : (text : List ℕ) → 0 < length text → allMore (Is 0) text ≡ wordNumber text
+unfolding wordNumber
 read-all [] h = absurd (omega arith)
 read-all (b ∷ bs) h =
     let same : andAfter 0 (b ∷ bs) ≡ valueOf (b ∷ bs) = omega arith in
     read-after (b ∷ bs) 0 (omega arith) ∙ rw same
 
 -- no byte at all is no number
-pub read-empty : (text : List ℕ) → length text ≡ 0 → numberOf text ≡ No
-unfolding numberOf
+pub read-empty : (text : List ℕ) → length text ≡ 0 → wordNumber text ≡ No
+unfolding wordNumber
 read-empty [] h = refl
 read-empty (b ∷ bs) h = absurd (omega arith)

@@ -17,19 +17,19 @@ use Rattle.digits.proofs.Decimals.{AllDigits, value, decimal-digits, decimal-va
 use Rattle.words.specs.declared.Number.{Number}
 use Rattle.words.specs.declared.Number.the-variants.{Is, No}
 use Rattle.words.specs.declared.Pair.the-variants.{Asks, Other}
-use Rattle.words.specs.Word.{isDigit, allDigits, valueOf, numberOf, asks, pairOf}
+use Rattle.words.specs.Word.{isDigit, allDigits, valueOf, wordNumber, asks, pairOf}
 use Rattle.words.proofs.Reading.{andAfter, digit-in, first-digit}
 use Rattle.words.proofs.Pairs.{pair-none}
 
 -- digits of a value below 2 to the power 64 are that number
-pub is-number : (text : List ℕ) → 0 < length text → allDigits text ≡ true → valueOf text < 2 ^ 64 → numberOf text ≡ Is (valueOf text)
-unfolding numberOf
+pub is-number : (text : List ℕ) → 0 < length text → allDigits text ≡ true → valueOf text < 2 ^ 64 → wordNumber text ≡ Is (valueOf text)
+unfolding wordNumber
 is-number [] some all fits = absurd (omega arith)
 is-number (b ∷ bs) some all fits = rw (all, lt-ltb (valueOf (b ∷ bs)) (2 ^ 64) fits)
 
 -- a leading zero counts for nothing
-pub zero-before : (text : List ℕ) → 0 < length text → numberOf (48 ∷ text) ≡ numberOf text
-unfolding numberOf
+pub zero-before : (text : List ℕ) → 0 < length text → wordNumber (48 ∷ text) ≡ wordNumber text
+unfolding wordNumber
 zero-before [] some = absurd (omega arith)
 zero-before (b ∷ bs) some =
     let same : valueOf (48 ∷ b ∷ bs) ≡ valueOf (b ∷ bs) = omega arith in
@@ -58,7 +58,7 @@ some-digit n = go (decLt 0 n)
         subst (λ (ds : List ℕ). 0 < length ds) (sym (ap decimal none ∙ decimal-zero)) (omega arith)
 
 -- the digits of a number read back give it
-pub digits-back : (n : ℕ) → n < 2 ^ 64 → numberOf (decimal n) ≡ Is n
+pub digits-back : (n : ℕ) → n < 2 ^ 64 → wordNumber (decimal n) ≡ Is n
 digits-back n h =
     is-number (decimal n) (some-digit n) (all-digits (decimal n) (decimal-digits n)) (omega (arith, value-back n))
     ∙ ap Is (value-back n)
@@ -85,12 +85,12 @@ after-digits (d ∷ cs) rs all =
     ∙ ap suc (after-digits cs rs (parts .1))
 
 -- digits, `=` and any bytes are read as two numbers
-pub pair-laid : (cs rs : List ℕ) → allDigits cs ≡ true → pairOf (cs ++ 61 ∷ rs) ≡ asks (numberOf cs) (numberOf rs)
+pub pair-laid : (cs rs : List ℕ) → allDigits cs ≡ true → pairOf (cs ++ 61 ∷ rs) ≡ asks (wordNumber cs) (wordNumber rs)
 unfolding pairOf
 pair-laid cs rs all =
     let at : indexOf 61 (cs ++ 61 ∷ rs) ≡ length cs = after-digits cs rs all in
-    ap (λ (k : ℕ). asks (numberOf (take k (cs ++ 61 ∷ rs))) (numberOf (drop (k + 1) (cs ++ 61 ∷ rs)))) at
-    ∙ ap₂ (λ (x y : List ℕ). asks (numberOf x) (numberOf y)) (take-append-seam cs (61 ∷ rs)) (drop-append-add cs (61 ∷ rs) 1)
+    ap (λ (k : ℕ). asks (wordNumber (take k (cs ++ 61 ∷ rs))) (wordNumber (drop (k + 1) (cs ++ 61 ∷ rs)))) at
+    ∙ ap₂ (λ (x y : List ℕ). asks (wordNumber x) (wordNumber y)) (take-append-seam cs (61 ∷ rs)) (drop-append-add cs (61 ∷ rs) 1)
 
 -- so a class and a request written in digits are read back
 pub pair-back : (c r : ℕ) → c ≤ 63 → r < 2 ^ 64 → pairOf (decimal c ++ 61 ∷ decimal r) ≡ Asks c r
@@ -128,9 +128,9 @@ pub record Written (text : List ℕ) (c r : ℕ) : Type 0 where
   pub class : List ℕ
   pub request : List ℕ
   pub laid : text ≡ class ++ 61 ∷ request
-  pub number : numberOf class ≡ Is c
+  pub number : wordNumber class ≡ Is c
   pub few : c ≤ 63
-  pub asked : numberOf request ≡ Is r
+  pub asked : wordNumber request ≡ Is r
 
 -- another word is no pair
 not-taken : (c r : ℕ) → Other ≡ Asks c r → ⊥
@@ -158,7 +158,7 @@ pair-written text c r e = go (decLt (indexOf 61 text) (length text))
 
     go : Dec (indexOf 61 text < length text) → Written text c r
     go (yes within) =
-        let parts = asks-parts (numberOf (take k text)) (numberOf (drop (k + 1) text)) c r e in
+        let parts = asks-parts (wordNumber (take k text)) (wordNumber (drop (k + 1) text)) c r e in
         record {
           class = take k text;
           request = drop (k + 1) text;

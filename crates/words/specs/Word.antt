@@ -30,8 +30,8 @@ valueOf [] = 0
 valueOf (d ∷ ds) = (d - 48) * 10 ^ length ds + valueOf ds
 
 -- a number: one digit or more, of a value below 2 to the power 64 (R175)
-unfoldable pub numberOf : List ℕ → Number
-numberOf text = cond (digits text && ltb (valueOf text) (2 ^ 64)) (Is (valueOf text)) No
+unfoldable pub wordNumber : List ℕ → Number
+wordNumber text = cond (digits text && ltb (valueOf text) (2 ^ 64)) (Is (valueOf text)) No
 
 -- a class and a request: two numbers, the class at most 63 (R177)
 abbrev pub asks : Number → Number → Pair
@@ -42,4 +42,4 @@ asks (Is class) (Is request) = cond (leb class 63) (Asks class request) Other
 -- CLASS=REQUEST: the number before the first `=`, which is 61, and the number after it; without `=` nothing comes after it, which is no
 -- number (R177)
 unfoldable pub pairOf : List ℕ → Pair
-pairOf text = asks (numberOf (take (indexOf 61 text) text)) (numberOf (drop (indexOf 61 text + 1) text))
+pairOf text = asks (wordNumber (take (indexOf 61 text) text)) (wordNumber (drop (indexOf 61 text + 1) text))

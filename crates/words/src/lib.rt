@@ -2,7 +2,7 @@
 ghost use mathlib.Core.Path.{_≡_};
 ghost use Prim.Native.Nat.{_<_};
 ghost use Rattle.words.specs.Step.{withDigit, oneMore};
-ghost use Rattle.words.specs.Word.{numberOf, asks, pairOf};
+ghost use Rattle.words.specs.Word.{wordNumber, asks, pairOf};
 
 // What a word says as a number: one digit or more, of a value below 2 to the power 64; or no number.
 pub enum Number {
@@ -55,7 +55,7 @@ fn one_more(sofar: Number, byte: u8) -> Number
 
 // The number that a word is.
 pub fn read_number(text: &[u8]) -> Number
-    ensures { λ r. ⌜ r ≡ numberOf (now (text .entry)) ⌝ }
+    ensures { λ r. ⌜ r ≡ wordNumber (now (text .entry)) ⌝ }
 {
     if text.len() == 0 {
         return Number::No;

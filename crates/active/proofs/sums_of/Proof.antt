@@ -6,8 +6,8 @@ use Prim.Native.Nat.{ℕ}
 use lib.ListN.{getD}
 use Rattle.sets.specs.Set.{has}
 use Rattle.tree.specs.declared.Tree.{Tree}
-use Rattle.state.specs.Queue.{table}
-use Rattle.state.proofs.Tables.{table-same, table-at}
+use Rattle.tree.specs.Sum.{table}
+use Rattle.tree.proofs.Tables.{table-same, table-at}
 use Rattle.rules.specs.Active.{weightSum, weightSums}
 use Rattle.active.specs.Known.{Kept}
 use borrow.Author.Needs.{needs}

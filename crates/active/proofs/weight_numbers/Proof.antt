@@ -6,23 +6,23 @@ use native.Mathlib.Omega.{arith}
 use lib.ListN.{getD, replicate}
 use Rattle.units.specs.declared.Weight.{Weight}
 use Rattle.tree.specs.Class.{noWeight}
-use Rattle.state.specs.Queue.{table}
-use Rattle.state.proofs.Tables.{table-none, table-fill}
+use Rattle.tree.specs.Sum.{table}
+use Rattle.tree.proofs.Tables.{table-none, table-fill}
 use borrow.Author.Needs.{needs}
 use Rattle.active.proofs.weight_numbers.Statement.{statement}
 use Rattle.active.proofs.weight_numbers.Tie as tie
 
-abbrev numberOf : List Weight → ℕ → ℕ
-numberOf weights p = getD weights p noWeight .0
+abbrev weightAt : List Weight → ℕ → ℕ
+weightAt weights p = getD weights p noWeight .0
 
 abbrev Inv-loop : tie.InvT-loop
-Inv-loop weights out₀ i₀ out i = (i ≤ 64) × (out ≡ table (numberOf weights) i ++ replicate (64 - i) 0)
+Inv-loop weights out₀ i₀ out i = (i ≤ 64) × (out ≡ table (weightAt weights) i ++ replicate (64 - i) 0)
 
 abbrev μ-loop : tie.MeasureT-loop
 μ-loop weights out₀ i₀ out i = 64 - i
 
 loop-holds : tie.Need-loop-holds Inv-loop μ-loop
-loop-holds c = (omega arith, rw (table-none (numberOf (c .args .t1))) refl)
+loop-holds c = (omega arith, rw (table-none (weightAt (c .args .t1))) refl)
 
 mul-w : tie.Need-mul-w Inv-loop μ-loop
 mul-w c = search needs
@@ -49,14 +49,14 @@ loop-again : tie.Need-loop-again Inv-loop μ-loop
 loop-again c =
     let g = c .before .before in
     let h = g .before in
-    let fill = table-fill (numberOf (h .before .args .t1)) 0 64 (h .loop .i) (g .loop-test .taken) in
+    let fill = table-fill (weightAt (h .before .args .t1)) 0 64 (h .loop .i) (g .loop-test .taken) in
     (omega arith, rw (h .loop .inv .1, c .number .ensures) fill)
 
 returns : tie.Need-returns Inv-loop μ-loop
 returns c =
     let h = c .before in
     let e : h .loop .i ≡ 64 = omega arith in
-    h .loop .inv .1 ∙ rw e (append-nil (table (numberOf (h .before .args .t1)) 64))
+    h .loop .inv .1 ∙ rw e (append-nil (table (weightAt (h .before .args .t1)) 64))
 
 pub weight-numbers-spec : {M : Type 1} → statement M
 weight-numbers-spec =

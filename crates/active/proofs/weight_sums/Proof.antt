@@ -9,7 +9,7 @@ use Rattle.sets.specs.Set.{has}
 use Rattle.units.specs.declared.Weight.{Weight}
 use Rattle.tree.specs.Class.{noWeight, parentOf, weightOf}
 use Rattle.tree.proofs.Rules.{few-classes, rules-light}
-use Rattle.state.specs.Queue.{table}
+use Rattle.tree.specs.Sum.{table}
 use Rattle.tree.proofs.Rules.{parent-below}
 use Rattle.rules.proofs.Sums.{sumAbove, sums-none, sums-all, sums-step, sums-fit}
 use borrow.Author.Needs.{needs}

@@ -6,8 +6,8 @@ use native.Mathlib.Omega.{arith}
 use lib.ListN.{getD, replicate}
 use Rattle.units.specs.declared.Weight.{Weight}
 use Rattle.tree.specs.Class.{noWeight}
-use Rattle.state.specs.Queue.{table}
-use Rattle.state.proofs.Tables.{table-none, table-fill}
+use Rattle.tree.specs.Sum.{table}
+use Rattle.tree.proofs.Tables.{table-none, table-fill}
 use borrow.Author.Needs.{needs}
 use Rattle.active.proofs.weights_of.Statement.{statement}
 use Rattle.active.proofs.weights_of.Tie as tie

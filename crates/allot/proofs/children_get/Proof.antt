@@ -3,11 +3,11 @@ use mathlib.Core.Path.{_≡_, sym}
 use Prim.Native.Nat.{_+_, _-_, _≤_}
 use native.Mathlib.Omega.{arith}
 use Rattle.tree.specs.Sum.{sumTo}
-use Rattle.tree.specs.Class.{isChild}
+use Rattle.tree.specs.Class.{isChild, ofChild, childrenSum}
 use Rattle.tree.proofs.Rules.{few-classes}
 use Rattle.tree.proofs.Sums.{sum-none, sum-step, sum-bound}
 use Rattle.allot.specs.Request.{entry}
-use Rattle.allot.specs.Share.{ofChild, ofChildren, shareAt}
+use Rattle.allot.specs.Share.{shareAt}
 use Rattle.allot.proofs.Fair.{share-small, share-fits}
 use borrow.Author.Needs.{needs}
 use Rattle.allot.proofs.children_get.Statement.{statement}
@@ -80,7 +80,7 @@ loop-again c =
     (h .loop .inv .0, omega arith, omega arith, omega (arith, added c, step))
 
 returns : tie.Need-returns Inv-loop μ-loop
-unfolding ofChildren
+unfolding childrenSum
 returns c =
     let e : c .before .loop .i - 1 ≡ c .before .before .args .t1 .count = omega arith in
     rw e at (c .before .loop .inv .3)

@@ -34,6 +34,16 @@ events-after-requires c κs = search needs
 read-event-requires : tie.Need-read-event-requires
 read-event-requires c κs = search needs
 
+used-requires : tie.Need-used-requires
+used-requires c κs = search needs
+
+add-after : tie.Need-add-after
+add-after c = omega (arith, c .used .ensures .0, within (c .before) (c .before .read-event .result) refl .1)
+
+-- the place after it
+moves-on : (u : tie.After-used) {e : EventRead} → u .before .read-event .result ≡ e → u .used .result ≡ usedOf e
+moves-on u told = u .used .ensures .0 ∙ ap usedOf told
+
 enum-told : tie.Need-enum-told
 enum-told c = search needs
 
@@ -43,17 +53,11 @@ plain-requires c κs = search needs
 enum-known-read : tie.Need-enum-known-read
 enum-known-read c = search needs
 
-cast-t7 : tie.Need-cast-t7
-cast-t7 c = search needs
-
-add-t9 : tie.Need-add-t9
-add-t9 c = let v = c .before .before in omega (arith, within (v .before .before) (Arrive (v .read .given .0 .0)) (v .read .given .1) .1)
+cast-t9 : tie.Need-cast-t9
+cast-t9 c = search needs
 
 enum-told-2 : tie.Need-enum-told-2
 enum-told-2 c = search needs
-
-add-plain : tie.Need-add-plain
-add-plain c = omega (arith, within (c .before .before) SendNext (c .enum-told2 .given .1) .1)
 
 plain-requires-2 : tie.Need-plain-requires-2
 plain-requires-2 c κs = search needs
@@ -76,24 +80,28 @@ returns : tie.Need-returns
 returns c =
     let v = c .before in
     let told = v .enum-told .given .1 in
-    comes _ _ NoMore _ (read-is (v .before .before) NoMore told) (c .plain .ensures ∙ ap (plainEvent false _) told)
+    comes _ _ NoMore _ (read-is (v .before .before .before) NoMore told) (c .plain .ensures ∙ ap (plainEvent false _) told)
 
 returns-2 : tie.Need-returns-2
 returns-2 c =
     let v = c .before .before in
-    comes _ _ (Arrive (v .read .given .0 .0)) _ (read-is (v .before .before) _ (v .read .given .1)) refl
+    let u = v .before .before in
+    let told = v .read .given .1 in
+    comes _ _ (Arrive (v .read .given .0 .0)) _ (read-is (u .before) _ told) (rw (moves-on u told) refl)
 
 returns-3 : tie.Need-returns-3
 returns-3 c =
     let v = c .before in
     let told = v .enum-told2 .given .1 in
-    comes _ _ SendNext _ (read-is (v .before .before) SendNext told) (c .plain2 .ensures ∙ ap (plainEvent true _) told)
+    let u = v .before .before in
+    comes _ _ SendNext _ (read-is (u .before) SendNext told)
+    (c .plain2 .ensures ∙ ap (plainEvent true _) told ∙ ap (λ (n : ℕ). plainEvent true (u .before .before .before .before .args .place + n) SendNext) (moves-on u told))
 
 returns-4 : tie.Need-returns-4
 returns-4 c =
     let v = c .before in
     let told = v .enum-told3 .given in
-    comes _ _ (Fault (told .0 .0) (told .0 .1 .0)) _ (read-is (v .before .before) _ (told .1))
+    comes _ _ (Fault (told .0 .0) (told .0 .1 .0)) _ (read-is (v .before .before .before) _ (told .1))
     (c .plain3 .ensures ∙ ap (plainEvent false _) (told .1))
 
 pub event-at-spec : {M : Type 1} → statement M
@@ -102,13 +110,13 @@ event-at-spec =
     (tie.spec
     events-after-requires
     read-event-requires
+    used-requires
+    add-after
     enum-told
     plain-requires
     enum-known-read
-    cast-t7
-    add-t9
+    cast-t9
     enum-told-2
-    add-plain
     plain-requires-2
     enum-told-3
     plain-requires-3

@@ -43,7 +43,8 @@ use denote.Triple.Walked.{says, Stays, stay-ref, stay-none, walkOf, AllGo, goes-
 use denote.Triple.Clauses.{ensured, lasts}
 use denote.Exit.{yes}
 use Rattle.calls.specs.Arrival.{arrivalLeaves, Arrives}
-use Rattle.link.specs.Parts.{ArrivesAt}
+use Rattle.link.specs.Parts.{ArrivesIn}
+use Rattle.link.proofs.OverParts.{arrives-whole}
 use Rattle.state.specs.declared.Link.{Link}
 use Rattle.state.specs.declared.Packet.{Packet}
 use Rattle.state.specs.State.{linkOf}
@@ -122,13 +123,13 @@ module _ {M : Type 1} (𝓤 : URA M) (H : Heap 𝓤) (A : Atoms 𝓤) (W : Given
   -- what the call over parts says of its result and of the last values, of a link with other words for its lists
   abbrev SaidOf : Link → Placed → List ℕ × List ℕ → Type 0
   SaidOf l r w =
-      ArrivesAt l i p (r .answer) (linkOf (l .tree) (l .size) (l .active) (l .place) (l .accounts) (l .start) (r .held) (w .0) (w .1))
+      ArrivesIn l i p (r .answer) (linkOf (l .tree) (l .size) (l .active) (l .place) (l .accounts) (l .start) (r .held) (w .0) (w .1))
 
   abbrev Said : Placed → List ℕ × List ℕ → Type 0
   Said = SaidOf (handed h)
 
   arrived : Known h → (r : Placed) (w : List ℕ × List ℕ) → Said r w → Arrives h i p (arrivalLeaves (r .answer) (after r w))
-  arrived is r w e = subst (λ (l : Link). SaidOf l r w) (as-held h) e (shaped h _ is)
+  arrived is r w e = arrives-whole h i p _ _ (shaped h _ is) (subst (λ (l : Link). SaidOf l r w) (as-held h) e)
 
   known-after : Known h → (r : Placed) (w : List ℕ × List ℕ) → Is S.the-row r (LL.val S.the-type S′.the-laws r ∷ []) → Fits 7 (w .0)
       → Fits 8 (w .1) → Known (after r w)
@@ -244,8 +245,8 @@ module _ {M : Type 1} (𝓤 : URA M) (H : Heap 𝓤) (A : Atoms 𝓤) (W : Given
         (look-in ! 31 {τ = type-at 6} (sub ! 0 {τ = type-at 6} {d = 0} refl (whole !)))))
         (from ! (hop ! (look ! 37 refl) (fld ! {τ = type-at 6} {d = 1_584} refl (stop !))))
         (store-raw ! 6 {τ = type-at 6} refl (typed 𝓤 H A W 6 (r .held) (ws .0) .0)) $
-        assigns ! (of-opd ! (load ! (from ! (fld ! {d = 72} refl (stop !))) (look-in ! 31 (sub ! 2 {d = 72} refl (whole !)))))
-        (from ! (stop !)) (init ! 39 refl (LL.lawful N.the-type N′.the-laws 𝓤 H A W .typed (r .answer) _ (ws .1 .1 .0) .0)) $
+        assigns ! (of-opd ! (load ! (from ! (fld ! {d = 64} refl (stop !))) (look-in ! 31 (sub ! 1 {d = 64} refl (whole !)))))
+        (from ! (stop !)) (init ! 39 refl (LL.lawful N.the-type N′.the-laws 𝓤 H A W .typed (r .answer) _ (ws .1 .0) .0)) $
         together ! (after r w) b o $ closed ! tt (after r w) (known-after is r w isr isx isy) b o $
         -- [obs; the borrow; the token; _13; …; _0; …]
         returns ! (look ! 29 refl) $ forget ! 3 refl $ forget ! 5 refl $ forget ! 7 refl $ forget ! 9 refl $ forget ! 11 refl $
@@ -255,7 +256,7 @@ module _ {M : Type 1} (𝓤 : URA M) (H : Heap 𝓤) (A : Atoms 𝓤) (W : Given
         free1 ! $ move ! (21 ∷ 22 ∷ []) $ free1 ! $ move ! (19 ∷ 20 ∷ []) $ free1 ! $ move ! (17 ∷ 18 ∷ []) $ free1 ! $
         move ! (15 ∷ 16 ∷ []) $ free1 ! $ move ! (13 ∷ 14 ∷ []) $ free1 ! $ move ! (11 ∷ 12 ∷ []) $ free1 ! $ move ! (9 ∷ 10 ∷ []) $
         free1 ! $ move ! (7 ∷ 8 ∷ []) $ free1 ! $ move ! (5 ∷ 6 ∷ []) $ free1 ! $ move ! (3 ∷ 4 ∷ []) $ free1 ! $ free0 ! $
-        keep ! (0 ∷ 1 ∷ 2 ∷ []) $ by ! (exits r w (arrived is r w e) (ws .1 .1 .0)))))))))))))))))))))
+        keep ! (0 ∷ 1 ∷ 2 ∷ []) $ by ! (exits r w (arrived is r w e) (ws .1 .0)))))))))))))))))))))
 
 module _ {M : Type 1} (𝓤 : URA M) (H : Heap 𝓤) (A : Atoms 𝓤) (W : Given 𝓤 H A) (at-mem : Memory → SProp 𝓤) (run : Routine → Fun 𝓤) where
   lent-walks : (C : Calls 𝓤 H) (Λ : Loops 𝓤 H) → FmC 𝓤 H (W .laws) C → Triple 𝓤 (C #core) (Core 𝓤 H A W at-mem run)

@@ -43,6 +43,7 @@ use Rattle.state.specs.declared.Link.{Link}
 use Rattle.calls.specs.declared.Departure.{Departure}
 use Rattle.link.specs.declared.Changed.{Changed}
 use Rattle.link.specs.Parts.{changedLink, SendsIn}
+use Rattle.link.proofs.OverParts.{sends-whole}
 use Rattle.lent.proofs.Returns.{returned}
 use Rattle.lent.proofs.Lends.{Known, opened, closed}
 use Rattle.state.proofs.Shapes.{shaped}
@@ -136,7 +137,7 @@ module _ {M : Type 1} (𝓤 : URA M) (H : Heap 𝓤) (A : Atoms 𝓤) (W : Given
 
   -- the record after it
   sent : Known h → (r : Changed) → Said r → Sends h (sendLeaves (r .answer) (changedLink h r))
-  sent is r e = subst (λ (l : Link). SendsIn l r) (as-held h) e (shaped h _ is)
+  sent is r e = sends-whole h r (shaped h _ is) (subst (λ (l : Link). SendsIn l r) (as-held h) e)
 
   after : Known h → (r : Changed) → Is S.the-row r (LL.val S.the-type S′.the-laws r ∷ []) → Known (changedLink h r)
   after is r isr =

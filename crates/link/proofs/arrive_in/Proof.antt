@@ -1,34 +1,26 @@
--- `link::arrive_in` meets its contract: the packet is laid where the call over the parts says.
+-- `link::arrive_in` meets its contract: the step of an arrival, told whether the link that the parts make up is sound.
+use mathlib.Core.Path.{refl}
 use Rattle.state.specs.State.{linkOf}
-use Rattle.link.proofs.OverParts.{unlaid}
 use borrow.Author.Needs.{needs}
 use Rattle.link.proofs.arrive_in.Statement.{statement}
 use Rattle.link.proofs.arrive_in.Tie as tie
 
-arrive-of-requires : tie.Need-arrive-of-requires
-arrive-of-requires c κs = search needs
+is-sound-of-requires : tie.Need-is-sound-of-requires
+is-sound-of-requires c κs = search needs
 
-mul-lengths : tie.Need-mul-lengths
-mul-lengths c = search needs
-
-element-write-lengths : tie.Need-element-write-lengths
-element-write-lengths c = search needs
-
-mul-tags : tie.Need-mul-tags
-mul-tags c = search needs
-
-element-write-tags : tie.Need-element-write-tags
-element-write-tags c = search needs
+arrive-requires : tie.Need-arrive-requires
+arrive-requires c κs = search needs
 
 returns : tie.Need-returns
-returns c shape = c .before .arrive-of .ensures (c .before .before .before .args .tags .now) shape
-
-returns-2 : tie.Need-returns-2
-returns-2 c shape =
-    let q = c .before in
-    let a = q .before .before .args in
-    let l = linkOf (a .tree) (a .size) (a .active) (a .place) (a .accounts) (a .start) (a .held) (a .lengths .now) (a .tags .now) in
-    unlaid l (a .class) (a .packet) (q .arrive-of .result) shape (c .if1 .left) (q .arrive-of .ensures (a .tags .now) shape)
+returns c =
+    let s = c .before .before .before .before .before .before .before in
+    let a = s .before .before .args in
+    let l = linkOf (a .tree) (a .size) (a .active) (a .place) (a .accounts) (a .t6) (a .held) (a .lengths .now) (a .tags .now) in
+    record {
+      sound = s .is-sound-of .result;
+      exactly = s .is-sound-of .ensures (a .tags .now);
+      gives = c .arrive .ensures l refl refl;
+    }
 
 pub arrive-in-spec : {M : Type 1} → statement M
-arrive-in-spec = tie.close (tie.spec arrive-of-requires mul-lengths element-write-lengths mul-tags element-write-tags returns returns-2)
+arrive-in-spec = tie.close (tie.spec is-sound-of-requires arrive-requires returns)

@@ -1,5 +1,6 @@
 -- `link::send` meets its contract: a link is made up of its parts.
 use Rattle.state.proofs.Shapes.{shaped}
+use Rattle.link.proofs.OverParts.{sends-whole}
 use borrow.Author.Needs.{needs}
 use Rattle.link.proofs.send.Statement.{statement}
 use Rattle.link.proofs.send.Tie as tie
@@ -11,7 +12,7 @@ returns : tie.Need-returns
 returns c =
     let q = c .before .before .before .before .before in
     let s = q .before .before .before .before .before .before .before .before .before in
-    q .send-of .ensures (shaped (s .args .t1) _ (s .good .0))
+    sends-whole (s .args .t1) _ (shaped (s .args .t1) _ (s .good .0)) (q .send-of .ensures)
 
 pub send-spec : {M : Type 1} → statement M
 send-spec = tie.close (tie.spec send-of-requires returns)

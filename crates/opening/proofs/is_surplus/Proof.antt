@@ -7,7 +7,7 @@ use Rattle.tree.proofs.Sums.{some-found, none-more, some-never}
 use Rattle.tree.proofs.Classes.{class-in}
 use Rattle.tree.proofs.Rules.{few-classes}
 use Rattle.rules.specs.Opening.{main, surplus, hasSurplus, kindOf}
-use Rattle.opening.specs.Parts.{zipAccounts}
+use Rattle.state.specs.Account.{zipAccounts}
 use Rattle.opening.proofs.Openings.{surplus-by, not-inner}
 use borrow.Author.Needs.{needs}
 use Rattle.opening.proofs.is_surplus.Statement.{statement}

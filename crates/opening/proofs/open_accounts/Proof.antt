@@ -6,8 +6,8 @@ use Rattle.state.specs.declared.Account.{Account}
 use Rattle.rules.specs.Opening.{kindIs}
 use Rattle.rules.specs.Steps.{CanOpen}
 use Rattle.rules.proofs.Shares.{parent-most}
-use Rattle.opening.specs.Parts.{zipAccounts}
-use Rattle.opening.specs.Opens.{Opening}
+use Rattle.state.specs.Account.{zipAccounts}
+use Rattle.opening.specs.Opens.{OpenedUpTo}
 use Rattle.opening.proofs.Openings.{opening-wide, opening-funds, opening-due, opening-on, opening-starts, opening-ends}
 use borrow.Author.Needs.{needs}
 use Rattle.opening.proofs.open_accounts.Statement.{statement}
@@ -16,8 +16,8 @@ use Rattle.opening.proofs.open_accounts.Tie as tie
 abbrev Inv-loop : tie.InvT-loop
 Inv-loop active surplus balance₀ residual₀ tree sums quotas₀ i₀ balance residual quotas i =
     (1 ≤ i) × (i ≤ 64)
-    × ((accounts : List Account) → CanOpen tree active accounts → Opening (kindIs surplus) tree active accounts 1 quotas₀ balance₀ residual₀
-    → Opening (kindIs surplus) tree active accounts i quotas balance residual)
+    × ((accounts : List Account) → CanOpen tree active accounts → OpenedUpTo (kindIs surplus) tree active accounts 1 quotas₀ balance₀ residual₀
+    → OpenedUpTo (kindIs surplus) tree active accounts i quotas balance residual)
 
 abbrev μ-loop : tie.MeasureT-loop
 μ-loop active surplus balance₀ residual₀ tree sums quotas₀ i₀ balance residual quotas i = 64 - i
@@ -28,7 +28,7 @@ start-of c = c .before .before .before .before .before .before .before .before .
 
 -- the opening has come to the loop's class
 reached : (c : tie.At-loop Inv-loop μ-loop)
-    → Opening (kindIs (start-of c .args .surplus)) (start-of c .args .t1) (start-of c .args .active)
+    → OpenedUpTo (kindIs (start-of c .args .surplus)) (start-of c .args .t1) (start-of c .args .active)
     (zipAccounts (start-of c .args .balance .now) (start-of c .args .residual .now)) (c .loop .i) (c .loop .quotas) (c .loop .balance)
     (c .loop .residual)
 reached c =

@@ -12,7 +12,7 @@ use Rattle.state.specs.declared.Account.{Account}
 use Rattle.rules.specs.Opening.{Kind, main, surplus, kindIs, kindOf, sizeIn, resized, openedAccounts}
 use Rattle.rules.specs.Steps.{CanOpen}
 use Rattle.rules.proofs.Sizes.{main-right}
-use Rattle.opening.specs.Parts.{zipAccounts}
+use Rattle.state.specs.Account.{zipAccounts}
 use borrow.Author.Needs.{needs}
 use Rattle.opening.proofs.open_round.Statement.{statement}
 use Rattle.opening.proofs.open_round.Tie as tie

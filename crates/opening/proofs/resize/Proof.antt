@@ -4,8 +4,7 @@ use mathlib.Core.Path.{_≡_, refl, sym, ap, _∙_}
 use native.Mathlib.Omega.{arith}
 use lib.ListN.{set}
 use Rattle.state.specs.declared.Account.{Account}
-use Rattle.state.specs.Account.{fundsOf, tookSize}
-use Rattle.opening.specs.Parts.{zipAccounts}
+use Rattle.state.specs.Account.{fundsOf, tookSize, zipAccounts}
 use borrow.Author.Needs.{needs}
 use Rattle.opening.proofs.resize.Statement.{statement}
 use Rattle.opening.proofs.resize.Tie as tie

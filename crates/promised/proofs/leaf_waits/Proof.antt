@@ -31,7 +31,9 @@ returns c =
     let a = g .before .args in
     let cost = ap costOf (g .longest .ensures) in
     record {
-      alone = subst (λ (d : ℕ). Promises (a .tree) (a .class) d (w .longest-wait .result)) (k .cost .ensures ∙ cost) (w .longest-wait .ensures);
+      alone =
+          subst (λ (d : ℕ). Promises (a .tree) (a .class) d (w .longest-wait .result)) (k .cost .ensures ∙ cost)
+          (w .longest-wait .ensures);
       full =
           subst (λ (d : ℕ). Promises (a .tree) (a .class) d (c .longest-wait2 .result)) (f .full-of .ensures ∙ ap (λ (n : ℕ). 32 * n) cost)
           (c .longest-wait2 .ensures);

@@ -1,6 +1,6 @@
 -- `promised::longest_wait` meets its contract: 11, then 12, then 14, else the bound.
 use mathlib.Core.Bool.{Bool, true, false, not}
-use mathlib.Core.Path.{_≡_, sym, ap, _∙_}
+use mathlib.Core.Path.{_≡_, refl, sym, ap, _∙_}
 use Prim.Native.Nat.{ℕ, _*_}
 use native.Mathlib.Omega.{arith}
 use borrow.Author.Tests.{not-false, lt-ltb, le-ltb}
@@ -30,7 +30,7 @@ returns : tie.Need-returns
 returns c =
     let p = c .before .before .before in
     let a = p .before .args in
-    promise-of (a .tree) (a .class) (a .d .0) (p .plan-size .result .right) (Refused 11 0) _ (p .plan-size .ensures .0)
+    promise-of (a .tree) (a .class) (a .d .0) (p .plan-size .result .right) (Refused 11 0) _ (p .plan-size .ensures .right)
     (decides _ _ (c .before .if1 .taken))
     (c .refused .ensures)
 
@@ -46,7 +46,7 @@ returns-2 c =
     let h = c .before .before in
     let p = h .before .before .before in
     let a = p .before .args in
-    promise-of (a .tree) (a .class) (a .d .0) (p .plan-size .result .right) (Refused 12 (a .class)) _ (p .plan-size .ensures .0)
+    promise-of (a .tree) (a .class) (a .d .0) (p .plan-size .result .right) (Refused 12 (a .class)) _ (p .plan-size .ensures .right)
     (pass-over _ _ (h .before .if1 .left) ∙ decides _ _ (ap not (sym (h .holds .ensures .0)) ∙ c .before .if2 .taken))
     (c .refused2 .ensures)
 
@@ -67,7 +67,7 @@ returns-3 c =
     let h = i .before in
     let p = h .before .before .before in
     let a = p .before .args in
-    promise-of (a .tree) (a .class) (a .d .0) (p .plan-size .result .right) (Refused 14 (a .class)) _ (p .plan-size .ensures .0)
+    promise-of (a .tree) (a .class) (a .d .0) (p .plan-size .result .right) (Refused 14 (a .class)) _ (p .plan-size .ensures .right)
     (pass-over _ _ (h .before .if1 .left)
     ∙ pass-over _ _ (ap not (sym (h .holds .ensures .0)) ∙ i .if2 .left)
     ∙ decides _ _ (lt-ltb (mostHeld (a .tree) (a .class)) (a .d .0) (omega (arith, c .before .if3 .taken, most f))))
@@ -83,10 +83,10 @@ bounded-requires c κs =
     let e = p .plan-size .ensures in
     let right = not-false (p .plan-size .result .right) (h .before .if1 .left) in
     let holds = not-false (h .holds .result) (i .if2 .left) in (
-      e .0 .sound right,
+      e .right .sound right,
       sym (h .holds .ensures .0) ∙ holds,
       omega (arith, c .before .if3 .left, most f),
-      e .1 right,
+      e .size ∙ rw right refl,
       h .holds .ensures .1 holds,
     )
 
@@ -99,7 +99,7 @@ returns-4 c =
     let h = i .before in
     let p = h .before .before .before in
     let a = p .before .args in
-    promise-of (a .tree) (a .class) (a .d .0) (p .plan-size .result .right) Passed _ (p .plan-size .ensures .0)
+    promise-of (a .tree) (a .class) (a .d .0) (p .plan-size .result .right) Passed _ (p .plan-size .ensures .right)
     (pass-over _ _ (h .before .if1 .left)
     ∙ pass-over _ _ (ap not (sym (h .holds .ensures .0)) ∙ i .if2 .left)
     ∙ pass-over _ _ (le-ltb (mostHeld (a .tree) (a .class)) (a .d .0) (omega (arith, q .before .if3 .left, most f)))

@@ -1,7 +1,6 @@
 -- `run::arrival` meets its contract.
 use mathlib.Core.Bool.{true}
 use mathlib.Core.Path.{ap}
-use Prim.Native.Nat.{_+_}
 use Rattle.lines.specs.declared.Line.{Line}
 use borrow.Author.Needs.{needs}
 use Rattle.run.proofs.arrival.Statement.{statement}
@@ -16,9 +15,6 @@ arrive-requires c κs = search needs
 arrival-line-requires : tie.Need-arrival-line-requires
 arrival-line-requires c κs = search needs
 
-add-t10 : tie.Need-add-t10
-add-t10 c = search needs
-
 returns : tie.Need-returns
 returns c =
     let g = c .before .before .before in
@@ -28,10 +24,10 @@ returns c =
       after = g .arrive .result .link;
       meets = g .arrive .ensures;
       step =
-          ap (λ (line : Line). record { line = line; more = true; link = g .arrive .result .link; place = st .args .place + 8 })
+          ap (λ (line : Line). record { line = line; more = true; link = g .arrive .result .link; place = st .args .place })
           (c .before .arrival-line .ensures);
     }
 
 pub arrival-spec : {M : Type 1} → statement M
 arrival-spec =
-    tie.close (tie.spec cast-arrive arrive-requires arrival-line-requires add-t10 returns)
+    tie.close (tie.spec cast-arrive arrive-requires arrival-line-requires returns)

@@ -1,7 +1,7 @@
 -- `run::linked` meets its contract.
 use mathlib.Core.Bool.{Bool, true}
 use mathlib.Core.Path.{ap, _∙_}
-use Rattle.calls.specs.declared.Answered.{Answered}
+use Rattle.calls.specs.declared.AfterFresh.{AfterFresh}
 use Rattle.calls.specs.Fresh.{freshOf}
 use Rattle.lines.specs.declared.Line.the-variants.{Link}
 use borrow.Author.Needs.{needs}
@@ -17,7 +17,7 @@ returns c =
     let st = f .before .before in
     let t = st .args .read .tree in
     let made = f .fresh .ensures in
-    ap (λ (r : Answered). record { line = Link (t .count) (r .link .size .0); more = true; link = r .link; place = st .args .read .used })
+    ap (λ (r : AfterFresh). record { line = Link (t .count) (r .link .size .0); more = true; link = r .link; place = st .args .read .used })
     (made .answer ∙ ap (λ (b : Bool). freshOf b t) (made .exactly .complete (st .pre)))
 
 pub linked-spec : {M : Type 1} → statement M

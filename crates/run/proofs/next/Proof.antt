@@ -1,13 +1,15 @@
 -- `run::next` meets its contract.
-use mathlib.Core.Path.{_≡_, sym, ap, _∙_}
-use Prim.Native.Nat.{ℕ}
+use mathlib.Core.Path.{_≡_, refl, sym, ap, subst, _∙_}
+use Prim.Native.Nat.{ℕ, _+_}
 use mathlib.Core.List.{List}
 use native.Mathlib.Omega.{arith}
 use denote.Ref.{now}
 use lib.ListN.{length, drop}
 use Rattle.plan.specs.declared.EventRead.{EventRead}
 use Rattle.plan.specs.declared.EventRead.the-variants.{NoMore, Arrive, SendNext, Fault}
-use Rattle.plan.specs.Event.{eventAt}
+use Rattle.plan.specs.Event.{usedOf, eventAt}
+use Rattle.calls.specs.Run.{arrival, send}
+use Rattle.run.specs.Event.{packetIn, Calls}
 use Rattle.run.proofs.Events.{gives-by, used-fits}
 use borrow.Author.Needs.{needs}
 use Rattle.run.proofs.next.Statement.{statement}
@@ -27,6 +29,21 @@ events-after-requires c κs = search needs
 read-event-requires : tie.Need-read-event-requires
 read-event-requires c κs = search needs
 
+used-requires : tie.Need-used-requires
+used-requires c κs = search needs
+
+add-after : tie.Need-add-after
+add-after c =
+    let g = c .before in
+    let a = g .before .before .before .args in
+    omega (
+      arith,
+      used-fits (now (a .input)) (a .place) (g .read-event .result) (read-at g refl),
+      c .used .ensures .0,
+      ap length (g .before .events-after .ensures .0),
+      g .before .events-after .ensures .1,
+    )
+
 enum-told : tie.Need-enum-told
 enum-told c = search needs
 
@@ -37,31 +54,13 @@ enum-known-event : tie.Need-enum-known-event
 enum-known-event c = search needs
 
 arrival-requires : tie.Need-arrival-requires
-arrival-requires c κs =
-    let v = c .before in
-    let g = v .before .before in
-    let st = g .before .before .before in
-    omega (
-      arith,
-      used-fits (now (st .args .input)) (st .args .place) (Arrive (v .event .given .0 .0))
-          (read-at g (v .event .given .1)),
-      ap length (g .before .events-after .ensures .0),
-      g .before .events-after .ensures .1,
-    )
+arrival-requires c κs = search needs
 
 enum-told-2 : tie.Need-enum-told-2
 enum-told-2 c = search needs
 
 send-requires : tie.Need-send-requires
-send-requires c κs =
-    let g = c .before .before in
-    let st = g .before .before .before in
-    omega (
-      arith,
-      used-fits (now (st .args .input)) (st .args .place) SendNext (read-at g (c .enum-told2 .given .1)),
-      ap length (g .before .events-after .ensures .0),
-      g .before .events-after .ensures .1,
-    )
+send-requires c κs = search needs
 
 enum-known-event-2 : tie.Need-enum-known-event-2
 enum-known-event-2 c = search needs
@@ -69,32 +68,42 @@ enum-known-event-2 c = search needs
 stop-requires : tie.Need-stop-requires
 stop-requires c κs = search needs
 
+-- the place after it
+moves-on : (c : tie.After-used) {e : EventRead} → c .before .read-event .result ≡ e → c .used .result ≡ usedOf e
+moves-on c told = c .used .ensures .0 ∙ ap usedOf told
+
 returns : tie.Need-returns
 returns c =
     let e = c .before in
-    let g = e .before .before in
+    let g = e .before .before .before in
     let a = g .before .before .before .args in
     gives-by (a .link) (now (a .input)) (a .place) NoMore (c .end .result) (read-at g (e .enum-told .given .1)) (c .end .ensures)
 
 returns-2 : tie.Need-returns-2
 returns-2 c =
     let v = c .before .before in
-    let g = v .before .before in
+    let u = v .before .before in
+    let g = u .before in
     let a = g .before .before .before .args in
-    gives-by (a .link) (now (a .input)) (a .place) (Arrive (v .event .given .0 .0)) (c .arrival .result) (read-at g (v .event .given .1))
-    (c .arrival .ensures)
+    let told = v .event .given .1 in
+    let call = arrival (v .event .given .0 .0 .class) (packetIn (v .event .given .0 .0)) in
+    gives-by (a .link) (now (a .input)) (a .place) (Arrive (v .event .given .0 .0)) (c .arrival .result) (read-at g told)
+    (subst (λ (n : ℕ). Calls (a .link) call (a .place + n) (c .arrival .result)) (moves-on u told) (c .arrival .ensures))
 
 returns-3 : tie.Need-returns-3
 returns-3 c =
     let e = c .before in
-    let g = e .before .before in
+    let u = e .before .before in
+    let g = u .before in
     let a = g .before .before .before .args in
-    gives-by (a .link) (now (a .input)) (a .place) SendNext (c .send .result) (read-at g (e .enum-told2 .given .1)) (c .send .ensures)
+    let told = e .enum-told2 .given .1 in
+    gives-by (a .link) (now (a .input)) (a .place) SendNext (c .send .result) (read-at g told)
+    (subst (λ (n : ℕ). Calls (a .link) send (a .place + n) (c .send .result)) (moves-on u told) (c .send .ensures))
 
 returns-4 : tie.Need-returns-4
 returns-4 c =
     let v = c .before .before in
-    let g = v .before .before in
+    let g = v .before .before .before in
     let a = g .before .before .before .args in
     gives-by (a .link) (now (a .input)) (a .place) (Fault (v .event2 .given .0 .0) (v .event2 .given .0 .1 .0)) (c .stop .result)
     (read-at g (v .event2 .given .1)) (c .stop .ensures)
@@ -105,6 +114,8 @@ next-spec =
     (tie.spec
     events-after-requires
     read-event-requires
+    used-requires
+    add-after
     enum-told
     end-requires
     enum-known-event

@@ -1,7 +1,6 @@
 -- `run::send` meets its contract.
 use mathlib.Core.Bool.{true}
 use mathlib.Core.Path.{ap}
-use Prim.Native.Nat.{_+_}
 use Rattle.lines.specs.declared.Line.{Line}
 use borrow.Author.Needs.{needs}
 use Rattle.run.proofs.send.Statement.{statement}
@@ -13,9 +12,6 @@ send-requires c κs = search needs
 send-line-requires : tie.Need-send-line-requires
 send-line-requires c κs = search needs
 
-add-t7 : tie.Need-add-t7
-add-t7 c = search needs
-
 returns : tie.Need-returns
 returns c =
     let g = c .before .before .before in
@@ -25,9 +21,9 @@ returns c =
       after = g .send .result .link;
       meets = g .send .ensures;
       step =
-          ap (λ (line : Line). record { line = line; more = true; link = g .send .result .link; place = st .args .place + 1 })
+          ap (λ (line : Line). record { line = line; more = true; link = g .send .result .link; place = st .args .place })
           (c .before .send-line .ensures);
     }
 
 pub send-spec : {M : Type 1} → statement M
-send-spec = tie.close (tie.spec send-requires send-line-requires add-t7 returns)
+send-spec = tie.close (tie.spec send-requires send-line-requires returns)

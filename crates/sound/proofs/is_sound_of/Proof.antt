@@ -1,5 +1,5 @@
 -- `sound::is_sound_of` meets its contract: it says yes exactly where the link of these parts is sound.
-use mathlib.Core.Path.{_≡_, sym, _∙_}
+use mathlib.Core.Path.{_≡_, refl, sym, _∙_}
 use Prim.Native.Nat.{ℕ}
 use native.Mathlib.Omega.{arith}
 use borrow.Author.Tests.{not-true, not-false}
@@ -18,15 +18,15 @@ plan-size-requires : tie.Need-plan-size-requires
 plan-size-requires c κs = search needs
 
 returns : tie.Need-returns
-returns c = λ tags. exactly-no (λ p. not-true-and-false (c .before .before .plan-size .ensures .0 .complete (p .state .fits .tree))
+returns c = λ tags. exactly-no (λ p. not-true-and-false (c .before .before .plan-size .ensures .right .complete (p .state .fits .tree))
     (not-true _ (c .if1 .taken)))
 
 -- the plan rules hold, and the round size is known
 rules : (c : tie.Else1) → PlanRules (c .before .before .before .args .tree)
-rules c = c .before .before .plan-size .ensures .0 .sound (not-false _ (c .if1 .left))
+rules c = c .before .before .plan-size .ensures .right .sound (not-false _ (c .if1 .left))
 
 size : (c : tie.Else1) → c .before .before .plan-size .result .size .0 ≡ roundSize (c .before .before .before .args .tree)
-size c = c .before .before .plan-size .ensures .1 (not-false _ (c .if1 .left))
+size c = c .before .before .plan-size .ensures .size ∙ rw (not-false (c .before .before .plan-size .result .right) (c .if1 .left)) refl
 
 -- a size that may be in force, in numbers
 within : (c : tie.Else1) {n : ℕ} → SizeRight (c .before .before .before .args .tree) n

@@ -15,7 +15,8 @@ abbrev μ-loop : tie.MeasureT-loop
 μ-loop window₀ from to n k₀ window k = n - k
 
 -- the byte that is read is within the window
-inside : (c : tie.After-slice-known Inv-loop μ-loop) → c .before .before .before .args .from + c .before .before .loop .k < length (c .before .before .loop .window)
+inside : (c : tie.After-slice-known Inv-loop μ-loop)
+    → c .before .before .before .args .from + c .before .before .loop .k < length (c .before .before .loop .window)
 inside c =
     let s = c .before .before .before in
     let l = c .before .before .loop in

@@ -37,19 +37,22 @@ returns : tie.Need-returns
 returns c =
     let e = c .before in
     let g = e .before .before in
-    c .end-line .ensures ∙ ap (λ (x : EventRead). lastLine x (g .before .before .args .link)) (sym (e .enum-told .given .1) ∙ g .read-event .ensures)
+    c .end-line .ensures
+    ∙ ap (λ (x : EventRead). lastLine x (g .before .before .args .link)) (sym (e .enum-told .given .1) ∙ g .read-event .ensures)
 
 returns-2 : tie.Need-returns-2
 returns-2 c =
     let e = c .before in
     let g = e .before .before in
-    c .end-line2 .ensures ∙ ap (λ (x : EventRead). lastLine x (g .before .before .args .link)) (sym (e .enum-told2 .given .1) ∙ g .read-event .ensures)
+    c .end-line2 .ensures
+    ∙ ap (λ (x : EventRead). lastLine x (g .before .before .args .link)) (sym (e .enum-told2 .given .1) ∙ g .read-event .ensures)
 
 returns-3 : tie.Need-returns-3
 returns-3 c =
     let e = c .before in
     let g = e .before .before in
-    c .end-line3 .ensures ∙ ap (λ (x : EventRead). lastLine x (g .before .before .args .link)) (sym (e .enum-told3 .given .1) ∙ g .read-event .ensures)
+    c .end-line3 .ensures
+    ∙ ap (λ (x : EventRead). lastLine x (g .before .before .args .link)) (sym (e .enum-told3 .given .1) ∙ g .read-event .ensures)
 
 returns-4 : tie.Need-returns-4
 returns-4 c =

@@ -6,7 +6,7 @@ use borrow.Author.Needs.{needs}
 use denote.Ref.{now}
 use lib.ListN.{length, drop, length-drop}
 use lib.Seq.{length-take-le, take-all}
-use Rattle.words.specs.Word.{numberOf, asks}
+use Rattle.words.specs.Word.{wordNumber, asks}
 use Rattle.words.proofs.Pairs.{found, pair-none, pair-around}
 use Rattle.words.proofs.read_pair.Statement.{statement}
 use Rattle.words.proofs.read_pair.Tie as tie
@@ -55,7 +55,7 @@ returns-2 c =
     let next = f .find .result + 1 in
     let rest = take-all (length text - next) (drop next text) (omega (arith, length-drop next text)) in
     c .both .ensures
-    ∙ ap₂ asks (first .read-number .ensures) (second .read-number2 .ensures ∙ ap numberOf rest)
+    ∙ ap₂ asks (first .read-number .ensures) (second .read-number2 .ensures ∙ ap wordNumber rest)
     ∙ pair-around text (f .find .result) (found text (f .find .result) (f .find .ensures .0))
 
 pub read-pair-spec : {M : Type 1} → statement M

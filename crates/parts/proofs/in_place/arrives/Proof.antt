@@ -1,8 +1,7 @@
 -- `in_place::arrives` meets its contract.
 use mathlib.Core.Path.{sym, ap}
 use Rattle.checks.specs.declared.Verdict.{Verdict}
-use Rattle.calls.specs.Arrival.{arrivalAnswer}
-use Rattle.run.specs.Event.{arrivalLine}
+use Rattle.run.specs.Event.{arrivalSays, packetIn}
 use Rattle.parts.proofs.Happenings.{arrives-in-place}
 use borrow.Author.Needs.{needs}
 use Rattle.parts.proofs.in_place.arrives.Statement.{statement}
@@ -42,9 +41,9 @@ returns c =
     let t = lay .before .before .before in
     let v = t .before .before in
     let a = begun v .args in
-    let line = sym (ap (λ (w : Verdict). arrivalLine (arrivalAnswer w) (a .a)) (t .enum-told .given .1)) in
-    λ l leaves longest exactly.
-    arrives-in-place (a .sound) _ (a .a) (v .arrive .result) _ (a .at) _ _ _ _ exactly (v .arrive .ensures l leaves longest) line
+    let line = sym (ap (λ (w : Verdict). arrivalSays w (a .a .class) (packetIn (a .a))) (t .enum-told .given .1)) in
+    λ l leaves longest.
+    arrives-in-place (a .sound) _ (a .a) (v .arrive .result) _ (a .at) _ _ _ _ (v .arrive .ensures l leaves longest) line
     (lay .lay-in .ensures)
 
 enum-told-2 : tie.Need-enum-told-2
@@ -65,8 +64,8 @@ returns-2 c =
     let n = lay .before .before in
     let v = n .before .before .before in
     let a = begun v .args in
-    λ l leaves longest exactly.
-    arrives-in-place (a .sound) _ (a .a) (v .arrive .result) (n .arrival-line .result) (a .at) _ _ _ _ exactly
+    λ l leaves longest.
+    arrives-in-place (a .sound) _ (a .a) (v .arrive .result) (n .arrival-line .result) (a .at) _ _ _ _
     (v .arrive .ensures l leaves longest) (n .arrival-line .ensures) (lay .lay-at .ensures)
 
 pub arrives-spec : {M : Type 1} → statement M

@@ -9,7 +9,7 @@ use Rattle.state.specs.declared.Link.{Link}
 use Rattle.steps.specs.Parts.{lentLink, lentTree}
 use Rattle.plan.specs.declared.EventRead.{EventRead}
 use Rattle.plan.specs.declared.EventRead.the-variants.{Arrive, SendNext}
-use Rattle.plan.specs.Event.{eventAt}
+use Rattle.plan.specs.Event.{usedOf, eventAt}
 use Rattle.run.proofs.Events.{used-fits}
 use Rattle.parts.proofs.Happenings.{end-in-place, stop-in-place, arrival-in-place, send-in-place}
 use borrow.Author.Needs.{needs}
@@ -47,6 +47,25 @@ events-after-requires c κs = search needs
 read-event-requires : tie.Need-read-event-requires
 read-event-requires c κs = search needs
 
+used-requires : tie.Need-used-requires
+used-requires c κs = search needs
+
+add-after : tie.Need-add-after
+add-after c =
+    let g = c .before in
+    let a = begun g .args in
+    omega (
+      arith,
+      used-fits (now (a .input)) (a .place) (g .read-event .result) (read-at g refl),
+      c .used .ensures .0,
+      ap length (g .before .events-after .ensures .0),
+      g .before .events-after .ensures .1,
+    )
+
+-- the place after it
+moves-on : (u : tie.After-used) {e : EventRead} → u .before .read-event .result ≡ e → u .used .result ≡ usedOf e
+moves-on u told = u .used .ensures .0 ∙ ap usedOf told
+
 enum-told : tie.Need-enum-told
 enum-told c = search needs
 
@@ -65,18 +84,6 @@ enum-known-read c = search needs
 arrives-requires : tie.Need-arrives-requires
 arrives-requires c κs = search needs
 
-add-outcome : tie.Need-add-outcome
-add-outcome c =
-    let v = arriving (c .before .before) in
-    let g = v .before .before in
-    let a = begun g .args in
-    omega (
-      arith,
-      used-fits (now (a .input)) (a .place) (Arrive (v .read .given .0 .0)) (read-at g (v .read .given .1)),
-      ap length (g .before .events-after .ensures .0),
-      g .before .events-after .ensures .1,
-    )
-
 outcome-requires-2 : tie.Need-outcome-requires-2
 outcome-requires-2 c κs = search needs
 
@@ -85,23 +92,11 @@ enum-told-2 c = search needs
 
 departs-requires : tie.Need-departs-requires
 departs-requires c κs =
-    let st = c .before .before .before .before .before .before .before .before .before .before .before .before in
+    let st = c .before .before .before .before .before .before .before .before .before .before .before .before .before in
     (st .pre .0, st .pre .1, st .pre .2)
 
 lay-went-requires : tie.Need-lay-went-requires
-lay-went-requires c κs = search needs
-
-add-outcome-2 : tie.Need-add-outcome-2
-add-outcome-2 c =
-    let v = sending (c .before .before .before .before) in
-    let g = v .before .before in
-    let a = begun g .args in
-    omega (
-      arith,
-      used-fits (now (a .input)) (a .place) SendNext (read-at g (v .enum-told2 .given .1)),
-      ap length (g .before .events-after .ensures .0),
-      g .before .events-after .ensures .1,
-    )
+lay-went-requires c κs = begun (sending (c .before) .before .before .before) .pre .3
 
 outcome-requires-3 : tie.Need-outcome-requires-3
 outcome-requires-3 c κs = search needs
@@ -126,7 +121,8 @@ returns c =
     let lay = c .before .before .before in
     let w = lay .before .before in
     let v = w .before .before in
-    let g = v .before .before in
+    let u = v .before .before in
+    let g = u .before in
     let st = begun g in
     let a = st .args in
     rw (c .outcome .ensures)
@@ -140,13 +136,14 @@ returns-2 : tie.Need-returns-2
 returns-2 c =
     let lay = c .before .before .before in
     let v = arriving lay in
-    let g = v .before .before in
+    let u = v .before .before in
+    let g = u .before in
     let st = begun g in
     let a = st .args in
     rw (c .outcome2 .ensures)
     (arrival-in-place (whole st) (now (a .input)) (a .place) (st .pre .1) (a .at) (now (a .out)) (lay .arrives .result) _ (a .sound) (st .pre .0)
-    _ (v .read .given .0 .0) (a .active) (a .visit) (a .size) (read-at g (v .read .given .1))
-    (lay .arrives .ensures (whole st) refl refl (st .pre .0)))
+    _ (v .read .given .0 .0) (a .active) (a .visit) (u .used .result) (a .size) (read-at g (v .read .given .1)) (moves-on u (v .read .given .1))
+    (lay .arrives .ensures (whole st) refl refl))
 
 same-length-3 : tie.Need-same-length-3
 same-length-3 c = search needs
@@ -156,12 +153,14 @@ returns-3 c =
     let lay = c .before .before .before in
     let d = lay .before .before in
     let v = sending d in
-    let g = v .before .before in
+    let u = v .before .before in
+    let g = u .before in
     let st = begun g in
     let a = st .args in
     rw (c .outcome3 .ensures)
     (send-in-place (whole st) (now (a .input)) (a .place) (st .pre .1) (a .at) (now (a .out)) (lay .lay-went .result) _ (a .sound) (st .pre .0)
-    _ (d .departs .result) (read-at g (v .enum-told2 .given .1)) (d .departs .ensures) (lay .lay-went .ensures))
+    _ (d .departs .result) (u .used .result) (read-at g (v .enum-told2 .given .1)) (moves-on u (v .enum-told2 .given .1)) (d .departs .ensures)
+    (lay .lay-went .ensures))
 
 same-length-4 : tie.Need-same-length-4
 same-length-4 c = search needs
@@ -170,7 +169,8 @@ returns-4 : tie.Need-returns-4
 returns-4 c =
     let lay = c .before .before .before in
     let v = lay .before .before .before in
-    let g = v .before .before in
+    let u = v .before .before in
+    let g = u .before in
     let st = begun g in
     let a = st .args in
     rw (c .outcome4 .ensures)
@@ -183,18 +183,18 @@ event-spec =
     (tie.spec
     events-after-requires
     read-event-requires
+    used-requires
+    add-after
     enum-told
     waiting-requires
     lay-at-requires
     outcome-requires
     enum-known-read
     arrives-requires
-    add-outcome
     outcome-requires-2
     enum-told-2
     departs-requires
     lay-went-requires
-    add-outcome-2
     outcome-requires-3
     enum-known-read-2
     cast-t55

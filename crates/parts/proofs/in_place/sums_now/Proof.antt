@@ -7,8 +7,8 @@ use Rattle.checks.proofs.Laws.{not-true-and-false}
 use Rattle.units.specs.declared.Weight.{Weight}
 use Rattle.tree.specs.declared.Tree.{Tree}
 use Rattle.tree.specs.Class.{noWeight}
-use Rattle.state.specs.Queue.{table}
-use Rattle.state.proofs.Tables.{table-same}
+use Rattle.tree.specs.Sum.{table}
+use Rattle.tree.proofs.Tables.{table-same}
 use Rattle.rules.specs.Active.{weightSum, weightSums}
 use Rattle.rules.proofs.Sums.{sums-at}
 use Rattle.steps.specs.Rounds.{Raised}

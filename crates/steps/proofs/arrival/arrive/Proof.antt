@@ -1,63 +1,94 @@
 -- `arrival::arrive` meets its contract.
-use mathlib.Core.Path.{_≡_, refl, sym, _∙_}
+use mathlib.Core.Bool.{Bool, true, false}
+use mathlib.Core.Path.{_≡_, refl, sym, ap, ap₂, _∙_}
+use Prim.Native.Nat.{ℕ, _<_}
 use native.Mathlib.Omega.{arith}
 use lib.ListN.{getD}
 use borrow.Author.Tests.{not-true, not-false}
+use Rattle.checks.specs.declared.Verdict.{Verdict}
+use Rattle.checks.specs.declared.Verdict.the-variants.{Passed, Refused}
 use Rattle.checks.specs.Check.{firstBroken}
 use Rattle.tree.specs.Class.{longestOf, isLeaf}
 use Rattle.state.specs.declared.Link.{Link}
+use Rattle.state.specs.declared.Packet.{Packet}
 use Rattle.state.specs.Queue.{queued}
-use Rattle.steps.specs.Arrivals.{judgeChecks}
-use Rattle.steps.proofs.Judging.{judged-no-leaf, judged-passed, judged-refused, judged-room}
+use Rattle.state.specs.State.{meaning}
+use Rattle.state.proofs.Meaning.{meaning-held}
+use Rattle.calls.specs.Arrival.{arrivalChecks, arrivalAnswer, arrivalLeaves}
+use Rattle.calls.proofs.Arrivals.{unsound-number, no-leaf-number, arrival-refused, arrival-taken, taken}
+use Rattle.steps.specs.Arrivals.{ArrivesOn}
 use borrow.Author.Needs.{needs}
 use Rattle.steps.proofs.arrival.arrive.Statement.{statement}
 use Rattle.steps.proofs.arrival.arrive.Tie as tie
 
+-- a refused arrival leaves the link
+refuses : (sound : Bool) (l : Link) (i : ℕ) (p : Packet) (v : Verdict) {n q : ℕ} → v ≡ firstBroken (arrivalChecks sound (meaning l) i p)
+    → v ≡ Refused n q → ArrivesOn sound l i p (arrivalAnswer v) l
+refuses sound l i p v said e = rw e (sym (arrival-refused sound l i p (sym said ∙ e)))
+
+returns : tie.Need-returns
+returns c =
+    let a = c .before .args in
+    λ l leaves longest.
+    let now = queued l (a .start .now) (a .held .now) (a .lengths .now) (a .tags .now) in
+    rw (not-true (a .sound) (c .if1 .taken)) (refuses false now (a .class) (a .packet) _ (sym (unsound-number (meaning now) _ _)) refl)
+
 holds-requires : tie.Need-holds-requires
 holds-requires c κs = search needs
+
+returns-2 : tie.Need-returns-2
+unfolding isLeaf
+returns-2 c =
+    let h = c .before in
+    let a = h .before .before .args in
+    λ l leaves longest.
+    let now = queued l (a .start .now) (a .held .now) (a .lengths .now) (a .tags .now) in
+    let off : isLeaf (l .tree) (a .class) ≡ false =
+    rw leaves (sym (h .holds .ensures .0) ∙ not-true (h .holds .result) (c .if2 .taken)) in
+    rw (not-false (a .sound) (h .before .if1 .left))
+    (refuses true now (a .class) (a .packet) _ (sym (no-leaf-number (meaning now) (a .class) (a .packet) off)) refl)
+
+mul-judge : tie.Need-mul-judge
+mul-judge c = let h = c .before in omega (arith, h .holds .ensures .1 (not-false (h .holds .result) (c .if2 .left)))
+
+element-copy-out-judge : tie.Need-element-copy-out-judge
+element-copy-out-judge c = let h = c .before in omega (arith, h .holds .ensures .1 (not-false (h .holds .result) (c .if2 .left)))
+
+element-copy-out-judge-2 : tie.Need-element-copy-out-judge-2
+element-copy-out-judge-2 c =
+    let h = c .before .before in omega (arith, h .holds .ensures .1 (not-false (h .holds .result) (c .before .if2 .left)))
 
 judge-requires : tie.Need-judge-requires
 judge-requires c κs = search needs
 
-returns : tie.Need-returns
-unfolding isLeaf
-returns c =
-    let i = c .before in
+-- where the judging began; the class is a leaf, one of the 64 class numbers
+abbrev begun : tie.After-judge → tie.Start
+begun j = j .before .before .before .before .before .before
+
+inside : (j : tie.After-judge) → begun j .args .class < 64
+inside j =
+    let i = j .before .before .before in
     let h = i .before in
-    let a = h .before .args in
-    λ l leaves longest.
-    judged-no-leaf (a .sound) (queued l (a .start .now) (a .held .now) (a .lengths .now) (a .tags .now)) (a .class) (a .packet)
-    (h .holds .result) (c .judge .result)
-    (h .holds .ensures .0 ∙ rw leaves refl) (not-true (h .holds .result) (i .if1 .taken)) (c .judge .ensures)
+    h .holds .ensures .1 (not-false (h .holds .result) (i .if2 .left))
 
-mul-judge : tie.Need-mul-judge
-mul-judge c = let h = c .before in omega (arith, h .holds .ensures .1 (not-false (h .holds .result) (c .if1 .left)))
+-- the link at entry
+abbrev here : tie.After-judge → Link → Link
+here j l = let a = begun j .args in queued l (a .start .now) (a .held .now) (a .lengths .now) (a .tags .now)
 
-element-copy-out-judge : tie.Need-element-copy-out-judge
-element-copy-out-judge c = let h = c .before in omega (arith, h .holds .ensures .1 (not-false (h .holds .result) (c .if1 .left)))
-
-element-copy-out-judge-2 : tie.Need-element-copy-out-judge-2
-element-copy-out-judge-2 c =
-    let h = c .before .before in omega (arith, h .holds .ensures .1 (not-false (h .holds .result) (c .before .if1 .left)))
-
-judge-requires-2 : tie.Need-judge-requires-2
-judge-requires-2 c κs = search needs
-
--- the verdict in the numbers of the link
-said : (c : tie.After-judge2) (l : Link)
-    → l .tree .leaves ≡ c .before .before .before .before .before .args .leaves
-    → l .tree .longest ≡ c .before .before .before .before .before .args .longest .now
-    → c .judge2 .result
-    ≡ firstBroken
-    (judgeChecks (c .before .before .before .before .before .args .sound)
-    (isLeaf (l .tree) (c .before .before .before .before .before .args .class))
-    (c .before .before .before .before .before .args .class) (c .before .before .before .before .before .args .packet .length)
-    (longestOf (l .tree) (c .before .before .before .before .before .args .class))
-    (getD (c .before .before .before .before .before .args .held .now) (c .before .before .before .before .before .args .class) 0))
+-- the verdict is that of the checks on a link that is sound
+said : (j : tie.After-judge) (l : Link) → l .tree .leaves ≡ begun j .args .leaves → l .tree .longest ≡ begun j .args .longest .now
+    → j .judge .result ≡ firstBroken (arrivalChecks true (meaning (here j l)) (begun j .args .class) (begun j .args .packet))
 unfolding isLeaf
-said c l leaves longest =
-    let h = c .before .before .before .before in
-    c .judge2 .ensures ∙ rw (h .holds .ensures .0, leaves, longest) refl
+said j l leaves longest =
+    let a = begun j .args in
+    let i = j .before .before .before in
+    let h = i .before in
+    let leaf : isLeaf (l .tree) (a .class) ≡ true = rw leaves (sym (h .holds .ensures .0) ∙ not-false (h .holds .result) (i .if2 .left)) in
+    let most : longestOf (l .tree) (a .class) ≡ getD (a .longest .now) (a .class) 0 = rw longest refl in
+    j .judge .ensures .verdict (meaning (here j l)) (a .packet) leaf refl most (meaning-held (here j l) (a .class) (inside j))
+
+sounds : (j : tie.After-judge) → begun j .args .sound ≡ true
+sounds j = not-false (begun j .args .sound) (j .before .before .before .before .before .if1 .left)
 
 enum-told : tie.Need-enum-told
 enum-told c = search needs
@@ -66,50 +97,42 @@ put-requires : tie.Need-put-requires
 put-requires c κs =
     let e = c .before .before .before in
     let j = e .before .before in
-    let i = j .before .before .before in
-    let h = i .before in
-    let a = h .before .args in (
-      h .holds .ensures .1 (not-false (h .holds .result) (i .if1 .left)),
-      judged-room (a .sound) (h .holds .result) (a .class)
-          (a .packet .length) (getD (a .longest .now) (a .class) 0) (getD (a .held .now) (a .class) 0)
-          (sym (j .judge2 .ensures) ∙ e .enum-told .given .1),
-    )
+    (inside j, j .judge .ensures .room (e .enum-told .given .1))
 
 enum-told-2 : tie.Need-enum-told-2
 enum-told-2 c = search needs
 
-returns-2 : tie.Need-returns-2
-returns-2 c =
-    let e = c .before .before .before .before in
-    let j = e .before .before in
-    let a = j .before .before .before .before .before .args in
-    λ l leaves longest.
-    judged-passed (a .sound) (queued l (a .start .now) (a .held .now) (a .lengths .now) (a .tags .now)) (a .class) (a .packet)
-    (j .judge2 .result) (said j l leaves longest)
-    (e .enum-told .given .1) _ (c .put .ensures l)
-
 returns-3 : tie.Need-returns-3
 returns-3 c =
-    let j = c .before .before in
-    let a = j .before .before .before .before .before .args in
+    let e = c .before .before .before .before in
+    let j = e .before .before in
+    let a = begun j .args in
     λ l leaves longest.
-    judged-refused (a .sound) (queued l (a .start .now) (a .held .now) (a .lengths .now) (a .tags .now)) (a .class) (a .packet)
-    (j .judge2 .result) (said j l leaves longest)
-    (c .enum-told2 .given .1)
+    let passed = e .enum-told .given .1 in
+    rw (sounds j)
+    (ap₂ arrivalLeaves (ap arrivalAnswer passed) (c .put .ensures l)
+    ∙ sym (arrival-taken true (here j l) (a .class) (a .packet) (sym (said j l leaves longest) ∙ passed)))
+
+returns-4 : tie.Need-returns-4
+returns-4 c =
+    let j = c .before .before in
+    let a = begun j .args in
+    λ l leaves longest.
+    rw (sounds j) (refuses true (here j l) (a .class) (a .packet) (j .judge .result) (said j l leaves longest) (c .enum-told2 .given .1))
 
 pub arrive-spec : {M : Type 1} → statement M
 arrive-spec =
     tie.close
     (tie.spec
-    holds-requires
-    judge-requires
     returns
+    holds-requires
+    returns-2
     mul-judge
     element-copy-out-judge
     element-copy-out-judge-2
-    judge-requires-2
+    judge-requires
     enum-told
     put-requires
     enum-told-2
-    returns-2
-    returns-3)
+    returns-3
+    returns-4)

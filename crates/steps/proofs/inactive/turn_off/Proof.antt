@@ -10,7 +10,7 @@ use Rattle.rules.specs.Sending.{Books}
 use Rattle.rules.specs.Sending.{turnsOff}
 use Rattle.rules.specs.Steps.{Fit}
 use Rattle.rules.proofs.Fitting.{fit-given}
-use Rattle.opening.specs.Parts.{zipAccounts}
+use Rattle.state.specs.Account.{zipAccounts}
 use Rattle.steps.specs.Parts.{booksOf, Grown}
 use Rattle.steps.proofs.Climbs.{grown-parent, grown-lower, grown-within, climb-stays, climb-root, climb-class, climb-up}
 use borrow.Author.Needs.{needs}

@@ -2,7 +2,6 @@
 use mathlib.Core.Path.{_≡_, sym, _∙_}
 use Prim.Native.Nat.{_-_, _≤_, _<_}
 use native.Mathlib.Omega.{arith}
-use borrow.Author.Tests.{le-leb, lt-leb}
 use Rattle.state.specs.declared.Link.{Link}
 use Rattle.state.specs.State.{meaning}
 use Rattle.rules.specs.Sending.{ready, firstFrom, nextLeaf}
@@ -56,15 +55,19 @@ element-copy-out-cost c = search needs
 cost-requires : tie.Need-cost-requires Inv-loop μ-loop
 cost-requires c κs = search needs
 
-mul-if2 : tie.Need-mul-if2 Inv-loop μ-loop
-mul-if2 c = search needs
+mul-t15 : tie.Need-mul-t15 Inv-loop μ-loop
+mul-t15 c = search needs
 
-element-copy-out-if2 : tie.Need-element-copy-out-if2 Inv-loop μ-loop
-element-copy-out-if2 c = search needs
+element-copy-out-t22 : tie.Need-element-copy-out-t22 Inv-loop μ-loop
+element-copy-out-t22 c = search needs
+
+covers-requires : tie.Need-covers-requires Inv-loop μ-loop
+covers-requires c κs = search needs
 
 returns-2 : tie.Need-returns-2 Inv-loop μ-loop
 returns-2 c =
-    let q = c .before .before .before in
+    let v = c .before in
+    let q = v .before .before in
     let a = q .before .before in
     let n = a .before .before .before in
     let h = n .before in
@@ -74,7 +77,7 @@ returns-2 c =
     sym (h .loop .inv .1 l s ∙ seek-skips l _ _ _ _ _ s (h .loop .at) i (n .next .ensures)
     ∙ first-hit (ready (meaning l)) i u
     (seek-ready l _ _ _ _ _ s (h .loop .at) i _ (n .next .ensures) u (rw (a .slot .ensures .0) at (q .cost .ensures))
-    ∙ le-leb _ _ (c .if2 .taken)))
+    ∙ sym (v .covers .ensures) ∙ c .if2 .taken))
 
 add-at : tie.Need-add-at Inv-loop μ-loop
 add-at c = search needs
@@ -84,7 +87,8 @@ loop-less c = search needs
 
 loop-again : tie.Need-loop-again Inv-loop μ-loop
 loop-again c =
-    let q = c .before .before .before in
+    let v = c .before in
+    let q = v .before .before in
     let a = q .before .before in
     let n = a .before .before .before in
     let h = n .before in
@@ -95,7 +99,7 @@ loop-again c =
           h .loop .inv .1 l s ∙ seek-skips l _ _ _ _ _ s (h .loop .at) i (n .next .ensures)
           ∙ first-pass (ready (meaning l)) i u
           (seek-ready l _ _ _ _ _ s (h .loop .at) i _ (n .next .ensures) u (rw (a .slot .ensures .0) at (q .cost .ensures))
-          ∙ lt-leb _ _ (c .if2 .left)),
+          ∙ sym (v .covers .ensures) ∙ c .if2 .left),
     )
 
 pub next-leaf-spec : {M : Type 1} → statement M
@@ -113,8 +117,9 @@ next-leaf-spec =
     mul-cost
     element-copy-out-cost
     cost-requires
-    mul-if2
-    element-copy-out-if2
+    mul-t15
+    element-copy-out-t22
+    covers-requires
     returns-2
     add-at
     loop-less

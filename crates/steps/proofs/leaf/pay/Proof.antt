@@ -4,8 +4,8 @@ use Prim.Native.Nat.{_<_}
 use native.Mathlib.Omega.{arith}
 use lib.ListN.{length, getD, set, length-set}
 use Rattle.rules.proofs.Fitting.{funds-small, fit-set}
-use Rattle.opening.specs.Parts.{zipAccounts}
-use Rattle.opening.proofs.Zips.{zip-residual}
+use Rattle.state.specs.Account.{zipAccounts}
+use Rattle.state.proofs.Zips.{zip-residual}
 use borrow.Author.Needs.{needs}
 use Rattle.steps.proofs.leaf.pay.Statement.{statement}
 use Rattle.steps.proofs.leaf.pay.Tie as tie

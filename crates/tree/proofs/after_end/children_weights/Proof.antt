@@ -3,7 +3,7 @@ use mathlib.Core.Path.{_≡_, sym, _∙_}
 use Prim.Native.Nat.{_+_, _^_, _≤_, _<_}
 use native.Mathlib.Omega.{arith}
 use lib.ListN.{getD}
-use Rattle.tree.specs.Class.{noWeight, parentOf, weightOf, childWeight, childrenWeight}
+use Rattle.tree.specs.Class.{noWeight, parentOf, weightOf, ofChild, childrenSum, childrenWeight}
 use Rattle.tree.proofs.Classes.{class-in, child-light, child-own, child-other}
 use Rattle.tree.proofs.Sums.{sum-bound}
 use Rattle.tree.proofs.Down.{SumsAbove, sums-start, sums-more, sums-end}
@@ -12,13 +12,13 @@ use Rattle.tree.proofs.after_end.children_weights.Statement.{statement}
 use Rattle.tree.proofs.after_end.children_weights.Tie as tie
 
 abbrev Inv-loop : tie.InvT-loop
-Inv-loop tree sums₀ last i₀ sums i = (i ≤ tree .count) × SumsAbove (tree .count) 256 (childWeight tree) sums i
+Inv-loop tree sums₀ last i₀ sums i = (i ≤ tree .count) × SumsAbove (tree .count) 256 (ofChild tree (weightOf tree)) sums i
 
 abbrev μ-loop : tie.MeasureT-loop
 μ-loop tree sums₀ last i₀ sums i = i
 
 loop-holds : tie.Need-loop-holds Inv-loop μ-loop
-loop-holds c = (omega arith, sums-start (c .args .t1 .count) 256 (childWeight (c .args .t1)))
+loop-holds c = (omega arith, sums-start (c .args .t1 .count) 256 (ofChild (c .args .t1) (weightOf (c .args .t1))))
 
 element-copy-out-wide : tie.Need-element-copy-out-wide Inv-loop μ-loop
 element-copy-out-wide c = omega (arith, c .before .before .pre .few)
@@ -53,7 +53,7 @@ plus-requires c κs =
       st .pre .few,
       st .pre .light i (class-in t i (omega (arith, g .loop-test .taken)) (h .loop .inv .0)),
       h .loop .inv .1 .at p (v .wide .ensures .1),
-      sum-bound (childWeight t p) 1_000_000 (t .count) (λ k a b. child-light t p k 1_000_000 (st .pre .light k (class-in t k a b))),
+      sum-bound (ofChild t (weightOf t) p) 1_000_000 (t .count) (λ k a b. child-light t (weightOf t) p k 1_000_000 (st .pre .light k (class-in t k a b))),
     )
     in
     fits
@@ -80,18 +80,18 @@ loop-again c =
     let p = v .wide .result in
     let e : parentOf t i ≡ p = sym (v .wide .ensures .0) in (
       omega arith,
-      sums-more (t .count) 256 (childWeight t) (h .loop .sums) i p (weightOf t i) (c .plus .result) (h .loop .inv .1)
+      sums-more (t .count) 256 (ofChild t (weightOf t)) (h .loop .sums) i p (weightOf t i) (c .plus .result) (h .loop .inv .1)
           (omega (arith, g .loop-test .taken)) (h .loop .inv .0)
-          (v .wide .ensures .1) (rw e at (child-own t i)) (λ k ne. child-other t i k (λ z. ne (sym e ∙ z))) (c .plus .ensures),
+          (v .wide .ensures .1) (rw e at (child-own t (weightOf t) i)) (λ k ne. child-other t (weightOf t) i k (λ z. ne (sym e ∙ z))) (c .plus .ensures),
     )
 
 returns : tie.Need-returns Inv-loop μ-loop
-unfolding childrenWeight
+unfolding childrenWeight childrenSum
 returns c = λ p u.
     let h = c .before in
     let t = h .before .args .t1 in
     let e : h .loop .i ≡ 0 = omega arith in
-    sums-end (t .count) 256 (childWeight t) (h .loop .sums) p (rw e at (h .loop .inv .1)) u
+    sums-end (t .count) 256 (ofChild t (weightOf t)) (h .loop .sums) p (rw e at (h .loop .inv .1)) u
 
 pub children-weights-spec : {M : Type 1} → statement M
 children-weights-spec =

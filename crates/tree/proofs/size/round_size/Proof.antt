@@ -1,4 +1,5 @@
 -- `size::round_size` meets its contract.
+use mathlib.Core.Path.{refl, _∙_}
 use borrow.Author.Needs.{needs}
 use Rattle.tree.proofs.size.round_size.Statement.{statement}
 use Rattle.tree.proofs.size.round_size.Tie as tie
@@ -9,7 +10,7 @@ plan-size-requires c κs = search needs
 returns : tie.Need-returns
 returns c =
     let p = c .before .plan-size .ensures in
-    p .1 (p .0 .complete (c .before .before .pre))
+    p .size ∙ rw (p .right .complete (c .before .before .pre)) refl
 
 pub round-size-spec : {M : Type 1} → statement M
 round-size-spec = tie.close (tie.spec plan-size-requires returns)

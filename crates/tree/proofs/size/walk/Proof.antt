@@ -9,9 +9,9 @@ use Rattle.checks.specs.Check.{Exactly}
 use Rattle.checks.proofs.Laws.{exactly-yes, exactly-no, not-true-and-false}
 use Rattle.units.specs.Cost.{mostCost}
 use Rattle.tree.specs.declared.Tree.{Tree}
-use Rattle.tree.specs.Class.{noWeight, parentOf, weightOf, childWeight}
+use Rattle.tree.specs.Class.{noWeight, parentOf, weightOf, ofChild}
 use Rattle.tree.specs.Size.{allWeights, allLongest, longestCost}
-use Rattle.tree.specs.Steps.{ClassRight, childrenAfter}
+use Rattle.tree.specs.Steps.{ClassObeys, childrenAfter}
 use Rattle.tree.specs.Sum.{sumTo}
 use Rattle.tree.proofs.Classes.{class-in, class-range, child-light, child-own, child-other}
 use Rattle.tree.proofs.Rules.{lower-parent, weight-range, longest-cost-bound}
@@ -24,10 +24,10 @@ use Rattle.tree.proofs.size.walk.Tie as tie
 abbrev Inv-loop : tie.InvT-loop
 Inv-loop tree parent weight longest sums₀ weights₀ packets₀ i₀ sums weights packets i =
     (i ≤ tree .count)
-    × SumsAbove (tree .count) 64 (childWeight tree) sums i
+    × SumsAbove (tree .count) 64 (ofChild tree (weightOf tree)) sums i
     × (weights .0 ≡ sumTo (weightOf tree) (tree .count) - sumTo (weightOf tree) i)
     × (packets .0 ≡ sumTo (longestCost tree) (tree .count) - sumTo (longestCost tree) i)
-    × ((k : ℕ) → i < k → k ≤ tree .count → ClassRight tree k (childrenAfter tree k))
+    × ((k : ℕ) → i < k → k ≤ tree .count → ClassObeys tree k (childrenAfter tree k))
 
 abbrev μ-loop : tie.MeasureT-loop
 μ-loop tree parent weight longest sums₀ weights₀ packets₀ i₀ sums weights packets i = i
@@ -36,7 +36,7 @@ loop-holds : tie.Need-loop-holds Inv-loop μ-loop
 loop-holds c =
     let t = c .before .before .before .args .tree in (
       omega arith,
-      sums-start (t .count) 64 (childWeight t),
+      sums-start (t .count) 64 (ofChild t (weightOf t)),
       omega arith,
       omega arith,
       λ k l u. absurd (omega arith),
@@ -79,7 +79,7 @@ class-of c = c .before .before .before .before .loop .i
 
 -- what the call says of it
 said : (c : tie.After-class-right Inv-loop μ-loop)
-    → Exactly (c .class-right .result .right) (ClassRight (tree-of c) (class-of c) (childrenAfter (tree-of c) (class-of c)))
+    → Exactly (c .class-right .result .right) (ClassObeys (tree-of c) (class-of c) (childrenAfter (tree-of c) (class-of c)))
     × (c .class-right .result .right ≡ true → c .class-right .result .cost .0 ≡ longestCost (tree-of c) (class-of c))
 said c =
     let h = c .before .before .before .before in
@@ -101,7 +101,7 @@ abbrev call : (c : tie.Else1 Inv-loop μ-loop) → tie.After-class-right Inv-loo
 call c = c .before .before .before
 
 own : (c : tie.Else1 Inv-loop μ-loop)
-    → ClassRight (tree-of (call c)) (class-of (call c)) (childrenAfter (tree-of (call c)) (class-of (call c)))
+    → ClassObeys (tree-of (call c)) (class-of (call c)) (childrenAfter (tree-of (call c)) (class-of (call c)))
 own c = said (call c) .0 .sound (not-false _ (c .if1 .left))
 
 cost : (c : tie.Else1 Inv-loop μ-loop) → call c .class-right .result .cost .0 ≡ longestCost (tree-of (call c)) (class-of (call c))
@@ -140,7 +140,7 @@ plus-requires c κs =
       h .before .before .before .before .pre,
       weight-range t i (own e .weight) .1,
       h .loop .inv .1 .at p (among v),
-      sum-rest (childWeight t p) 1_000_000 (t .count) i (h .loop .inv .0) (λ k l u. child-light t p k 1_000_000 (weight-range t k
+      sum-rest (ofChild t (weightOf t) p) 1_000_000 (t .count) i (h .loop .inv .0) (λ k l u. child-light t (weightOf t) p k 1_000_000 (weight-range t k
           (h .loop .inv .4 k l u .weight) .1)),
     )
     in
@@ -202,11 +202,11 @@ loop-again c =
     let u = h .loop .inv .0 in
     let z : parentOf t i ≡ p = sym (v .wide .ensures .0) in (
       omega arith,
-      sums-more (t .count) 64 (childWeight t) (h .loop .sums) i p (weightOf t i) (s .plus .result) (h .loop .inv .1) low u
-          (among v) (rw z at (child-own t i)) (λ k ne. child-other t i k (λ y. ne (sym z ∙ y))) (s .plus .ensures),
+      sums-more (t .count) 64 (ofChild t (weightOf t)) (h .loop .sums) i p (weightOf t i) (s .plus .result) (h .loop .inv .1) low u
+          (among v) (rw z at (child-own t (weightOf t) i)) (λ k ne. child-other t (weightOf t) i k (λ y. ne (sym z ∙ y))) (s .plus .ensures),
       omega (arith, q .plus2 .ensures, h .loop .inv .2, sum-above (weightOf t) (t .count) i low u),
       omega (arith, c .plus3 .ensures, cost e, h .loop .inv .3, sum-above (longestCost t) (t .count) i low u),
-      after-more (λ (k : ℕ). ClassRight t k (childrenAfter t k)) (t .count) i (h .loop .inv .4) (own e),
+      after-more (λ (k : ℕ). ClassObeys t k (childrenAfter t k)) (t .count) i (h .loop .inv .4) (own e),
     )
 
 returns-2 : tie.Need-returns-2 Inv-loop μ-loop

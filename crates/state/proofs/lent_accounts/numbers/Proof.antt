@@ -1,17 +1,17 @@
--- `accounts::numbers` meets its contract.
+-- `lent_accounts::numbers` meets its contract.
 use mathlib.Core.Bool.{Bool, cond}
 use mathlib.Core.List.{List, _++_, append-nil}
 use mathlib.Core.Path.{_≡_, refl, _∙_}
 use Prim.Native.Nat.{ℕ, _-_, _≤_}
 use native.Mathlib.Omega.{arith}
 use lib.ListN.{replicate}
 use Rattle.state.specs.declared.Account.{Account}
 use Rattle.state.specs.Account.{balanceOf, residualOf}
-use Rattle.state.specs.Queue.{table}
-use Rattle.state.proofs.Tables.{table-none, table-fill}
+use Rattle.tree.specs.Sum.{table}
+use Rattle.tree.proofs.Tables.{table-none, table-fill}
 use borrow.Author.Needs.{needs}
-use Rattle.opening.proofs.accounts.numbers.Statement.{statement}
-use Rattle.opening.proofs.accounts.numbers.Tie as tie
+use Rattle.state.proofs.lent_accounts.numbers.Statement.{statement}
+use Rattle.state.proofs.lent_accounts.numbers.Tie as tie
 
 abbrev numberOf : Bool → List Account → ℕ → ℕ
 numberOf residual accounts i = cond residual (residualOf accounts i) (balanceOf accounts i)

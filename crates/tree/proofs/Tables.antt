@@ -7,7 +7,7 @@ use native.Mathlib.Numerals.{add-one}
 use native.Mathlib.Omega.{arith}
 use lib.ListN.{length, getD, set, drop, replicate, length-append, length-set, List·getD-append}
 use lib.Seq.{getD-at, set-at, append-snoc, drop-cons, getD-set-same, getD-set-other, ext-getD}
-use Rattle.state.specs.Queue.{table}
+use Rattle.tree.specs.Sum.{table}
 
 module _ {A : Type 0} where
   pub table-none : (f : ℕ → A) → table f 0 ≡ []

@@ -1,8 +1,8 @@
 #!/usr/bin/env python3
-# The written-down cases of the readers and of the plan rules, second/plan_cases.txt: a text of named cases, each command with the lines
+# The written-down cases of the readers and of the plan rules, cases/plan_cases.txt: a text of named cases, each command with the lines
 # that it is to print. It is packed into the input and the expected lines of the program plan_cases, crates/plan_cases/stdin and stdout.
-#   second/plan_cases.py            checks that both files are what the text packs to, and each line what the second program says
-#   second/plan_cases.py --write    puts the second program's lines into the text and packs it anew
+#   cases/plan_cases.py            checks that both files are what the text packs to, and each line what the second program says
+#   cases/plan_cases.py --write    puts the second program's lines into the text and packs it anew
 # The second program is target/second/plan_cases (second/plan_cases.rs over second/plan.rs, an independent reading); bin/cases builds it.
 # Where it is not there the lines stand as they are, and this is said. Status 1: something differs; 2: the text cannot be read.
 import os
@@ -12,7 +12,7 @@ import sys
 from link_cases import ROOT, Unreadable, class_set, file_differences, first_difference
 from link_cases import number, numbers, plan_line, quoted, read_file, write_file
 
-TEXT = "second/plan_cases.txt"
+TEXT = "cases/plan_cases.txt"
 STDIN = "crates/plan_cases/stdin"
 STDOUT = "crates/plan_cases/stdout"
 SECOND = "target/second/plan_cases"

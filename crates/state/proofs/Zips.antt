@@ -5,11 +5,11 @@ use Prim.Native.Nat.{ℕ, zero, suc, _<_}
 use native.Mathlib.Omega.{arith}
 use lib.ListN.{length, getD, set}
 use lib.Seq.{ext-getD}
 use Rattle.state.specs.declared.Account.{Account}
 use Rattle.state.specs.Account.{account, noAccount, accountOf, balanceOf, residualOf}
-use Rattle.state.specs.Queue.{table}
-use Rattle.state.proofs.Tables.{table-length, table-at}
-use Rattle.opening.specs.Parts.{zipAccounts}
+use Rattle.tree.specs.Sum.{table}
+use Rattle.tree.proofs.Tables.{table-length, table-at}
+use Rattle.state.specs.Account.{zipAccounts}
 
 -- the account of class i, where there are so many
 pub zip-at : (bs rs : List ℕ) (i : ℕ) → i < length (zipAccounts bs rs)

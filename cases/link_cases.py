@@ -1,8 +1,8 @@
 #!/usr/bin/env python3
-# The written-down cases of the calls, second/link_cases.txt: a text of named cases, each command with the lines that it is to print.
+# The written-down cases of the calls, cases/link_cases.txt: a text of named cases, each command with the lines that it is to print.
 # It is packed into the input and the expected lines of the program link_cases, crates/link_cases/stdin and stdout.
-#   second/link_cases.py            checks that both files are what the text packs to, and each line of the text what the model says
-#   second/link_cases.py --write    puts the model's lines into the text and packs it anew
+#   cases/link_cases.py            checks that both files are what the text packs to, and each line of the text what the model says
+#   cases/link_cases.py --write    puts the model's lines into the text and packs it anew
 # It says what differs, by the names of the cases. Its status is 1 where something differs, 2 where the text cannot be read.
 # The model works the rules (R86 to R164) in plain whole numbers, and judges nothing by what the crates answer. It was written beside our
 # definitions and the program's source: a second computation, and not the independent reading, which is second/second.rs.
@@ -11,7 +11,7 @@ import os
 import sys
 
 ROOT = os.path.dirname(os.path.dirname(os.path.realpath(__file__)))
-TEXT = "second/link_cases.txt"
+TEXT = "cases/link_cases.txt"
 STDIN = "crates/link_cases/stdin"
 STDOUT = "crates/link_cases/stdout"
 MOST_BYTES = 131072

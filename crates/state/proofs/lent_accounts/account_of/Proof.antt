@@ -1,10 +1,10 @@
--- `accounts::account_of` meets its contract.
+-- `lent_accounts::account_of` meets its contract.
 use mathlib.Core.Path.{sym}
 use native.Mathlib.Omega.{arith}
-use Rattle.opening.proofs.Zips.{zip-at}
+use Rattle.state.proofs.Zips.{zip-at}
 use borrow.Author.Needs.{needs}
-use Rattle.opening.proofs.accounts.account_of.Statement.{statement}
-use Rattle.opening.proofs.accounts.account_of.Tie as tie
+use Rattle.state.proofs.lent_accounts.account_of.Statement.{statement}
+use Rattle.state.proofs.lent_accounts.account_of.Tie as tie
 
 mul-t4 : tie.Need-mul-t4
 mul-t4 c = search needs

@@ -1,17 +1,17 @@
--- `accounts::zipped` meets its contract.
+-- `lent_accounts::zipped` meets its contract.
 use mathlib.Core.List.{_++_, append-nil}
 use mathlib.Core.Path.{_≡_, refl, _∙_}
 use Prim.Native.Nat.{_-_, _≤_}
 use native.Mathlib.Omega.{arith}
 use lib.ListN.{replicate}
 use Rattle.state.specs.Account.{noAccount, accountOf}
-use Rattle.state.specs.Queue.{table}
-use Rattle.state.proofs.Tables.{table-none, table-fill}
-use Rattle.opening.specs.Parts.{zipAccounts}
-use Rattle.opening.proofs.Zips.{list-table}
+use Rattle.tree.specs.Sum.{table}
+use Rattle.tree.proofs.Tables.{table-none, table-fill}
+use Rattle.state.specs.Account.{zipAccounts}
+use Rattle.state.proofs.Zips.{list-table}
 use borrow.Author.Needs.{needs}
-use Rattle.opening.proofs.accounts.zipped.Statement.{statement}
-use Rattle.opening.proofs.accounts.zipped.Tie as tie
+use Rattle.state.proofs.lent_accounts.zipped.Statement.{statement}
+use Rattle.state.proofs.lent_accounts.zipped.Tie as tie
 
 abbrev Inv-loop : tie.InvT-loop
 Inv-loop balance residual out₀ i₀ out i =

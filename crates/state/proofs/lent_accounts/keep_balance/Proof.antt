@@ -1,13 +1,13 @@
--- `accounts::keep_balance` meets its contract.
+-- `lent_accounts::keep_balance` meets its contract.
 use mathlib.Core.Path.{ap, _∙_}
 use Prim.Native.Nat.{ℕ}
 use lib.ListN.{set}
 use Rattle.state.specs.Account.{account}
-use Rattle.opening.specs.Parts.{zipAccounts}
-use Rattle.opening.proofs.Zips.{zip-set-first}
+use Rattle.state.specs.Account.{zipAccounts}
+use Rattle.state.proofs.Zips.{zip-set-first}
 use borrow.Author.Needs.{needs}
-use Rattle.opening.proofs.accounts.keep_balance.Statement.{statement}
-use Rattle.opening.proofs.accounts.keep_balance.Tie as tie
+use Rattle.state.proofs.lent_accounts.keep_balance.Statement.{statement}
+use Rattle.state.proofs.lent_accounts.keep_balance.Tie as tie
 
 mul-balance : tie.Need-mul-balance
 mul-balance c = search needs

@@ -1,6 +1,6 @@
 #!/usr/bin/env python3
 # The expected lines of the written-down cases of the rates, worked out from the rules (R68 to R85) by exact whole numbers:
-#   second/rate_cases.py < crates/rate_cases/stdin > crates/rate_cases/stdout
+#   cases/rate_cases.py < crates/rate_cases/stdin > crates/rate_cases/stdout
 # F is not searched for by halving, as the code does.
 import sys
 

@@ -1,8 +1,8 @@
--- `accounts::keep` meets its contract.
-use Rattle.opening.proofs.Zips.{zip-set}
+-- `lent_accounts::keep` meets its contract.
+use Rattle.state.proofs.Zips.{zip-set}
 use borrow.Author.Needs.{needs}
-use Rattle.opening.proofs.accounts.keep.Statement.{statement}
-use Rattle.opening.proofs.accounts.keep.Tie as tie
+use Rattle.state.proofs.lent_accounts.keep.Statement.{statement}
+use Rattle.state.proofs.lent_accounts.keep.Tie as tie
 
 mul-balance : tie.Need-mul-balance
 mul-balance c = search needs

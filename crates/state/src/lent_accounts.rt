@@ -5,10 +5,10 @@ ghost use mathlib.Core.Path.{_≡_};
 ghost use Prim.Native.Nat.{ℕ, _<_};
 ghost use mathlib.Core.List.{List};
 ghost use lib.ListN.{length, getD, set};
-ghost use Rattle.state.specs.Account.{accountOf, balanceOf, residualOf};
-ghost use Rattle.state.specs.Queue.{table};
-ghost use Rattle.opening.specs.Parts.{zipAccounts};
-use state::Account;
+ghost use Rattle.state.specs.Account.{accountOf, balanceOf, residualOf, zipAccounts};
+ghost use Rattle.tree.specs.Sum.{table};
+use crate::Account;
+use crate::Link;
 use units::Bytes;
 
 // The account of a class.
@@ -57,7 +57,7 @@ fn numbers(accounts: [Account; 64], residual: bool) -> [u64; 64]
 {
     let mut out = [0u64; 64];
     let mut i: usize = 0;
-    while i < 64 {
+    while i < Link::CLASSES {
         let a = accounts[i];
         out[i] = number(a, residual);
         i += 1;
@@ -86,7 +86,7 @@ pub fn zipped(balance: &[u64; 64], residual: &[u64; 64]) -> [Account; 64]
     let none = Account::none();
     let mut out = [none; 64];
     let mut i: usize = 0;
-    while i < 64 {
+    while i < Link::CLASSES {
         out[i] = account_of(i, balance, residual);
         i += 1;
     }
