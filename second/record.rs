@@ -1,5 +1,7 @@
-//! Records runs of the second program: record FOLDER GENERATE SECOND writes FOLDER/stdin (the inputs) and FOLDER/stdout
-//! (what their lines come to). Run 0 is the one in which a packet waits nearly its bound.
+//! Records runs of the second program: record FOLDER GENERATE SECOND LISTING writes FOLDER/stdin (the inputs) and FOLDER/stdout
+//! (what their lines come to, and for a short input the lines that say why each leaf is silent after the plan and after each event). Run 0
+//! is the one in which a packet waits nearly its bound, run 1 the listing. With FIRST and MANY after these words it records the runs of
+//! these seeds instead, but for large inputs, and asks of each why its leaves are silent.
 //! The proved program `recorded` reads the first and must print the second. Build: rustc -O --edition 2021 record.rs
 
 use std::io::Write;
@@ -9,6 +11,10 @@ use std::process::{Command, Stdio};
 const SEEDS: std::ops::Range<u64> = 0..300;
 const LARGE: usize = 10_000;
 const MOST_LARGE: usize = 6;
+
+/// The inputs below this length are asked why their leaves are silent: ASKED is added to the length before them.
+const SHORT: usize = 600;
+const ASKED: u32 = 1 << 23;
 
 /// What a program prints, given its word and its input.
 fn output_of(program: &str, word: Option<&str>, input: &[u8]) -> Vec<u8> {
@@ -35,28 +41,51 @@ fn sum_of(text: &[u8]) -> u64 {
     text.iter().fold(0, |sum, &byte| (sum * 257 + u64::from(byte) + 1) % 4_294_967_291)
 }
 
+/// How many lines a text has, and the sum over it.
+fn tally_of(text: &[u8]) -> String {
+    let count = text.iter().filter(|&&byte| byte == b'\n').count();
+    format!(" lines {count} sum {}", sum_of(text))
+}
+
 fn main() {
     let words: Vec<String> = std::env::args().collect();
-    let [_, folder, generate, second] = &words[..] else {
-        eprintln!("use: record FOLDER GENERATE SECOND");
-        std::process::exit(1);
+    let (folder, generate, second, listing, seeds) = match &words[..] {
+        [_, folder, generate, second, listing] => (folder, generate, second, listing, None),
+        [_, folder, generate, second, listing, first, many] => {
+            let number = |word: &String| word.parse::<u64>().expect("a number");
+            (folder, generate, second, listing, Some(number(first)..number(first) + number(many)))
+        }
+        _ => {
+            eprintln!("use: record FOLDER GENERATE SECOND LISTING [FIRST MANY]");
+            std::process::exit(1);
+        }
     };
     let (mut inputs, mut lines, mut large, mut runs) = (Vec::new(), String::new(), 0, 0);
-    for word in ["near-bound".to_string()].into_iter().chain(SEEDS.map(|seed| seed.to_string())) {
-        let input = output_of(generate, Some(&word), &[]);
+    let all = seeds.is_some();
+    let named: &[&str] = if all { &[] } else { &["near-bound", "listing"] };
+    let numbered = seeds.unwrap_or(SEEDS).map(|seed| seed.to_string());
+    for word in named.iter().map(|word| word.to_string()).chain(numbered) {
+        let input = match word.as_str() {
+            "listing" => std::fs::read(listing).expect("the listing is read"),
+            _ => output_of(generate, Some(&word), &[]),
+        };
         if input.len() > LARGE && word != "near-bound" {
             large += 1;
-            if large > MOST_LARGE {
+            if all || large > MOST_LARGE {
                 continue;
             }
         }
         let text = output_of(second, None, &input);
         // The length plus 1, in three bytes; what is past 65,537 bytes is never read.
         let read = input.len().min(65_537);
-        inputs.extend(&(read as u32 + 1).to_be_bytes()[1..]);
+        let asked = all || read < SHORT;
+        inputs.extend(&(read as u32 + 1 + if asked { ASKED } else { 0 }).to_be_bytes()[1..]);
         inputs.extend(&input[..read]);
-        let count = text.iter().filter(|&&byte| byte == b'\n').count();
-        lines.push_str(&format!("run {runs} lines {count} sum {}\n", sum_of(&text)));
+        lines.push_str(&format!("run {runs}{}", tally_of(&text)));
+        if asked {
+            lines.push_str(&format!(" silent{}", tally_of(&output_of(second, Some("silent-each"), &input))));
+        }
+        lines.push('\n');
         runs += 1;
     }
     std::fs::write(format!("{folder}/stdin"), &inputs).expect("the inputs are written");

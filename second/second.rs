@@ -2,7 +2,8 @@
 //! in sentences of its own (R4 to R67, R86 to R173, R185 to R195, R200 to R202).
 //! It reads a plan and events from standard input and prints the lines of "A whole run"; with the word `long` from input of any length.
 //! It is slow and plain on purpose: every sum is scanned again, every call is followed by a full check.
-//! With words it prints a run worked step by step, for docs/by-hand.md (see by_hand.rs) and for the desk's own runs (see desk.rs).
+//! With words it prints a run worked step by step, for docs/by-hand.md (see by_hand.rs) and for the desk's own runs (see desk.rs), or why
+//! leaves are silent (see silent.rs).
 //! Build: rustc -O --edition 2021 second.rs; test: rustc -O --edition 2021 --test second.rs -o second_test
 
 #[path = "by_hand.rs"]
@@ -11,6 +12,8 @@ mod by_hand;
 mod desk;
 #[path = "plan.rs"]
 mod plan;
+#[path = "silent.rs"]
+mod silent;
 
 use plan::*;
 use std::io::Write;
@@ -240,6 +243,8 @@ impl Link {
         if let Some(rule) = self.broken_rule() {
             panic!("after {after}, this rule is broken: {rule}");
         }
+        // "Exactly one reason is true of each leaf in a sound state"
+        silent::assert_one_each(self);
     }
 }
 
@@ -678,13 +683,21 @@ fn print(run: &Run) -> std::io::Result<()> {
     Ok(())
 }
 
-/// The lines of a run worked by hand: the words are `tables FROM TABLE`, `waits FROM`, `worked FROM TO` or `state EVENT`.
+/// What the words may be.
+const USE: &str = "tables FROM TABLE, waits FROM, worked FROM TO, state EVENT, silent [CLASS ..] or silent-each";
+
+/// The lines of a run worked by hand, or of why leaves are silent.
 fn worked(words: &[String], input: &[u8]) -> Vec<String> {
-    let number = |position: usize| words.get(position).and_then(|word| word.parse().ok()).expect("tables FROM TABLE, or waits FROM");
-    match words[0].as_str() {
-        "tables" => by_hand::tables(input, number(1), number(2)),
-        "worked" | "state" => desk::answer(words, input),
-        _ => by_hand::waits(input, number(1)),
+    if words[0] == "worked" || words[0] == "state" {
+        return desk::answer(words, input);
+    }
+    let numbers: Vec<usize> = words[1..].iter().map(|word| word.parse().expect(USE)).collect();
+    match (words[0].as_str(), &numbers[..]) {
+        ("tables", &[from, table]) => by_hand::tables(input, from, table),
+        ("waits", &[from]) => by_hand::waits(input, from),
+        ("silent", classes) => silent::silent(input, classes),
+        ("silent-each", []) => silent::silent_each(input),
+        _ => panic!("{USE}"),
     }
 }
 

@@ -9,7 +9,8 @@ use Rattle.io.specs.Counts.{Counts}
 use Rattle.digits.specs.Laid.{LaidAt}
 use Rattle.digits.proofs.Laying.{over-start, laid-same, laid-as}
 use Rattle.lines.specs.declared.Line.{Line}
-use Rattle.lines.specs.Line.{spacedNumbers, textOf, bytesOf, Lays}
+use Rattle.lines.specs.declared.Why.{Why}
+use Rattle.lines.specs.Line.{spacedNumbers, textOf, whyText, bytesOf, Lays}
 use Rattle.lines.specs.Laid.{endOf}
 
 -- a text before the last numbers of a line
@@ -22,6 +23,10 @@ laid-end at t ns b c d m r = laid-as at t (endOf ns) (textOf t ns) b c d m r (ap
 pub line-at : (at : ℕ) (line same : Line) (b d : List ℕ) (r : ℕ) → line ≡ same → LaidAt at (bytesOf same) b r d
     → LaidAt at (bytesOf line) b r d
 line-at at line same b d r e = laid-same at (bytesOf same) (bytesOf line) b d r (ap bytesOf e)
+
+-- the word of a reason laid, by its case
+pub why-at : (at : ℕ) (why same : Why) (b d : List ℕ) (r : ℕ) → why ≡ same → LaidAt at (whyText same) b r d → LaidAt at (whyText why) b r d
+why-at at why same b d r e = laid-same at (whyText same) (whyText why) b d r (ap whyText e)
 
 -- a text laid at the start
 pub lays : (line : Line) (b d : List ℕ) (r : ℕ) → LaidAt 0 (bytesOf line) b r d → Lays line b r d

@@ -1,10 +1,12 @@
--- The listing byte by byte (R165 to R172), and lines that it lacks: a refused arrival, a stop, the largest number, a rate.
+-- The listing byte by byte (R165 to R172), and lines that it lacks: a refused arrival, a stop, the largest number, a rate, why leaves are
+-- silent.
 use mathlib.Core.List.{List, [], _∷_, map}
 use mathlib.Core.Path.{_≡_, refl}
 use Prim.Native.Nat.{ℕ}
 use Rattle.digits.specs.Decimal.{digitsIn, decimal}
 use Rattle.lines.specs.declared.Line.{Line}
-use Rattle.lines.specs.declared.Line.the-variants.{Link, In, No, Out, Nothing, End, Stop, Rate}
+use Rattle.lines.specs.declared.Line.the-variants.{Link, In, No, Out, Nothing, End, Stop, Rate, Silent, NotTold}
+use Rattle.lines.specs.declared.Why.the-variants.{Empty, Waits, Short, Due}
 use Rattle.lines.specs.Line.{bytesOf}
 
 abbrev run : List Line
@@ -73,3 +75,25 @@ largest-number = refl
 rated : bytesOf (Rate 1 200 42 0) ≡ 114 ∷ 97 ∷ 116 ∷ 101 ∷ 32 ∷ 49 ∷ 32 ∷ 50 ∷ 48 ∷ 48 ∷ 32 ∷ 52 ∷ 50 ∷ 32 ∷ 48 ∷ 10 ∷ []
 unfolding bytesOf decimal digitsIn
 rated = refl
+
+-- why leaves are silent
+abbrev told : List Line
+told = Silent 2 Empty 0 ∷ Silent 3 Waits 0 ∷ Silent 4 Short 47 ∷ Silent 5 Due 0 ∷ NotTold 1 12 ∷ []
+
+abbrev told-bytes : List (List ℕ)
+told-bytes =
+    -- silent 2 empty 0
+    (115 ∷ 105 ∷ 108 ∷ 101 ∷ 110 ∷ 116 ∷ 32 ∷ 50 ∷ 32 ∷ 101 ∷ 109 ∷ 112 ∷ 116 ∷ 121 ∷ 32 ∷ 48 ∷ 10 ∷ [])
+    -- silent 3 waits 0
+    ∷ (115 ∷ 105 ∷ 108 ∷ 101 ∷ 110 ∷ 116 ∷ 32 ∷ 51 ∷ 32 ∷ 119 ∷ 97 ∷ 105 ∷ 116 ∷ 115 ∷ 32 ∷ 48 ∷ 10 ∷ [])
+    -- silent 4 short 47
+    ∷ (115 ∷ 105 ∷ 108 ∷ 101 ∷ 110 ∷ 116 ∷ 32 ∷ 52 ∷ 32 ∷ 115 ∷ 104 ∷ 111 ∷ 114 ∷ 116 ∷ 32 ∷ 52 ∷ 55 ∷ 10 ∷ [])
+    -- silent 5 due 0
+    ∷ (115 ∷ 105 ∷ 108 ∷ 101 ∷ 110 ∷ 116 ∷ 32 ∷ 53 ∷ 32 ∷ 100 ∷ 117 ∷ 101 ∷ 32 ∷ 48 ∷ 10 ∷ [])
+    -- no 1 12
+    ∷ (110 ∷ 111 ∷ 32 ∷ 49 ∷ 32 ∷ 49 ∷ 50 ∷ 10 ∷ [])
+    ∷ []
+
+reasons : map bytesOf told ≡ told-bytes
+unfolding bytesOf decimal digitsIn
+reasons = refl

@@ -1,13 +1,21 @@
 // The lines that a program prints, and a line laid into a lent buffer. `lay` is an entry for callers outside and asks nothing; `lay_at`
-// asks for room. The bytes are those of R165 and of R167 to R174.
+// asks for room. The bytes are those of R165, of R167 to R174 and of R218.
 ghost use mathlib.Core.List.{[], _∷_};
 ghost use Prim.Native.Nat.{_+_, _≤_};
 ghost use lib.ListN.{length};
 ghost use Rattle.io.specs.Counts.{Counts};
 ghost use Rattle.digits.specs.Laid.{LaidAt};
-ghost use Rattle.lines.specs.Line.{spaced, bytesOf, lineRoom, Lays};
+ghost use Rattle.lines.specs.Line.{spaced, textOf, whyText, bytesOf, lineRoom, Lays};
 ghost use Rattle.lines.specs.Laid.{endOf};
-ghost use Rattle.lines.specs.declared.Line.the-variants.{In, Out};
+ghost use Rattle.lines.specs.declared.Line.the-variants.{In, Out, Silent};
+
+// Why a leaf is silent, in a word.
+pub enum Why {
+    Empty,
+    Waits,
+    Short,
+    Due,
+}
 
 // One line for each thing.
 pub enum Line {
@@ -27,6 +35,10 @@ pub enum Line {
     Stop(u64, u64),
     // class, request, what it gets, what stays unallotted
     Rate(u64, u64, u64, u64),
+    // class, why it is silent, the bytes that it lacks
+    Silent(u64, Why, u64),
+    // class, number: of this class no reason is told
+    NotTold(u64, u64),
 }
 
 // The room that a buffer must have for one more line; no line has more bytes.
@@ -121,6 +133,52 @@ pub fn lay_out(class: u64, len: u64, tag: u64, rounds: u64, at: usize, out: &mut
     put_last_four(class, len, tag, rounds, next, out)
 }
 
+// Lays a word and two numbers.
+fn lay_two(word: &[u8], a: u64, b: u64, at: usize, out: &mut [u8]) -> usize
+    requires { ⌜ (length (now word) ≤ 6) × (at + lineRoom ≤ length (now out)) ⌝ }
+    ensures { λ r. ⌜ LaidAt at (textOf (now (word .entry)) (a ∷ b ∷ [])) (now (out .entry)) r (now (out .exit)) ⌝ }
+    ensures { λ r. ⌜ r ≤ at + lineRoom ⌝ }
+{
+    let next = digits::put(word, at, out);
+    put_last_two(a, b, next, out)
+}
+
+// Lays a word and four numbers.
+fn lay_four(word: &[u8], a: u64, b: u64, c: u64, d: u64, at: usize, out: &mut [u8]) -> usize
+    requires { ⌜ (length (now word) ≤ 6) × (at + lineRoom ≤ length (now out)) ⌝ }
+    ensures { λ r. ⌜ LaidAt at (textOf (now (word .entry)) (a ∷ b ∷ c ∷ d ∷ [])) (now (out .entry)) r (now (out .exit)) ⌝ }
+    ensures { λ r. ⌜ r ≤ at + lineRoom ⌝ }
+{
+    let next = digits::put(word, at, out);
+    put_last_four(a, b, c, d, next, out)
+}
+
+// Lays one space and the word of a reason.
+fn put_why(why: Why, at: usize, out: &mut [u8]) -> usize
+    requires { ⌜ at + 6 ≤ length (now out) ⌝ }
+    ensures { λ r. ⌜ LaidAt at (whyText why) (now (out .entry)) r (now (out .exit)) ⌝ }
+    ensures { λ r. ⌜ r ≤ at + 6 ⌝ }
+{
+    match why {
+        Why::Empty => digits::put(b" empty", at, out),
+        Why::Waits => digits::put(b" waits", at, out),
+        Why::Short => digits::put(b" short", at, out),
+        Why::Due => digits::put(b" due", at, out),
+    }
+}
+
+// Lays the line of a leaf's reason.
+fn lay_silent(class: u64, why: Why, lacks: u64, at: usize, out: &mut [u8]) -> usize
+    requires { ⌜ at + lineRoom ≤ length (now out) ⌝ }
+    ensures { λ r. ⌜ LaidAt at (bytesOf (Silent class why lacks)) (now (out .entry)) r (now (out .exit)) ⌝ }
+    ensures { λ r. ⌜ r ≤ at + lineRoom ⌝ }
+{
+    let word = digits::put(b"silent", at, out);
+    let named = put_number(class, word, out);
+    let told = put_why(why, named, out);
+    put_last(lacks, told, out)
+}
+
 // Lays a line from a place on where the longest has room, and answers the place after it.
 pub fn lay_at(line: Line, at: usize, out: &mut [u8]) -> usize
     requires { ⌜ at + lineRoom ≤ length (now out) ⌝ }
@@ -128,29 +186,27 @@ pub fn lay_at(line: Line, at: usize, out: &mut [u8]) -> usize
     ensures { λ r. ⌜ r ≤ at + lineRoom ⌝ }
 {
     match line {
-        Line::Link(classes, size) => {
-            let next = digits::put(b"link", at, out);
-            put_last_two(classes, size, next, out)
-        }
+        Line::Link(classes, size) => lay_two(b"link", classes, size, at, out),
         Line::In(class, len, tag) => lay_in(class, len, tag, at, out),
-        Line::No(class, len, tag, number) => {
-            let next = digits::put(b"no", at, out);
-            put_last_four(class, len, tag, number, next, out)
-        }
+        Line::No(class, len, tag, number) => lay_four(b"no", class, len, tag, number, at, out),
         Line::Out(class, len, tag, rounds) => lay_out(class, len, tag, rounds, at, out),
         Line::Nothing => digits::put(b"none\n", at, out),
         Line::End(waiting) => {
             let next = digits::put(b"end", at, out);
             put_last(waiting, next, out)
         }
-        Line::Stop(number, place) => {
-            let next = digits::put(b"stop", at, out);
-            put_last_two(number, place, next, out)
-        }
-        Line::Rate(class, request, gets, unallotted) => {
-            let next = digits::put(b"rate", at, out);
-            put_last_four(class, request, gets, unallotted, next, out)
-        }
+        Line::Stop(number, place) => lay_two(b"stop", number, place, at, out),
+        Line::Rate(class, request, gets, unallotted) => lay_four(
+            b"rate",
+            class,
+            request,
+            gets,
+            unallotted,
+            at,
+            out,
+        ),
+        Line::Silent(class, why, lacks) => lay_silent(class, why, lacks, at, out),
+        Line::NotTold(class, number) => lay_two(b"no", class, number, at, out),
     }
 }
 

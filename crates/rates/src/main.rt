@@ -1,72 +1,31 @@
 // Which rates will a plan give (R174 to R184): the words are the capacity and CLASS=REQUEST, the plan comes from standard input, and
 // each class has a line. It reads, calls and prints; what a word means stands in `words`, the question and its answer in `asked`.
 // Run on tree P and compared.
-ghost use Prim.Native.Nat.{_≤_};
-ghost use lib.ListN.{length};
 use asked::Answer;
 use asked::Asked;
 use checks::MOST_INPUT;
-use libc::STDERR_FILENO;
 use libc::STDIN_FILENO;
 use tree::Tree;
 
 // The room for a word: Linux hands a program none that is longer, where its pages have 4,096 bytes.
 const LONGEST_WORD: usize = 131_072;
 
-// As much of a word as a message shows.
-const SHOWN: usize = 60;
-
-// A text of a message.
-fn say(text: &[u8]) {
-    io::write_all(STDERR_FILENO, text);
-}
-
-// A byte as a message shows it: one that would end the line as `?`.
-fn plain(byte: u8) -> u8 {
-    if byte < b' ' {
-        return b'?';
-    }
-    byte
-}
-
-// How much of a word a message shows.
-fn shown(word: &[u8]) -> usize
-    ensures { λ r. ⌜ (r ≤ 60) × (r ≤ length (now (word .entry))) ⌝ }
-{
-    let n = word.len();
-    if n < SHOWN {
-        return n;
-    }
-    SHOWN
-}
-
-// The start of a word.
-fn show(word: &[u8]) {
-    let mut text = [0u8; SHOWN];
-    let last = shown(word);
-    let mut n = 0;
-    while n < last {
-        text[n] = plain(word[n]);
-        n += 1;
-    }
-    say(&text[..n]);
-    if n < word.len() {
-        say(b"..");
-    }
-}
-
 // The message for a word that is not taken.
 fn refuse(i: usize, word: &[u8]) {
-    say(b"rates: word ");
-    io::print_decimal(STDERR_FILENO, i as u64);
-    say(b", `");
-    show(word);
     if i == 1 {
-        say(b"`: expected the capacity in kbit/s: one or more digits, below 2 to the power 64\n");
+        shown::refuse(
+            b"rates",
+            i,
+            word,
+            b"the capacity in kbit/s: one or more digits, below 2 to the power 64",
+        );
         return;
     }
-    say(
-        b"`: expected CLASS=REQUEST: digits, `=`, digits; the class at most 63, the request below 2 to the power 64\n",
+    shown::refuse(
+        b"rates",
+        i,
+        word,
+        b"CLASS=REQUEST: digits, `=`, digits; the class at most 63, the request below 2 to the power 64",
     );
 }
 
@@ -133,7 +92,7 @@ fn reply(asked: Asked) {
 
 fn main() {
     if os::arg_count() < 2 {
-        say(
+        shown::say(
             b"rates: no word: expected the capacity in kbit/s, then CLASS=REQUEST for each class that requests something else\n",
         );
         return;

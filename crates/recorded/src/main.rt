@@ -1,11 +1,14 @@
 // Recorded runs: inputs one after the other, each after its length plus 1 in three bytes; prints for each how many lines its run has and
-// a sum over their bytes. The expected sums are those of the second program's lines (bin/record writes both files). Serves demands 1 and 2.
+// a sum over their bytes. Where 128 is added to the first of the three, it does the same for the lines that say why each leaf is silent,
+// after the plan and after each event. The expected sums are those of the second program's lines (bin/record writes both files). Serves
+// demands 1 and 2.
 ghost use Prim.Native.Nat.{_<_};
 use libc::STDIN_FILENO;
 use lines::Line;
 use parts::PartRun;
 use shown::number;
 use shown::word;
+use state::Link;
 use tree::wide;
 
 // What was printed of a run so far: its lines, and a sum in which each byte counts by its place.
@@ -40,11 +43,16 @@ fn with_text(tally: Tally, text: &[u8]) -> Tally {
     Tally { lines, sum }
 }
 
-// The first line of a run.
-fn with_line(line: Line) -> Tally {
+// Nothing yet.
+fn none() -> Tally {
+    Tally { lines: 0, sum: 0 }
+}
+
+// A line more.
+fn with_line(tally: Tally, line: Line) -> Tally {
     let mut text = [0u8; 96];
     let n = lines::lay(line, &mut text);
-    with_text(Tally { lines: 0, sum: 0 }, &text[..n])
+    with_text(tally, &text[..n])
 }
 
 // The bytes of a part at most: few, so that a run has many parts.
@@ -55,7 +63,7 @@ fn whole(input: &[u8]) -> Tally {
     let step = run::first(input);
     let line = step.line;
     let link = step.link;
-    let mut tally = with_line(line);
+    let mut tally = with_line(none(), line);
     let mut part = PartRun {
         laid: 0,
         more: step.more,
@@ -71,26 +79,75 @@ fn whole(input: &[u8]) -> Tally {
     tally
 }
 
-// The line of a run.
-fn show(k: usize, tally: Tally) {
-    number(b"run ", k as u64);
+// Why each leaf of a link is silent.
+fn with_leaves(tally: Tally, link: Link) -> Tally {
+    let tree = link.tree;
+    let mut sofar = tally;
+    for class in 1..Link::CLASSES {
+        if sets::has(tree.leaves, class) {
+            sofar = with_line(sofar, desk::line(link, class));
+        }
+    }
+    sofar
+}
+
+// The last line of a run, where that is `stop`.
+fn with_stop(tally: Tally, line: Line) -> Tally {
+    match line {
+        Line::Stop(_, _) => with_line(tally, line),
+        _ => tally,
+    }
+}
+
+// Why each leaf is silent, after the plan and after each event.
+fn silences(input: &[u8]) -> Tally {
+    let mut tally = none();
+    let mut step = run::first(input);
+    while step.more {
+        tally = with_leaves(tally, step.link);
+        step = run::next(step.link, input, step.place);
+    }
+    let line = step.line;
+    with_stop(tally, line)
+}
+
+// How many lines, and the sum over them.
+fn show(tally: Tally) {
     number(b" lines ", tally.lines);
     number(b" sum ", tally.sum);
+}
+
+// The line of a run.
+fn show_run(k: usize, asked: bool, input: &[u8]) {
+    number(b"run ", k as u64);
+    show(whole(input));
+    if asked {
+        word(b" silent");
+        show(silences(input));
+    }
     word(b"\n");
 }
 
 // The most inputs.
 const RUNS: usize = 10_000;
 
-// The length of the next input plus 1, at most what is refused as too long; 0 where there is none.
-fn next_length() -> usize
-    ensures { λ r. ⌜ r < 65_539 ⌝ }
-{
+// What is added to a length where it is asked why leaves are silent.
+const ASKED: usize = 8_388_608;
+
+// The number before the next input; 0 where there is none.
+fn next_head() -> usize {
     let mut head = [0u8; 3];
     if io::read_full(STDIN_FILENO, &mut head) < 3 {
         return 0;
     }
-    let n = wide(head[0]) * 65_536 + wide(head[1]) * 256 + wide(head[2]);
+    wide(head[0]) * 65_536 + wide(head[1]) * 256 + wide(head[2])
+}
+
+// The length of the input after it plus 1, at most what is refused as too long.
+fn length_of(head: usize) -> usize
+    ensures { λ r. ⌜ r < 65_539 ⌝ }
+{
+    let n = head % ASKED;
     if checks::MOST_INPUT + 2 < n {
         return checks::MOST_INPUT + 2;
     }
@@ -98,25 +155,26 @@ fn next_length() -> usize
 }
 
 // Reads an input into a part of the buffer, and runs it.
-fn read_and_run(part: &mut [u8]) -> Tally {
+fn read_and_run(k: usize, asked: bool, part: &mut [u8]) {
     let n = io::read_full(STDIN_FILENO, part);
-    whole(&part[..n])
+    show_run(k, asked, &part[..n]);
 }
 
 // One run of an input of n bytes.
-fn one(k: usize, n: usize)
+fn one(k: usize, asked: bool, n: usize)
     requires { ⌜ n < 65_538 ⌝ }
 {
     let mut input = [0u8; checks::MOST_INPUT + 1];
-    show(k, read_and_run(&mut input[..n]));
+    read_and_run(k, asked, &mut input[..n]);
 }
 
 fn main() {
     for k in 0..RUNS {
-        let n = next_length();
+        let head = next_head();
+        let n = length_of(head);
         if n == 0 {
             return;
         }
-        one(k, n - 1);
+        one(k, ASKED <= head, n - 1);
     }
 }

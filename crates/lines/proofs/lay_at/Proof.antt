@@ -9,14 +9,11 @@ use Rattle.lines.proofs.lay_at.Tie as tie
 enum-known-line : tie.Need-enum-known-line
 enum-known-line c = search needs
 
-slice-aggregate-put : tie.Need-slice-aggregate-put
-slice-aggregate-put c = search needs
+slice-aggregate-lay-two : tie.Need-slice-aggregate-lay-two
+slice-aggregate-lay-two c = search needs
 
-put-requires : tie.Need-put-requires
-put-requires c κs = search needs
-
-put-last-two-requires : tie.Need-put-last-two-requires
-put-last-two-requires c κs = search needs
+lay-two-requires : tie.Need-lay-two-requires
+lay-two-requires c κs = search needs
 
 enum-known-line-2 : tie.Need-enum-known-line-2
 enum-known-line-2 c = search needs
@@ -27,14 +24,11 @@ lay-in-requires c κs = search needs
 enum-known-line-3 : tie.Need-enum-known-line-3
 enum-known-line-3 c = search needs
 
-slice-aggregate-put-2 : tie.Need-slice-aggregate-put-2
-slice-aggregate-put-2 c = search needs
+slice-aggregate-lay-four : tie.Need-slice-aggregate-lay-four
+slice-aggregate-lay-four c = search needs
 
-put-requires-2 : tie.Need-put-requires-2
-put-requires-2 c κs = search needs
-
-put-last-four-requires : tie.Need-put-last-four-requires
-put-last-four-requires c κs = search needs
+lay-four-requires : tie.Need-lay-four-requires
+lay-four-requires c κs = search needs
 
 enum-known-line-4 : tie.Need-enum-known-line-4
 enum-known-line-4 c = search needs
@@ -45,20 +39,20 @@ lay-out-requires c κs = search needs
 enum-told : tie.Need-enum-told
 enum-told c = search needs
 
-slice-aggregate-put-3 : tie.Need-slice-aggregate-put-3
-slice-aggregate-put-3 c = search needs
+slice-aggregate-put : tie.Need-slice-aggregate-put
+slice-aggregate-put c = search needs
 
-put-requires-3 : tie.Need-put-requires-3
-put-requires-3 c κs = search needs
+put-requires : tie.Need-put-requires
+put-requires c κs = search needs
 
 enum-known-line-5 : tie.Need-enum-known-line-5
 enum-known-line-5 c = search needs
 
-slice-aggregate-put-4 : tie.Need-slice-aggregate-put-4
-slice-aggregate-put-4 c = search needs
+slice-aggregate-put-2 : tie.Need-slice-aggregate-put-2
+slice-aggregate-put-2 c = search needs
 
-put-requires-4 : tie.Need-put-requires-4
-put-requires-4 c κs = search needs
+put-requires-2 : tie.Need-put-requires-2
+put-requires-2 c κs = search needs
 
 put-last-requires : tie.Need-put-last-requires
 put-last-requires c κs = search needs
@@ -66,26 +60,35 @@ put-last-requires c κs = search needs
 enum-known-line-6 : tie.Need-enum-known-line-6
 enum-known-line-6 c = search needs
 
-slice-aggregate-put-5 : tie.Need-slice-aggregate-put-5
-slice-aggregate-put-5 c = search needs
+slice-aggregate-lay-two-2 : tie.Need-slice-aggregate-lay-two-2
+slice-aggregate-lay-two-2 c = search needs
 
-put-requires-5 : tie.Need-put-requires-5
-put-requires-5 c κs = search needs
-
-put-last-two-requires-2 : tie.Need-put-last-two-requires-2
-put-last-two-requires-2 c κs = search needs
+lay-two-requires-2 : tie.Need-lay-two-requires-2
+lay-two-requires-2 c κs = search needs
 
 enum-known-line-7 : tie.Need-enum-known-line-7
 enum-known-line-7 c = search needs
 
-slice-aggregate-put-6 : tie.Need-slice-aggregate-put-6
-slice-aggregate-put-6 c = search needs
+slice-aggregate-lay-four-2 : tie.Need-slice-aggregate-lay-four-2
+slice-aggregate-lay-four-2 c = search needs
 
-put-requires-6 : tie.Need-put-requires-6
-put-requires-6 c κs = search needs
+lay-four-requires-2 : tie.Need-lay-four-requires-2
+lay-four-requires-2 c κs = search needs
 
-put-last-four-requires-2 : tie.Need-put-last-four-requires-2
-put-last-four-requires-2 c κs = search needs
+enum-known-line-8 : tie.Need-enum-known-line-8
+enum-known-line-8 c = search needs
+
+lay-silent-requires : tie.Need-lay-silent-requires
+lay-silent-requires c κs = search needs
+
+enum-known-line-9 : tie.Need-enum-known-line-9
+enum-known-line-9 c = search needs
+
+slice-aggregate-lay-two-3 : tie.Need-slice-aggregate-lay-two-3
+slice-aggregate-lay-two-3 c = search needs
+
+lay-two-requires-3 : tie.Need-lay-two-requires-3
+lay-two-requires-3 c κs = search needs
 
 same-length : tie.Need-same-length
 same-length c = search needs
@@ -94,10 +97,8 @@ returns : tie.Need-returns
 unfolding bytesOf
 returns c =
     let l = c .before .before in
-    let w = l .before .before .before .before in
-    let k = w .before .before .before .before in
-    let laid = laid-end _ _ _ _ _ _ _ _ (omega arith) (w .put .ensures) (l .put-last-two .ensures .0) in
-    (line-at _ _ _ _ _ _ (k .line .given .1) laid, omega (arith, w .put .ensures .0, l .put-last-two .ensures .1))
+    let k = l .before .before .before .before in
+    (line-at _ _ _ _ _ _ (k .line .given .1) (l .lay-two .ensures .0), l .lay-two .ensures .1)
 
 same-length-2 : tie.Need-same-length-2
 same-length-2 c = search needs
@@ -114,10 +115,8 @@ returns-3 : tie.Need-returns-3
 unfolding bytesOf
 returns-3 c =
     let l = c .before .before in
-    let w = l .before .before .before .before in
-    let k = w .before .before .before .before in
-    let laid = laid-end _ _ _ _ _ _ _ _ (omega arith) (w .put2 .ensures) (l .put-last-four .ensures .0) in
-    (line-at _ _ _ _ _ _ (k .line3 .given .1) laid, omega (arith, w .put2 .ensures .0, l .put-last-four .ensures .1))
+    let k = l .before .before .before .before in
+    (line-at _ _ _ _ _ _ (k .line3 .given .1) (l .lay-four .ensures .0), l .lay-four .ensures .1)
 
 same-length-4 : tie.Need-same-length-4
 same-length-4 c = search needs
@@ -134,7 +133,7 @@ returns-5 : tie.Need-returns-5
 unfolding bytesOf
 returns-5 c =
     let p = c .before .before in
-    (line-at _ _ _ _ _ _ (p .before .before .before .enum-told .given .1) (p .put3 .ensures), omega (arith, p .put3 .ensures .0))
+    (line-at _ _ _ _ _ _ (p .before .before .before .enum-told .given .1) (p .put .ensures), omega (arith, p .put .ensures .0))
 
 same-length-6 : tie.Need-same-length-6
 same-length-6 c = search needs
@@ -145,8 +144,8 @@ returns-6 c =
     let l = c .before .before in
     let w = l .before .before .before .before in
     let k = w .before .before .before .before in
-    let laid = laid-end _ _ _ _ _ _ _ _ (omega arith) (w .put4 .ensures) (l .put-last .ensures .0) in
-    (line-at _ _ _ _ _ _ (k .line5 .given .1) laid, omega (arith, w .put4 .ensures .0, l .put-last .ensures .1))
+    let laid = laid-end _ _ _ _ _ _ _ _ (omega arith) (w .put2 .ensures) (l .put-last .ensures .0) in
+    (line-at _ _ _ _ _ _ (k .line5 .given .1) laid, omega (arith, w .put2 .ensures .0, l .put-last .ensures .1))
 
 same-length-7 : tie.Need-same-length-7
 same-length-7 c = search needs
@@ -155,10 +154,8 @@ returns-7 : tie.Need-returns-7
 unfolding bytesOf
 returns-7 c =
     let l = c .before .before in
-    let w = l .before .before .before .before in
-    let k = w .before .before .before .before in
-    let laid = laid-end _ _ _ _ _ _ _ _ (omega arith) (w .put5 .ensures) (l .put-last-two2 .ensures .0) in
-    (line-at _ _ _ _ _ _ (k .line6 .given .1) laid, omega (arith, w .put5 .ensures .0, l .put-last-two2 .ensures .1))
+    let k = l .before .before .before .before in
+    (line-at _ _ _ _ _ _ (k .line6 .given .1) (l .lay-two2 .ensures .0), l .lay-two2 .ensures .1)
 
 same-length-8 : tie.Need-same-length-8
 same-length-8 c = search needs
@@ -167,42 +164,59 @@ returns-8 : tie.Need-returns-8
 unfolding bytesOf
 returns-8 c =
     let l = c .before .before in
-    let w = l .before .before .before .before in
-    let k = w .before .before .before .before in
-    let laid = laid-end _ _ _ _ _ _ _ _ (omega arith) (w .put6 .ensures) (l .put-last-four2 .ensures .0) in
-    (line-at _ _ _ _ _ _ (k .line7 .given .1) laid, omega (arith, w .put6 .ensures .0, l .put-last-four2 .ensures .1))
+    let k = l .before .before .before .before in
+    (line-at _ _ _ _ _ _ (k .line7 .given .1) (l .lay-four2 .ensures .0), l .lay-four2 .ensures .1)
+
+same-length-9 : tie.Need-same-length-9
+same-length-9 c = search needs
+
+returns-9 : tie.Need-returns-9
+returns-9 c =
+    let l = c .before .before in
+    (line-at _ _ _ _ _ _ (l .before .before .before .line8 .given .1) (l .lay-silent .ensures .0), l .lay-silent .ensures .1)
+
+same-length-10 : tie.Need-same-length-10
+same-length-10 c = search needs
+
+returns-10 : tie.Need-returns-10
+unfolding bytesOf
+returns-10 c =
+    let l = c .before .before in
+    let k = l .before .before .before .before in
+    (line-at _ _ _ _ _ _ (k .line9 .given .1) (l .lay-two3 .ensures .0), l .lay-two3 .ensures .1)
 
 pub lay-at-spec : {M : Type 1} → statement M
 lay-at-spec =
     tie.close
     (tie.spec
     enum-known-line
-    slice-aggregate-put
-    put-requires
-    put-last-two-requires
+    slice-aggregate-lay-two
+    lay-two-requires
     enum-known-line-2
     lay-in-requires
     enum-known-line-3
-    slice-aggregate-put-2
-    put-requires-2
-    put-last-four-requires
+    slice-aggregate-lay-four
+    lay-four-requires
     enum-known-line-4
     lay-out-requires
     enum-told
-    slice-aggregate-put-3
-    put-requires-3
+    slice-aggregate-put
+    put-requires
     enum-known-line-5
-    slice-aggregate-put-4
-    put-requires-4
+    slice-aggregate-put-2
+    put-requires-2
     put-last-requires
     enum-known-line-6
-    slice-aggregate-put-5
-    put-requires-5
-    put-last-two-requires-2
+    slice-aggregate-lay-two-2
+    lay-two-requires-2
     enum-known-line-7
-    slice-aggregate-put-6
-    put-requires-6
-    put-last-four-requires-2
+    slice-aggregate-lay-four-2
+    lay-four-requires-2
+    enum-known-line-8
+    lay-silent-requires
+    enum-known-line-9
+    slice-aggregate-lay-two-3
+    lay-two-requires-3
     same-length
     returns
     same-length-2
@@ -218,4 +232,8 @@ lay-at-spec =
     same-length-7
     returns-7
     same-length-8
-    returns-8)
+    returns-8
+    same-length-9
+    returns-9
+    same-length-10
+    returns-10)

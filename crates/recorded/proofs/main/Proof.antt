@@ -13,8 +13,11 @@ abbrev μ-loop : tie.MeasureT-loop
 loop-holds : tie.Need-loop-holds Inv-loop μ-loop
 loop-holds c = tt
 
-next-length-requires : tie.Need-next-length-requires Inv-loop μ-loop
-next-length-requires c κs = search needs
+next-head-requires : tie.Need-next-head-requires Inv-loop μ-loop
+next-head-requires c κs = search needs
+
+length-of-requires : tie.Need-length-of-requires Inv-loop μ-loop
+length-of-requires c κs = search needs
 
 returns : tie.Need-returns Inv-loop μ-loop
 returns c = tt
@@ -44,7 +47,8 @@ main-spec =
     Inv-loop
     μ-loop
     loop-holds
-    next-length-requires
+    next-head-requires
+    length-of-requires
     returns
     sub-one
     one-requires

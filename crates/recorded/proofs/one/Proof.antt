@@ -14,9 +14,6 @@ slice-aggregate-read-and-run c = sym (length-take-le _ _ (array-borrow-prefix-in
 read-and-run-requires : tie.Need-read-and-run-requires
 read-and-run-requires c κs = search needs
 
-show-requires : tie.Need-show-requires
-show-requires c κs = search needs
-
 returns : tie.Need-returns
 returns c = search needs
 
@@ -27,5 +24,4 @@ one-spec =
     array-borrow-prefix-input
     slice-aggregate-read-and-run
     read-and-run-requires
-    show-requires
     returns)

@@ -19,6 +19,9 @@ abbrev μ-loop : tie.MeasureT-loop
 first-requires : tie.Need-first-requires Inv-loop μ-loop
 first-requires c κs = search needs
 
+none-requires : tie.Need-none-requires Inv-loop μ-loop
+none-requires c κs = search needs
+
 with-line-requires : tie.Need-with-line-requires Inv-loop μ-loop
 with-line-requires c κs = search needs
 
@@ -44,7 +47,7 @@ loop-less : tie.Need-loop-less Inv-loop μ-loop
 loop-less c =
     let d = c .before .before .before in
     let h = d .before .before .before in
-    let input = now (h .before .before .before .before .before .args .input) in
+    let input = now (h .before .before .before .before .before .before .args .input) in
     let part = h .loop .part in
     let r = d .part .result in
     steps-less input (r .more) (r .place) (part .more) (part .place) (d .before .before .loop-test .taken)
@@ -63,6 +66,7 @@ whole-spec =
     Inv-loop
     μ-loop
     first-requires
+    none-requires
     with-line-requires
     loop-holds
     slice-aggregate-part
