@@ -352,6 +352,7 @@ pub fn tables(input: &[u8], from: usize, table: usize) -> Vec<String> {
 /// The events of a run from `from` to `to`, counted from 1, each worked step by step; arrivals in a row stand together.
 pub fn worked(tree: &Tree, events: &[Event], from: usize, to: usize, table: usize) -> Vec<String> {
     let (mut link, _) = fresh_link(tree);
+    let mut siblings = siblings::Siblings::of(tree);
     let mut page = Page { lines: Vec::new(), table, rows: Vec::new() };
     let (mut lines, mut held, mut sends) = (Vec::new(), Vec::new(), 0);
     for (position, event) in events.iter().enumerate().take(to) {
@@ -380,7 +381,7 @@ pub fn worked(tree: &Tree, events: &[Event], from: usize, to: usize, table: usiz
             }
             Event::Send => {
                 sends += 1;
-                let line = match send(&mut link) {
+                let line = match siblings.send(&mut link) {
                     Ok(sent) => format!("out {} {} {} {}", sent.class, sent.length, sent.tag, sent.rounds),
                     Err(_) => "none".to_string(),
                 };
@@ -406,6 +407,7 @@ struct Waiting {
 pub fn waits(input: &[u8], from: usize) -> Vec<String> {
     let (tree, events) = parts_of(input);
     let (mut link, _) = fresh_link(&tree);
+    let mut siblings = siblings::Siblings::of(&tree);
     let (mut waiting, mut rows): (Vec<Waiting>, Vec<String>) = (Vec::new(), Vec::new());
     for (position, event) in events.iter().enumerate() {
         match *event {
@@ -420,7 +422,7 @@ pub fn waits(input: &[u8], from: usize) -> Vec<String> {
                 }
             }
             Event::Send => {
-                let Ok(sent) = send(&mut link) else { continue };
+                let Ok(sent) = siblings.send(&mut link) else { continue };
                 waiting.iter_mut().for_each(|w| w.since.push(charge(sent.length)));
                 if let Some(gone) = waiting.iter().position(|w| w.tag == sent.tag) {
                     let gone = waiting.remove(gone);

@@ -127,6 +127,7 @@ fn in_columns(rows: Vec<Vec<String>>, gap: usize) -> Vec<String> {
 /// The link after so many events, and the line of the last of them.
 fn link_after(tree: &Tree, events: &[Event]) -> (Link, String) {
     let (mut link, _) = fresh_link(tree);
+    let mut siblings = siblings::Siblings::of(tree);
     let mut line = format!("link {} {}", tree.count(), link.size);
     for event in events {
         line = match *event {
@@ -134,7 +135,7 @@ fn link_after(tree: &Tree, events: &[Event]) -> (Link, String) {
                 Ok(()) => format!("in {class} {length} {tag}"),
                 Err(refusal) => format!("no {class} {length} {tag} {}", refusal.number),
             },
-            Event::Send => match send(&mut link) {
+            Event::Send => match siblings.send(&mut link) {
                 Ok(sent) => format!("out {} {} {} {}", sent.class, sent.length, sent.tag, sent.rounds),
                 Err(_) => "none".to_string(),
             },

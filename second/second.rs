@@ -2,8 +2,8 @@
 //! in sentences of its own (R4 to R67, R86 to R173, R185 to R195, R200 to R202).
 //! It reads a plan and events from standard input and prints the lines of "A whole run"; with the word `long` from input of any length.
 //! It is slow and plain on purpose: every sum is scanned again, every call is followed by a full check.
-//! With words it prints a run worked step by step, for docs/by-hand.md (see by_hand.rs) and for the desk's own runs (see desk.rs), or why
-//! leaves are silent (see silent.rs).
+//! With words it prints a run worked step by step, for docs/by-hand.md (see by_hand.rs) and for the desk's own runs (see desk.rs), why
+//! leaves are silent (see silent.rs), or how far apart two siblings are (see siblings.rs).
 //! Build: rustc -O --edition 2021 second.rs; test: rustc -O --edition 2021 --test second.rs -o second_test
 
 #[path = "by_hand.rs"]
@@ -12,6 +12,11 @@ mod by_hand;
 mod desk;
 #[path = "plan.rs"]
 mod plan;
+#[cfg(test)]
+#[path = "random_plans.rs"]
+mod random_plans;
+#[path = "siblings.rs"]
+mod siblings;
 #[path = "silent.rs"]
 mod silent;
 
@@ -69,6 +74,15 @@ struct Sent {
     rounds: usize,
     /// Which of the opened rounds were surplus rounds, in order (for the tests and the counts).
     surplus: Vec<bool>,
+    /// Each moment at which a round has closed (for two siblings, side by side).
+    closings: Vec<Closing>,
+}
+
+/// "the round has closed at that moment, and a new one is opened in the same call": all balances then, and the quotas of the new one.
+#[derive(Clone, PartialEq, Eq, Debug)]
+struct Closing {
+    balances: Vec<u64>,
+    quotas: Vec<u64>,
 }
 
 /// What an opening did, kept so that the tests can see the quotas.
@@ -285,18 +299,20 @@ fn send(link: &mut Link) -> Result<Sent, Refusal> {
     if link.waiting() == 0 {
         return refuse(15, 0);
     }
-    let mut surplus = Vec::new();
+    let (mut surplus, mut closings) = (Vec::new(), Vec::new());
     loop {
         if let Some(leaf) = search(link) {
             let packet = send_first(link, leaf);
             link.assert_sound("a send");
-            return Ok(Sent { class: leaf, length: packet.length, tag: packet.tag, rounds: surplus.len(), surplus });
+            return Ok(Sent { class: leaf, length: packet.length, tag: packet.tag, rounds: surplus.len(), surplus, closings });
         }
         // "a main round always sends", so no other round is opened after one in the same call.
         assert!(surplus.last() != Some(&false), "a main round sent nothing");
+        let balances = link.accounts.iter().map(|account| account.balance).collect();
         let opening = open_round(link);
         link.assert_sound("an opening");
         surplus.push(opening.surplus);
+        closings.push(Closing { balances, quotas: opening.quotas });
         // "That number is at most 2: a surplus round that sends nothing is followed by a main round"
         assert!(surplus.len() <= 2, "more than 2 rounds opened in one send");
         assert!(surplus != [true, true], "a surplus round that sent nothing is followed by another");
@@ -500,6 +516,7 @@ struct Run {
     /// All bytes charged so far, and each class's waiting packets in order, for the bounded wait.
     sent: u64,
     watched: std::collections::BTreeMap<usize, std::collections::VecDeque<Watched>>,
+    siblings: siblings::Siblings,
 }
 
 impl Run {
@@ -537,7 +554,7 @@ impl Run {
     fn send(&mut self, link: &mut Link) {
         self.counts.events += 1;
         let in_force = link.in_force;
-        match send(link) {
+        match self.siblings.send(link) {
             Ok(sent) => {
                 self.counts.size_changes += u64::from(link.in_force != in_force);
                 self.count_rounds(&sent);
@@ -605,6 +622,14 @@ impl Run {
         words.push(format!("max_classes={}", counts.classes));
         words.push(format!("rule={}", counts.rule));
         words.push(format!("size_changes={}", counts.size_changes));
+        words.push(format!("sibling_pairs={}", self.siblings.compared()));
+        words.push(format!("sibling_checks={}", self.siblings.checks));
+        words.push(format!("sibling_exact={}", self.siblings.exact));
+        words.push(format!("max_sibling_thousandths={}", self.siblings.thousandths));
+        for rule in [WHOLE_TREE, ACTIVE_CLASSES] {
+            let nearest = if counts.rule == rule { self.siblings.thousandths } else { 0 };
+            words.push(format!("max_sibling_thousandths_rule_{rule}={nearest}"));
+        }
         words.push(format!("max_wait_thousandths={}", counts.wait_thousandths));
         for rule in [WHOLE_TREE, ACTIVE_CLASSES] {
             let nearest = if counts.rule == rule { counts.wait_thousandths } else { 0 };
@@ -644,6 +669,7 @@ fn run_of_any_length(input: &[u8]) -> Run {
     run.counts.depth = tree.depth();
     run.counts.classes = tree.count();
     run.counts.rule = tree.rule;
+    run.siblings = siblings::Siblings::of(&tree);
     // "`link` prints the whole-tree size."
     run.lines.push(format!("link {} {}", tree.count(), link.size));
     run_events(run, &mut link, input, used)
@@ -671,34 +697,53 @@ fn run_events(mut run: Run, link: &mut Link, input: &[u8], used: usize) -> Run {
     run
 }
 
-/// Prints the lines; with SECOND_STATS set the counts go to standard error.
-fn print(run: &Run) -> std::io::Result<()> {
-    let text = run.lines.join("\n") + "\n";
-    let mut standard_output = std::io::stdout();
-    standard_output.write_all(text.as_bytes())?;
-    standard_output.flush()?;
-    if std::env::var_os("SECOND_STATS").is_some() {
-        eprintln!("{}", run.counts_line());
+/// What goes to standard output, and a line for standard error.
+struct Output {
+    bytes: Vec<u8>,
+    said: Option<String>,
+}
+
+impl Output {
+    /// Each line with its end.
+    fn of_lines(lines: &[String]) -> Output {
+        Output { bytes: (lines.join("\n") + "\n").into_bytes(), said: None }
     }
-    Ok(())
+
+    fn print(&self) -> std::io::Result<()> {
+        let mut standard_output = std::io::stdout();
+        standard_output.write_all(&self.bytes)?;
+        standard_output.flush()?;
+        if let Some(line) = &self.said {
+            eprintln!("{line}");
+        }
+        Ok(())
+    }
+}
+
+/// The lines of a run; with SECOND_STATS set the counts go to standard error.
+fn output_of(run: &Run) -> Output {
+    let said = std::env::var_os("SECOND_STATS").map(|_| run.counts_line());
+    Output { said, ..Output::of_lines(&run.lines) }
 }
 
 /// What the words may be.
-const USE: &str = "tables FROM TABLE, waits FROM, worked FROM TO, state EVENT, silent [CLASS ..] or silent-each";
+const USE: &str = "tables FROM TABLE, waits FROM, worked FROM TO, state EVENT, silent [CLASS ..], silent-each or siblings I J";
 
-/// The lines of a run worked by hand, or of why leaves are silent.
-fn worked(words: &[String], input: &[u8]) -> Vec<String> {
+/// A run worked by hand, why leaves are silent, two siblings.
+fn worked(words: &[String], input: &[u8]) -> Output {
     if words[0] == "worked" || words[0] == "state" {
-        return desk::answer(words, input);
+        return Output::of_lines(&desk::answer(words, input));
     }
     let numbers: Vec<usize> = words[1..].iter().map(|word| word.parse().expect(USE)).collect();
-    match (words[0].as_str(), &numbers[..]) {
+    let lines = match (words[0].as_str(), &numbers[..]) {
         ("tables", &[from, table]) => by_hand::tables(input, from, table),
         ("waits", &[from]) => by_hand::waits(input, from),
         ("silent", classes) => silent::silent(input, classes),
         ("silent-each", []) => silent::silent_each(input),
+        ("siblings", &[i, j]) => return siblings::program(input, i, j),
         _ => panic!("{USE}"),
-    }
+    };
+    Output::of_lines(&lines)
 }
 
 /// Reads, runs, prints; input or output that fails ends with 1, a failed assertion (its message is on standard error) with 2.
@@ -706,14 +751,14 @@ fn main() {
     let words: Vec<String> = std::env::args().skip(1).collect();
     let any_length = matches!(words.first().map(String::as_str), Some("long" | "worked" | "state"));
     let Ok(input) = (if any_length { read_all() } else { read_input() }) else { std::process::exit(1) };
-    let Ok(run) = std::panic::catch_unwind(|| match words.first().map(String::as_str) {
-        None => run(&input),
-        Some("long") => run_of_any_length(&input),
-        Some(_) => Run { lines: worked(&words, &input), ..Run::default() },
+    let Ok(output) = std::panic::catch_unwind(|| match words.first().map(String::as_str) {
+        None => output_of(&run(&input)),
+        Some("long") => output_of(&run_of_any_length(&input)),
+        Some(_) => worked(&words, &input),
     }) else {
         std::process::exit(2)
     };
-    if print(&run).is_err() {
+    if output.print().is_err() {
         std::process::exit(1);
     }
 }

@@ -136,9 +136,9 @@ fn lines_of_leaves(link: &Link) -> Vec<String> {
 
 /// One send, and what the reasons before it foretold: without a new round only a leaf whose visit was under way or still to come sends, and
 /// a new round opens only when no such leaf has what its first packet costs.
-fn send_as_foretold(link: &mut Link) {
+fn send_as_foretold(link: &mut Link, siblings: &mut siblings::Siblings) {
     let before = link.clone();
-    let Ok(sent) = send(link) else {
+    let Ok(sent) = siblings.send(link) else {
         assert!(leaves(&before).into_iter().all(|leaf| only_reason(&before, leaf) == Reason::Empty), "a packet waits, and none is sent");
         return;
     };
@@ -159,6 +159,7 @@ fn each_state(input: &[u8], show: &mut dyn FnMut(&Link)) -> Result<Link, Refusal
     let (mut link, refused) = fresh_link(&tree);
     assert!(refused.is_none(), "a plan that was read gives no fresh link");
     link.assert_sound("the fresh link");
+    let mut siblings = siblings::Siblings::of(&tree);
     let mut first = used;
     loop {
         show(&link);
@@ -169,7 +170,7 @@ fn each_state(input: &[u8], show: &mut dyn FnMut(&Link)) -> Result<Link, Refusal
                 first += 8;
             }
             Some(Event::Send) => {
-                send_as_foretold(&mut link);
+                send_as_foretold(&mut link, &mut siblings);
                 first += 1;
             }
             None => return Ok(link),
@@ -250,6 +251,23 @@ mod tests {
         let first_send = &listing[..31 + 4 * 8 + 1];
         let named = ["silent 4 empty 0", "no 1 12", "silent 2 short 47", "silent 4 empty 0", "no 0 12", "no 5 12", "no 64 12", "no 256 12"];
         assert_eq!(silent(first_send, &[4, 1, 2, 4, 0, 5, 64, 256]), named);
+    }
+
+    #[test]
+    fn the_listing_under_rule_2() {
+        // The second send's round gives leaf 2 58 in all, so that it lacks 26, and leaf 3 has 116 and sends: its visit is under way with 32.
+        // The third send's round gives leaf 2 what it needs; leaf 3 is still to come with 88.
+        let input = [&[3, 2][..], include_bytes!("tree_p.bin")].concat();
+        let states = [
+            ["short 47", "short 10", "empty 0"],
+            ["short 26", "due 0", "empty 0"],
+            ["empty 0", "due 0", "empty 0"],
+            ["empty 0", "empty 0", "empty 0"],
+            ["empty 0", "empty 0", "empty 0"],
+        ];
+        let by_hand: Vec<String> =
+            states.iter().flat_map(|state| (2..).zip(state).map(|(leaf, reason)| format!("silent {leaf} {reason}"))).collect();
+        assert_eq!(silent_each(&input)[5 * 3..], by_hand);
     }
 
     #[test]

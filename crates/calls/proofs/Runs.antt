@@ -23,7 +23,7 @@ use Rattle.calls.specs.declared.AfterSend.{AfterSend}
 use Rattle.calls.specs.Arrival.{arrivalChecks, arrived, arrivalOf, Arrives}
 use Rattle.calls.specs.Send.{sendChecks, departs, sendGives, sendOf, Sends}
 use Rattle.calls.specs.Run.{Call, arrival, send, Made, made, callOf, linkLeft, makes, turnsBy, turnsIn}
-use Rattle.calls.specs.Run.{Moment, closed, called, runOf, madeIn, lastLink, Meets, Run}
+use Rattle.calls.specs.Run.{Moment, closed, called, runOf, madeIn, lastLink, Meets, Run, momentsOf}
 use Rattle.calls.proofs.Arrivals.{taken, taken-number, arrival-taken, arrival-refused, arrival-means, arrival-shaped}
 use Rattle.calls.proofs.Arrivals.{arrives-as, arrives-by}
 use Rattle.calls.proofs.Departures.{send-goes, send-shaped, send-means, sends-as, sends-by}
@@ -106,6 +106,16 @@ run-is (m ∷ ms) l sound run =
     (run-is ms (linkLeft m) (meets-keeps l m sound (run .0)) (run .1)
     ∙ ap (λ (x : Made). madeIn (runOf true (linkLeft x) (map callOf ms))) same)
     ∙ sym (made-next true l (callOf m) (map callOf ms))
+
+-- and moment for moment (R249)
+pub moments-are : (ms : List Made) (l : Link) → SoundLink l → Run l ms → momentsOf l ms ≡ runOf true l (map callOf ms)
+unfolding Run momentsOf runOf
+moments-are [] l sound run = refl
+moments-are (m ∷ ms) l sound run =
+    let same = meets-by l m true (exactly-yes sound) (run .0) in
+    ap₂ (λ (x : Made) (later : List Moment). map closed (turnsIn l x) ++ (called x ∷ later)) same
+    (moments-are ms (linkLeft m) (meets-keeps l m sound (run .0)) (run .1)
+    ∙ ap (λ (x : Made). runOf true (linkLeft x) (map callOf ms)) same)
 
 -- and after any of its calls the link is sound
 pub run-sound : (n : ℕ) (ms : List Made) (l : Link) → SoundLink l → Run l ms → SoundLink (lastLink l (take n ms))

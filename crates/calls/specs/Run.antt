@@ -97,3 +97,9 @@ Meets l (made send answer after) = Sends l (sendLeaves answer after)
 unfoldable pub Run : Link → List Made → Type 0
 Run l [] = Unit {0}
 Run l (m ∷ ms) = Meets l m × Run (linkLeft m) ms
+
+-- the moments of calls that were made from a link: the rounds that closed in a send come before its answer. From a sound link those of a
+-- run are those of `runOf` (`moments-are`, proofs/Runs) (R249)
+unfoldable pub momentsOf : Link → List Made → List Moment
+momentsOf l [] = []
+momentsOf l (m ∷ ms) = map closed (turnsIn l m) ++ (called m ∷ momentsOf (linkLeft m) ms)

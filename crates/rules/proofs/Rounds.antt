@@ -115,6 +115,11 @@ pub sends-closed : (n : ℕ) (turns : List Turn) (s : State) → nextLeaf s ≡ 
 unfolding sends
 sends-closed n turns s h = rw (le-ltb (nextLeaf s) 64 (omega (arith, h)), sends)
 
+-- rounds that close and open one after the other, from a state to a state
+unfoldable pub Rounds : State → List Turn → State → Type 0
+Rounds s [] after = s ≡ after
+Rounds s (turn ∷ turns) after = (nextLeaf s ≡ 64) × (turn ≡ turnOf s) × Rounds (opened s) turns after
+
 -- a send goes: it opens at most two rounds, however many it might open, and then a leaf sends
 pub record Goes (s : State) : Type 0 where
   pub after : State
@@ -125,6 +130,7 @@ pub record Goes (s : State) : Type 0 where
   pub queues : after .queues ≡ s .queues
   pub leaf : nextLeaf after < 64
   pub few : length more ≤ 2
+  pub rounds : Rounds s more after
   pub gives : (n : ℕ) (turns : List Turn)
       → sends (suc (suc n)) turns s
       ≡ record {
@@ -142,6 +148,7 @@ gone s turns = record { turns = turns; class = nextLeaf s; packet = firstOf s (n
 module _ (s : State) (sound : Sound s) (wide : Wide s) where
   -- no round opened
   none-opened : nextLeaf s < 64 → Goes s
+  unfolding Rounds
   none-opened found = record {
     after = s;
     more = [];
@@ -151,11 +158,13 @@ module _ (s : State) (sound : Sound s) (wide : Wide s) where
     queues = refl;
     leaf = found;
     few = omega arith;
+    rounds = refl;
     gives = λ n turns. sends-now (suc (suc n)) turns s found ∙ ap (gone s) (sym (append-nil turns));
   }
 
   -- one
   one-opened : nextLeaf s ≡ 64 → nextLeaf (opened s) < 64 → Goes s
+  unfolding Rounds
   one-opened closed found = record {
     after = opened s;
     more = turnOf s ∷ [];
@@ -165,11 +174,13 @@ module _ (s : State) (sound : Sound s) (wide : Wide s) where
     queues = opened-queues (nextSize s) s;
     leaf = found;
     few = omega arith;
+    rounds = (closed, refl, refl);
     gives = λ n turns. sends-closed (suc n) turns s closed ∙ sends-now (suc n) (turns ++ (turnOf s ∷ [])) (opened s) found;
   }
 
   -- two
   two-opened : nextLeaf s ≡ 64 → nextLeaf (opened s) ≡ 64 → nextLeaf (opened (opened s)) < 64 → Goes s
+  unfolding Rounds
   two-opened closed again found = record {
     after = opened (opened s);
     more = turnOf s ∷ turnOf (opened s) ∷ [];
@@ -179,6 +190,7 @@ module _ (s : State) (sound : Sound s) (wide : Wide s) where
     queues = opened-queues (nextSize (opened s)) (opened s) ∙ opened-queues (nextSize s) s;
     leaf = found;
     few = omega arith;
+    rounds = (closed, refl, (again, refl, refl));
     gives = λ n turns.
         sends-closed (suc n) turns s closed
         ∙ sends-closed n (turns ++ (turnOf s ∷ [])) (opened s) again

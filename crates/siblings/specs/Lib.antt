@@ -1,0 +1,2 @@
+-- What the drift of two siblings is stated with.
+pub mod Siblings
