@@ -19,7 +19,7 @@ SECOND = "target/second/plan_cases"
 MOST_BYTES = 131072
 
 # The packed commands by their numbers, which are their first bytes.
-REMARK, PLAN, CLASSES, EVENT, EVENTS, TREE, STORE, RULES, PLAN_KIND, EVENT_KIND, COUNT = range(1, 12)
+REMARK, PLAN, CLASSES, EVENT, EVENTS, TREE, STORE, RULES, PLAN_KIND, EVENT_KIND, COUNT, WRITE = range(1, 13)
 FIELDS = ("count", "leaves", "parent", "weight", "longest")
 RECORDS = ("rule", "inner", "leaf", "end", "arrival", "send", "bytes", "chain", "with", "cut")
 
@@ -85,6 +85,8 @@ def pieces(command):
         return [packed(EVENT, "%s cut at byte %d" % (name, n), with_place(place, command.input[:n])) for n in every_byte]
     if word == "event":
         return [packed(EVENT, name, with_place(numbers(rest, [("PLACE", 16)])[0], command.input))]
+    if word == "write":
+        return [packed(WRITE, name, numbers(rest, [("BYTES", 16)])[0].to_bytes(2, "big"))]
     if word == "store":
         return stores(rest)
     numbers(rest, [])
@@ -144,7 +146,7 @@ def read_text(text):
                 case, name = " ".join(words[1:]), None
                 if not 1 <= len(case.encode()) <= 200 or not case.isprintable():
                     raise Unreadable("expected the name of a case, of at most 200 bytes")
-            elif words[0] in ("remark", "plan", "classes", "event", "events", "tree", "store", "rules"):
+            elif words[0] in ("remark", "plan", "classes", "event", "events", "tree", "store", "rules", "write"):
                 if case is None and words[0] != "remark":
                     raise Unreadable("a command before the first case")
                 name = None

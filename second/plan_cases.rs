@@ -65,6 +65,36 @@ impl Numbers {
         }
     }
 
+    /// The plan's bytes: "kind 3 for rule 2 only", then each class's record, then the end record.
+    fn bytes(&self) -> Vec<u8> {
+        let mut bytes = if self.rule == 2 { vec![3, 2] } else { vec![] };
+        for number in 1..=self.count as usize {
+            bytes.extend([if self.is_leaf(number) { 2 } else { 1 }, self.parent[number] as u8]);
+            bytes.extend((self.weight[number] as u32).to_be_bytes());
+            if self.is_leaf(number) {
+                bytes.extend((self.longest[number] as u16).to_be_bytes());
+            }
+        }
+        bytes.push(0);
+        bytes
+    }
+
+    /// "11", then "16, the buffer is shorter than the plan, place = the length needed"; the bytes written, and the buffer afterwards.
+    fn write_line(&self, name: &str, room: usize) -> String {
+        let mut buffer = vec![238; room];
+        let (number, place, used) = if !self.obey() {
+            (11, 0, 0)
+        } else if room < self.bytes().len() {
+            (16, self.bytes().len(), 0)
+        } else {
+            let bytes = self.bytes();
+            buffer[..bytes.len()].copy_from_slice(&bytes);
+            (0, 0, bytes.len())
+        };
+        let shown: String = buffer.iter().map(|byte| format!("{byte:02x}")).collect();
+        format!("{name}: {number} {place} {used} {shown}")
+    }
+
     fn class_line(&self, number: usize) -> String {
         let sort = if self.is_leaf(number) { "leaf" } else { "inner" };
         let (parent, weight, longest) = (self.parent[number], self.weight[number], self.longest[number]);
@@ -152,6 +182,7 @@ impl Hand {
             8 => vec![format!("{name}: {}", if self.tree.obey() { "yes" } else { "no" })],
             9 => self.kind(read_plan(after_place).err(), after_place[place], place),
             10 => self.kind(event_at(after_place, place).err(), after_place[place], place),
+            12 => vec![self.tree.write_line(name, place)],
             _ => vec![format!("{name}: {} times 2 at {place}", std::mem::take(&mut self.count))],
         }
     }

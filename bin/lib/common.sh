@@ -203,7 +203,7 @@ pack_text() {
     if [ "$(tr -cd '\000' <"$work/given" | wc -c)" -gt 0 ]; then
         bad "$given_as begins as a text and has bytes 0 in it: it is neither a text nor a plan"
     fi
-    ESCAPES=$work/escapes MAP=$work/map WHO=$me FROM=$given_as STRICT=${strict:-} LC_ALL=C awk -f "$lib/text.awk" <"$work/given" || exit $?
+    ESCAPES=$work/escapes MAP=$work/map WHO=$me FROM=$given_as LC_ALL=C awk -f "$lib/text.awk" <"$work/given" || exit $?
     escapes=$(cat "$work/escapes")
     # shellcheck disable=SC2059 # the bytes are escapes, made above
     printf "$escapes" 2>/dev/null >"$work/bytes" || cannot "no room for temporary files in $work"

@@ -1,14 +1,13 @@
 # The bytes of a plan or of a whole run, from its text on standard input (the lines are those in the head of bin/planbytes).
 # ESCAPES gets the bytes as octal escapes for printf, MAP a line for each record: place, class or 0, line, name, what did not fit.
 # A number of the plan that its field cannot hold becomes the field's largest, which is out of range too, so that the plan is refused by
-# number as any other; with STRICT it is refused here. WHO and FROM name the command and the text. Status 2: the text cannot be read.
-function told(what, status) {
+# number as any other. WHO and FROM name the command and the text. Status 2: the text cannot be read.
+function bad(what) {
     printf "%s: %s, line %d: %s\n", ENVIRON["WHO"], ENVIRON["FROM"], NR, what | "cat >&2"
     close("cat >&2")
-    failed = status
-    exit status
+    failed = 2
+    exit 2
 }
-function bad(what) { told(what, 2) }
 
 function number(word, what, most, refusal,    n) {
     if (word !~ /^[0-9]+$/) bad(what " is \"" word "\"; expected a number from 0 to " most)
@@ -16,7 +15,6 @@ function number(word, what, most, refusal,    n) {
     n = length(word) > 15 ? 1e15 : word + 0
     if (n <= most + 0) return n
     if (!refusal) bad(what " is " word "; expected a number from 0 to " most)
-    if (ENVIRON["STRICT"] != "") told(what " is " word ", more than its bytes hold: number " refusal " of docs/refusals.md", 1)
     beyond = beyond (beyond == "" ? "" : ", ") what " " word
     return most + 0
 }

@@ -1,5 +1,5 @@
-// Named cases of the plan rules and the readers (R21 to R67), packed as commands: each is run, and its lines are compared with the
-// written-down ones. Serves demand 1: what the plan reader, the event reader and the plan rules say. The cases are edited in
+// Named cases of the plan rules, the readers (R21 to R67) and the writer, packed as commands: each is run, and its lines are compared with
+// the written-down ones. Serves demand 1: what the plan reader, the event reader, the plan rules and the writer say. The cases are edited in
 // cases/plan_cases.txt.
 mod events;
 mod kinds;
@@ -7,6 +7,7 @@ mod output;
 mod plans;
 mod texts;
 mod trees;
+mod writes;
 
 use libc::STDIN_FILENO;
 use packed::command::next;
@@ -46,6 +47,9 @@ const EVENT_KIND: u64 = 10;
 // How many unknown kinds were counted: place 2.
 const COUNT: u64 = 11;
 
+// The tree at hand written into a buffer: the buffer's length 2.
+const WRITE: u64 = 12;
+
 // A remark.
 fn remark(text: &[u8]) {
     word(text);
@@ -60,6 +64,7 @@ fn after(tree: Tree, command: u64, name: &[u8], body: &[u8]) -> Tree {
         TREE => plans::tree_of(body),
         STORE => trees::stored(tree, body),
         RULES => trees::rules(name, tree),
+        WRITE => writes::written(name, tree, body),
         _ => tree,
     }
 }
