@@ -179,25 +179,37 @@ pub fn check_rule(rule: u64, place: usize) -> Result<(), Refusal> {
     Ok(())
 }
 
-/// "After the end record come 9, then class by class upward 8 and 7."
-pub fn check_whole_tree(tree: &Tree) -> Result<(), Refusal> {
+/// Refusal 9: "no class at all".
+pub fn check_any_class(tree: &Tree) -> Result<(), Refusal> {
     if tree.count() == 0 {
         return refuse(9, 0);
     }
+    Ok(())
+}
+
+/// Refusal 8: "inner class without a child".
+pub fn check_has_child(tree: &Tree, class: usize) -> Result<(), Refusal> {
+    if tree.is_inner(class) && tree.children(class).is_empty() {
+        return refuse(8, class);
+    }
+    Ok(())
+}
+
+/// Refusal 7: "children's weights exceed their inner parent's".
+pub fn check_shares(tree: &Tree, class: usize) -> Result<(), Refusal> {
+    let sum = tree.children(class).iter().fold(0, |sum, &c| add(sum, tree.classes[c].weight));
+    if tree.is_inner(class) && sum > tree.classes[class].weight {
+        return refuse(7, class);
+    }
+    Ok(())
+}
+
+/// "After the end record come 9, then class by class upward 8 and 7."
+pub fn check_whole_tree(tree: &Tree) -> Result<(), Refusal> {
+    check_any_class(tree)?;
     for class in 1..tree.classes.len() {
-        if !tree.is_inner(class) {
-            continue;
-        }
-        let children = tree.children(class);
-        // 8: "inner class without a child"
-        if children.is_empty() {
-            return refuse(8, class);
-        }
-        // 7: "children's weights exceed their inner parent's"
-        let sum = children.iter().fold(0, |sum, &c| add(sum, tree.classes[c].weight));
-        if sum > tree.classes[class].weight {
-            return refuse(7, class);
-        }
+        check_has_child(tree, class)?;
+        check_shares(tree, class)?;
     }
     Ok(())
 }
@@ -280,6 +292,13 @@ pub fn read_rule(body: &[u8], first: usize) -> Result<u64, Refusal> {
 /// "A plan is class records and one end record; the reader says how many bytes it used."; before them may stand "A plan record of kind 3",
 /// which names no class: it takes no class number, and it and the end record alone are "no class at all".
 pub fn read_plan(input: &[u8]) -> Result<(Tree, usize), Refusal> {
+    let (tree, used) = read_records(input)?;
+    check_whole_tree(&tree)?;
+    Ok((tree, used))
+}
+
+/// The records up to the end record and with it, each judged by itself; what comes "After the end record" is not judged.
+pub fn read_records(input: &[u8]) -> Result<(Tree, usize), Refusal> {
     let mut tree = Tree::without_classes();
     let mut first = 0;
     loop {
@@ -298,10 +317,7 @@ pub fn read_plan(input: &[u8]) -> Result<(Tree, usize), Refusal> {
         };
         let body = body_of(input, first, length)?;
         match input[first] {
-            0 => {
-                check_whole_tree(&tree)?;
-                return Ok((tree, first + 1));
-            }
+            0 => return Ok((tree, first + 1)),
             1 => add_class(&mut tree, Sort::Inner, body, first)?,
             2 => add_class(&mut tree, Sort::Leaf, body, first)?,
             _ => tree.rule = read_rule(body, first)?,

@@ -3,13 +3,16 @@
 //! It reads a plan and events from standard input and prints the lines of "A whole run"; with the word `long` from input of any length.
 //! It is slow and plain on purpose: every sum is scanned again, every call is followed by a full check.
 //! With words it prints a run worked step by step, for docs/by-hand.md (see by_hand.rs) and for the desk's own runs (see desk.rs), why
-//! leaves are silent (see silent.rs), how far apart two siblings are (see siblings.rs), or a plan's bytes written back (see write.rs).
+//! leaves are silent (see silent.rs), how far apart two siblings are (see siblings.rs), a plan's bytes written back (see write.rs), or a plan
+//! whose shares don't add up mended (see mend.rs).
 //! Build: rustc -O --edition 2021 second.rs; test: rustc -O --edition 2021 --test second.rs -o second_test
 
 #[path = "by_hand.rs"]
 mod by_hand;
 #[path = "desk.rs"]
 mod desk;
+#[path = "mend.rs"]
+mod mend;
 #[path = "plan.rs"]
 mod plan;
 #[cfg(test)]
@@ -730,13 +733,15 @@ fn output_of(run: &Run) -> Output {
 
 /// What the words may be.
 const USE: &str =
-    "tables FROM TABLE, waits FROM, worked FROM TO, state EVENT, silent [CLASS ..], silent-each, siblings I J or write [BYTES]";
+    "tables FROM TABLE, waits FROM, worked FROM TO, state EVENT, silent [CLASS ..], silent-each, siblings I J, \
+    write [BYTES] or mend [write]";
 
-/// A run worked by hand, why leaves are silent, two siblings, a plan written back.
+/// A run worked by hand, why leaves are silent, two siblings, a plan written back or mended.
 fn worked(words: &[String], input: &[u8]) -> Output {
     match words[0].as_str() {
         "worked" | "state" => return Output::of_lines(&desk::answer(words, input)),
         "write" => return write::program(&words[1..], input),
+        "mend" => return mend::program(&words[1..], input),
         _ => (),
     }
     let numbers: Vec<usize> = words[1..].iter().map(|word| word.parse().expect(USE)).collect();

@@ -243,7 +243,7 @@ in_words() {
     fi
     size=$(wc -c <"$work/bytes")
     od -An -v -tu1 -N $((place + 600)) "$work/bytes" |
-        NUMBER=$number PLACE=$place SIZE=$size MOST=$most TEXT=${text:+$work/given} MAP=$work/map PAGE=$root/docs/refusals.md \
+        NUMBER=$number PLACE=$place SIZE=$size MOST=$most TEXT=${text:+$work/given} MAP=$work/map PAGE=$root/docs/refusals.md ASKS=$me \
             LC_ALL=C awk -f "$lib/refusal.awk"
 }
 

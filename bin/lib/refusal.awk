@@ -1,6 +1,7 @@
 # What a refusal means, in words: the bytes of the input come as decimal numbers on standard input; NUMBER and PLACE are the refusal's,
 # PAGE has the table of the numbers, SIZE is the length of the whole input (without it the table's row is all that is told), MOST says how
-# many columns a line may have. Where the plan was given as a text, TEXT is that text and MAP has its records (lib/text.awk).
+# many columns a line may have, ASKS is the command. Where the plan was given as a text, TEXT is that text and MAP has its records
+# (lib/text.awk).
 # The lines: number, place, the line of the text, the class or event with the bytes of its record and the wrong field in [ ], what is wrong
 # with it, what was good before it, what to do.
 function say(text,    word, n, i, now) {
@@ -127,8 +128,12 @@ function at_class(c) {
     events = 0
     text_line(line_of[c])
     if (number == 7) field(c, first[c], 2, 5, "weight " weight[c] "; its children weigh " children_of(c))
-    else field(c, first[c], 0, 0, "an inner class, and no class names it as its parent")
-    say("good before it: every record by itself" (c > 1 ? ", and " list("class", "classes", c - 1) " with the children" : ""))
+    else if (number == 8) field(c, first[c], 0, 0, "an inner class, and no class names it as its parent")
+    else field(c, first[c], 2, 5, "weight " weight[c] "; mended, its children weigh more than 1000000 together")
+    # mending goes from the highest class down, and looks for 8 in all classes first
+    if (number == 22) say("good before it: every record by itself" (c < classes ? ", and each class after it, mended" : ""))
+    else if (ENVIRON["ASKS"] == "mend") say("good before it: every record by itself" (c > 1 ? ", and no lower class is without a child" : ""))
+    else say("good before it: every record by itself" (c > 1 ? ", and " list("class", "classes", c - 1) " with the children" : ""))
 }
 
 BEGIN {
@@ -150,7 +155,7 @@ BEGIN {
 END {
     if (told) { say("number " number ": " meant); say("place " place ": " where) }
     if (ENVIRON["SIZE"] == "") { if (told) say("what to do: " advice); exit }
-    if (number == 7 || number == 8) at_class(place)
+    if (number == 7 || number == 8 || number == 22) at_class(place)
     else if (number == 9) say("wrong: the end of the plan, byte " (byte[0] == 3 ? "2" : "0") ", [00], and no class before it")
     else if (number == 10) say("wrong: the input has " ENVIRON["SIZE"] " bytes" (ENVIRON["SIZE"] > 16777216 ? " or more" : ""))
     else if (number <= 6 || number == 17 || number == 18) at_record(place)

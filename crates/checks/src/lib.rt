@@ -49,6 +49,8 @@ pub const LATE_RULE: u8 = 18;
 pub const CAPACITY: u8 = 20;
 // A leaf's request is outside its range.
 pub const REQUEST: u8 = 21;
+// An inner class would need a weight above its range to be mended.
+pub const NEEDS_MORE: u8 = 22;
 
 // The number of a verdict: 0 where all passed.
 pub fn number(v: Verdict) -> u8
