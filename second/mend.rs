@@ -270,7 +270,7 @@ mod tests {
     #[test]
     fn other_faults_as_the_reader_does() {
         let heavy = plan(&[(0, 1, INNER), (1, 2, LEAF)]);
-        let faults: [(Vec<u8>, &str); 10] = [
+        let faults: [(Vec<u8>, &str); 11] = [
             (vec![], "stop 1 0\n"),
             (vec![0], "stop 9 0\n"),
             (vec![3, 2, 0], "stop 9 0\n"),
@@ -280,6 +280,7 @@ mod tests {
             ([&heavy[..14], &[9]].concat(), "stop 2 14\n"),
             (plan(&[(0, 1, INNER), (1, 2, LEAF), (2, 1, LEAF)]), "stop 4 14\n"),
             (plan(&[(0, 1, INNER), (1, 2, LEAF), (1, 1_000_001, LEAF)]), "stop 5 14\n"),
+            ([&heavy[..12], &[0x24, 0x01, 0]].concat(), "stop 6 6\n"),
             (plan(&[[(0, 1, INNER)].repeat(63), vec![(0, 1, LEAF)]].concat()), "stop 3 378\n"),
         ];
         for (input, line) in faults {
