@@ -1,6 +1,7 @@
 // A value stored into one number of a tree, whatever that does to the plan rules.
 ghost use mathlib.Core.Path.{_≡_};
 ghost use Prim.Native.Nat.{_%_};
+ghost use Rattle.packed.specs.Stored.{stored};
 use tree::Tree;
 use units::Weight;
 
@@ -25,7 +26,9 @@ pub fn cut_32(value: u64) -> u32
 
 // Fields 0 to 4: the count of classes or the leaves of the tree, or at a class number its parent, weight or longest packet. Field 14: the
 // rule of the round size, 2 or any other value for rule 1.
-pub fn tree_number(mut tree: Tree, field: u64, i: usize, value: u64) -> Tree {
+pub fn tree_number(mut tree: Tree, field: u64, i: usize, value: u64) -> Tree
+    ensures { λ r. ⌜ r ≡ stored tree field i value ⌝ }
+{
     if field == 0 {
         tree.count = value as usize;
         return tree;
