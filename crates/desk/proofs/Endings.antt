@@ -19,7 +19,7 @@ use Rattle.run.proofs.Lines.{step-on, first-sound}
 use Rattle.parts.specs.declared.PartRun.{PartRun}
 use Rattle.parts.specs.Part.{Partway, onward, takesOne, partOf, counted, Parts}
 use Rattle.parts.proofs.Parts.{starts, takes-keep}
-use Rattle.desk.specs.Ending.{endIn, endOf}
+use Rattle.desk.specs.Ending.{endIn, runEnd}
 
 module _ (input : List ℕ) where
   -- one event more
@@ -110,12 +110,12 @@ module _ (input : List ℕ) where
 
   -- a program's run: its first step is the last, or it ends as it goes on from there, with a sound link
   module _ (s : Step) (first : s ≡ programBegins input) where
-    pub ends-first : s .more ≡ false → s ≡ endOf input
-    unfolding endOf
+    pub ends-first : s .more ≡ false → s ≡ runEnd input
+    unfolding runEnd
     ends-first e = first ∙ sym (rw (sym (ap (λ (z : Step). z .more) first) ∙ e) refl)
 
-    pub ends-later : s .more ≡ true → endIn (suc (length input)) (s .link) input (s .place) ≡ endOf input
-    unfolding endOf
+    pub ends-later : s .more ≡ true → endIn (suc (length input)) (s .link) input (s .place) ≡ runEnd input
+    unfolding runEnd
     ends-later e =
         ap (λ (z : Step). endIn (suc (length input)) (z .link) input (z .place)) first
         ∙ sym (rw (sym (ap (λ (z : Step). z .more) first) ∙ e) refl)

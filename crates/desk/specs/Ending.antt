@@ -16,7 +16,7 @@ endIn (suc n) l input place =
     cond (s .more) (endIn n (s .link) input (s .place)) s
 
 -- the last step of a program's run: its first, where that ends it, or the one of the event that does (R220)
-unfoldable pub endOf : List ℕ → Step
-endOf input =
+unfoldable pub runEnd : List ℕ → Step
+runEnd input =
     let s = programBegins input in
     cond (s .more) (endIn (suc (length input)) (s .link) input (s .place)) s

@@ -4,7 +4,7 @@ ghost use mathlib.Core.Path.{_≡_};
 ghost use Prim.Native.Nat.{suc};
 ghost use lib.ListN.{length};
 ghost use Rattle.sound.specs.Sound.{SoundLink};
-ghost use Rattle.desk.specs.Ending.{endIn, endOf};
+ghost use Rattle.desk.specs.Ending.{endIn, runEnd};
 ghost use Rattle.desk.specs.Told.{reasonLine, Tells};
 use lines::Line;
 use lines::Why;
@@ -37,7 +37,7 @@ fn run_on(first: Link, input: &[u8], place: usize) -> Step
 
 // The last step of a program's run: its line, and the link after the last event.
 pub fn last_step(input: &[u8]) -> Step
-    ensures { λ r. ⌜ r ≡ endOf (now (input .entry)) ⌝ }
+    ensures { λ r. ⌜ r ≡ runEnd (now (input .entry)) ⌝ }
 {
     let step = run::first(input);
     if !step.more {

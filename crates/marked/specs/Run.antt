@@ -48,7 +48,7 @@ pub record Accounts : Type 0 where
 
 -- a round opened in a send: the accounts when the last one closed, the kind, the size in force, the quotas of class 0 and of class 1, the
 -- accounts after the opening
-pub record Opening : Type 0 where
+pub record OpenedRound : Type 0 where
   pub closed : Accounts
   pub kind : Kind
   pub size : ℕ
@@ -62,14 +62,14 @@ pub record Shown : Type 0 where
 
 -- what is seen: a round, where there is one; who is active and the accounts; the packets still waiting
 abbrev pub Seen : Look → Type 0
-Seen (opening k) = List Opening
+Seen (opening k) = List OpenedRound
 Seen show = Shown
 Seen end = ℕ
 
 unfoldable pub accountsOf : List Account → Accounts
 accountsOf accounts = record { B = table (balanceOf accounts) 64; R = table (residualOf accounts) 64 }
 
-unfoldable pub openingOf : Turn → Opening
+unfoldable pub openingOf : Turn → OpenedRound
 openingOf turn = record {
   closed = accountsOf (turn .closed .accounts);
   kind = turn .kind;

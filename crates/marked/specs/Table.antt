@@ -10,7 +10,7 @@ use Rattle.rules.specs.Opening.{main, surplus}
 use Rattle.calls.specs.declared.Arrival.{Arrival}
 use Rattle.calls.specs.declared.Departure.{Departure}
 use Rattle.calls.specs.Run.{arrival as arrives, send as sends}
-use Rattle.marked.specs.Run.{Read, opening, show, end, Accounts, Opening, Shown, Ask, call, look, Exchange, _⟶_, Entry}
+use Rattle.marked.specs.Run.{Read, opening, show, end, Accounts, OpenedRound, Shown, Ask, call, look, Exchange, _⟶_, Entry}
 
 -- the run of an entry, and more after it
 infixl 60 _then_
@@ -89,7 +89,7 @@ abbrev listing : Entry
 listing = m1 then arrivals then firstSend then twoMore then fourthSend then lastSend then (look end ⟶ 0 ∷ [])
 
 -- M2 the first opening: quotas 37 (root) and 37 (class 1); balances of classes 0 to 4: 3, 0, 37, 74, 148.
-abbrev firstOpening : Opening
+abbrev firstOpening : OpenedRound
 firstOpening = record {
   closed = record { B = these (262 ∷ 0 ∷ 0 ∷ 0 ∷ 0 ∷ []); R = nothing };
   kind = main;
@@ -127,7 +127,7 @@ m6 = m1 then arrivals then firstSend then twoMore then fourthSend then lastSend 
 
 -- M7 an arrival (class 2, length 1, tag 5) after the first send: the next three sends give tags 1, 2, 3, the first with 1 round opened, a
 -- main round. The arrival itself changes nothing that shows.
-abbrev secondOpening : Opening
+abbrev secondOpening : OpenedRound
 secondOpening = record {
   closed = record { B = these (87 ∷ 0 ∷ 37 ∷ 74 ∷ 0 ∷ []); R = these (64 ∷ 0 ∷ 0 ∷ 0 ∷ 0 ∷ []) };
   kind = main;
@@ -143,7 +143,7 @@ m7 = m1 then arrivals then firstSend then
 
 -- Two rounds in a send: M7's run one send longer gives tag 5. Its surplus round sends nothing: class 1 quota 6, class 2 B 9; the main
 -- round after it has the quotas 84 and 252.
-abbrev surplusOpening : Opening
+abbrev surplusOpening : OpenedRound
 surplusOpening = record {
   closed = record { B = these (253 ∷ 0 ∷ 3 ∷ 0 ∷ 0 ∷ []); R = these (0 ∷ 6 ∷ 0 ∷ 0 ∷ 0 ∷ []) };
   kind = surplus;
@@ -152,7 +152,7 @@ surplusOpening = record {
   after = record { B = these (253 ∷ 0 ∷ 9 ∷ 0 ∷ 0 ∷ []); R = nothing };
 }
 
-abbrev mainOpening : Opening
+abbrev mainOpening : OpenedRound
 mainOpening = record {
   closed = record { B = these (253 ∷ 0 ∷ 9 ∷ 0 ∷ 0 ∷ []); R = nothing };
   kind = main;
@@ -166,7 +166,7 @@ twoRounds = m7 then (look (opening 0) ⟶ (surplusOpening ∷ []) ∷ look (open
 
 -- A leaf that turned inactive: an arrival (class 4, length 10, tag 5) after the first send leaves class 4 inactive, and waits for the
 -- next round. That one opens in the next send, with class 4 in it: quotas 21 and 21, class 4 B 84.
-abbrev rejoins : Opening
+abbrev rejoins : OpenedRound
 rejoins = record {
   closed = record { B = these (87 ∷ 0 ∷ 37 ∷ 74 ∷ 0 ∷ []); R = these (64 ∷ 0 ∷ 0 ∷ 0 ∷ 0 ∷ []) };
   kind = main;
@@ -185,7 +185,7 @@ nextRound = m1 then arrivals then firstSend then
     ∷ [])
 
 -- A surplus round that sends: what class 3 gave back when it turned inactive covers the second packet of class 2.
-abbrev surplusSends : Opening
+abbrev surplusSends : OpenedRound
 surplusSends = record {
   closed = record { B = these (169 ∷ 0 ∷ 3 ∷ 0 ∷ 0 ∷ []); R = these (0 ∷ 90 ∷ 0 ∷ 0 ∷ 0 ∷ []) };
   kind = surplus;
@@ -241,7 +241,7 @@ ruleOne = record { input = 3 ∷ 1 ∷ treeWith 3; read = accepted 4 262 33; exc
 -- Rule 2, tree P with the record 3 2 before it: the same four arrivals. The sends give tags 4, 2, 1, 3 with 1, 1, 1 and 0 rounds, all main
 -- rounds, with the sizes in force 262, 174 and 174. In the second the root has 87 + 64 + 174 − 262 = 63 to share out. At the end root B 168,
 -- R 6, which are the 174 in force.
-abbrev smallerOpening : Opening
+abbrev smallerOpening : OpenedRound
 smallerOpening = record {
   closed = record { B = these (87 ∷ 0 ∷ 37 ∷ 74 ∷ 0 ∷ []); R = these (64 ∷ 0 ∷ 0 ∷ 0 ∷ 0 ∷ []) };
   kind = main;
@@ -250,7 +250,7 @@ smallerOpening = record {
   after = record { B = these (0 ∷ 0 ∷ 58 ∷ 116 ∷ 0 ∷ []); R = nothing };
 }
 
-abbrev sameSizeOpening : Opening
+abbrev sameSizeOpening : OpenedRound
 sameSizeOpening = record {
   closed = record { B = these (84 ∷ 0 ∷ 58 ∷ 32 ∷ 0 ∷ []); R = nothing };
   kind = main;

@@ -36,7 +36,7 @@ use Rattle.calls.proofs.Arrivals.{queue-other}
 use Rattle.calls.proofs.Progress.{progress}
 use Rattle.calls.proofs.Runs.{meets-keeps}
 use Rattle.reasons.specs.Reason.{HoldsNone, NotInRound, Lacks, StillDue}
-use Rattle.reasons.specs.Promise.{SendsNone, TakesNone, OpensNone, Each, Reached, ReachedInTime}
+use Rattle.reasons.specs.Promise.{SendsNone, TakesNone, OpensNone, Each, CameTo, ReachedInTime}
 use Rattle.reasons.proofs.Kept.{Kept, by-arrival, sent-now, nothing, quiet-kept, one-kept, one-silent}
 
 -- ---- a run in which no round opens
@@ -199,7 +199,7 @@ due-promise i (made send answer after ∷ ms) l sound leaf due run =
         inr (on .0, later (on .1) (on .2))
 
 -- when the search comes to it, it sends, or its balance is smaller than what its first packet is charged
-pub reached-then : (i : ℕ) (l : Link) (d : AfterSend) → SoundLink l → isLeaf (l .tree) i ≡ true → Reached (meaning l) i → Sends l d
+pub reached-then : (i : ℕ) (l : Link) (d : AfterSend) → SoundLink l → isLeaf (l .tree) i ≡ true → CameTo (meaning l) i → Sends l d
     → d .answer .verdict ≡ Passed
     → ((d .answer .class ≡ i) × (d .answer .rounds ≡ 0)) ⊎ (balanceOf (l .accounts) i < costOf (firstOf (meaning l) i .length))
 unfolding nextLeaf

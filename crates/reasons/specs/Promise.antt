@@ -33,14 +33,14 @@ Each P (m ∷ ms) = P m × Each P ms
 
 -- the search of a send comes to leaf i: it is in the round and not below the place, and no leaf before it, from the place on, can send
 -- (R135 to R137, R217)
-pub record Reached (s : State) (i : ℕ) : Type 0 where
+pub record CameTo (s : State) (i : ℕ) : Type 0 where
   pub due : StillDue s i
   pub first : (k : ℕ) → s .place ≤ k → k < i → ready s k ≡ false
 
 -- the search of the call comes to leaf i, in the round in which the call begins (R217)
 abbrev pub Reaches : ℕ → Link → Made → Type 0
 Reaches i l (made (arrival class p) answer after) = ⊥
-Reaches i l (made send answer after) = Reached (meaning l) i
+Reaches i l (made send answer after) = CameTo (meaning l) i
 
 -- no round opens in a call before the one whose search comes to leaf i (R217)
 unfoldable pub ReachedInTime : ℕ → Link → List Made → Type 0

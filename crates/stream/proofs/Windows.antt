@@ -25,7 +25,7 @@ use Rattle.run.proofs.Lines.{linesFrom, following, lines-next, lines-begin, beg
 use Rattle.parts.specs.declared.PartRun.{PartRun}
 use Rattle.parts.specs.Part.{Partway, onward, takesOne, partOf, counted, Parts, printed}
 use Rattle.parts.proofs.Parts.{starts, takes-keep, part-first, part-is, part-text, text-more, text-none}
-use Rattle.stream.specs.Window.{lastBytes, unended, InWindow, unfinishedAt, WindowOn, writtenBy, StreamOn, lastAt, streamedBy}
+use Rattle.stream.specs.Window.{lastBytes, unended, InWindow, unfinishedAt, WindowOn, windowText, StreamOn, lastAt, streamedBy}
 use Rattle.stream.specs.Window.WindowOn.{last, then}
 use Rattle.stream.specs.Window.StreamOn.{whole, ends, next}
 use Rattle.stream.proofs.Ends.{window-inside}
@@ -221,8 +221,8 @@ module _ (input window rest : List ℕ) (offset : ℕ) (is : drop offset input �
     pub ends : isCall (eventAt (drop place′ window) place′) ≡ false
 
   window-run : (l : Link) (place : ℕ) (l′ : Link) (place′ : ℕ) → SoundLink l → place ≤ length window
-      → (run : WindowOn window l place l′ place′) → Over l place (writtenBy run) l′ place′
-  unfolding writtenBy
+      → (run : WindowOn window l place l′ place′) → Over l place (windowText run) l′ place′
+  unfolding windowText
   window-run _ _ _ _ sound h (last l place before r after w e) = record {
     lines = window-lines l place before r after w sound h;
     sound = window-sound l place before r after w sound h;
@@ -238,7 +238,7 @@ module _ (input window rest : List ℕ) (offset : ℕ) (is : drop offset input �
         lines =
             window-lines l place before r after w sound h
             ∙ ap (λ (x : List ℕ). take (r .laid) after ++ x) (later .lines)
-            ∙ sym (append-assoc (take (r .laid) after) (writtenBy rest) _);
+            ∙ sym (append-assoc (take (r .laid) after) (windowText rest) _);
         sound = later .sound;
         inside = later .inside;
         ends = later .ends;
@@ -269,7 +269,7 @@ stream-lines input _ _ sound (whole offset window l place l′ place′ is h run
     let same : eventAt (drop at input) at ≡ eventAt (drop place′ window) at =
     ap (λ (s : List ℕ). eventAt s at) (rest-at input window [] offset cut place′ (over .inside) ∙ append-nil (drop place′ window))
     in
-    ap (λ (x : List ℕ). writtenBy run ++ x)
+    ap (λ (x : List ℕ). windowText run ++ x)
     (sym (lines-end l′ input at (eventAt (drop place′ window) at) same (no-call-at (drop place′ window) place′ at (over .ends))))
     ∙ sym (over .lines)
 stream-lines input _ _ sound (ends offset window rest l place l′ place′ is h run done) =
@@ -279,12 +279,12 @@ stream-lines input _ _ sound (ends offset window rest l place l′ place′ is h
     ap (λ (s : List ℕ). eventAt s at) (rest-at input window rest offset is place′ (over .inside))
     ∙ last-longer (drop place′ window) rest place′ at (over .ends) done
     in
-    ap (λ (x : List ℕ). writtenBy run ++ x)
+    ap (λ (x : List ℕ). windowText run ++ x)
     (sym (lines-end l′ input at (eventAt (drop place′ window) at) same (no-call-at (drop place′ window) place′ at (over .ends))))
     ∙ sym (over .lines)
 stream-lines input _ _ sound (next offset window rest l place l′ place′ is h run later) =
     let over = window-run input window rest offset is l place l′ place′ sound h run in
-    ap (λ (x : List ℕ). writtenBy run ++ x) (stream-lines input l′ (offset + place′) (over .sound) later) ∙ sym (over .lines)
+    ap (λ (x : List ℕ). windowText run ++ x) (stream-lines input l′ (offset + place′) (over .sound) later) ∙ sym (over .lines)
 
 -- a run of input of any length: the plan's line, and then the windows
 pub stream-run : (input : List ℕ) → beginOf input .more ≡ true → (s : StreamOn input (beginOf input .link) (beginOf input .place))

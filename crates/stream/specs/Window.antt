@@ -49,9 +49,9 @@ pub data WindowOn (window : List ℕ) : Link → ℕ → Link → ℕ → Type 0
       → WindowOn window l place l′ place′
 
 -- what they laid, one after the other (R246)
-unfoldable pub writtenBy : {window : List ℕ} {l l′ : Link} {place place′ : ℕ} → WindowOn window l place l′ place′ → List ℕ
-writtenBy (last l place before r after p e) = take (r .laid) after
-writtenBy (then l place before r after l′ place′ p e rest) = take (r .laid) after ++ writtenBy rest
+unfoldable pub windowText : {window : List ℕ} {l l′ : Link} {place place′ : ℕ} → WindowOn window l place l′ place′ → List ℕ
+windowText (last l place before r after p e) = take (r .laid) after
+windowText (then l place before r after l′ place′ p e rest) = take (r .laid) after ++ windowText rest
 
 -- windows of an input, one after the other: each holds the input from its offset on, up to where it is cut, and the next one begins where
 -- its events end. The last one holds all of the rest, or ends at what waits for no more bytes (R246, R247)
@@ -69,6 +69,6 @@ abbrev pub lastAt : List ℕ → Link → ℕ → ℕ → List ℕ
 lastAt window l offset place = bytesOf (lastLine (eventAt (drop place window) (offset + place)) l)
 
 unfoldable pub streamedBy : {input : List ℕ} {l : Link} {place : ℕ} → StreamOn input l place → List ℕ
-streamedBy (whole offset window l place l′ place′ e f run) = writtenBy run ++ lastAt window l′ offset place′
-streamedBy (ends offset window rest l place l′ place′ e f run done) = writtenBy run ++ lastAt window l′ offset place′
-streamedBy (next offset window rest l place l′ place′ e f run later) = writtenBy run ++ streamedBy later
+streamedBy (whole offset window l place l′ place′ e f run) = windowText run ++ lastAt window l′ offset place′
+streamedBy (ends offset window rest l place l′ place′ e f run done) = windowText run ++ lastAt window l′ offset place′
+streamedBy (next offset window rest l place l′ place′ e f run later) = windowText run ++ streamedBy later
