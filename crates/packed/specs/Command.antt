@@ -11,5 +11,5 @@ abbrev pub number64 : List ℕ → ℕ → ℕ
 number64 s k = number32 s k * 4_294_967_296 + number32 s (k + 4)
 
 -- the bytes from one place to another; none where there are not so many
-abbrev pub partOf : List ℕ → ℕ → ℕ → List ℕ
-partOf s from to = cond (ltb (length s) to || ltb to from) [] (take (to - from) (drop from s))
+abbrev pub sliceOf : List ℕ → ℕ → ℕ → List ℕ
+sliceOf s from to = cond (ltb (length s) to || ltb to from) [] (take (to - from) (drop from s))

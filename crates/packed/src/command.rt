@@ -2,7 +2,7 @@
 ghost use mathlib.Core.Path.{_≡_};
 ghost use Prim.Native.Nat.{_+_, _≤_, _<_, min};
 ghost use Rattle.plan.specs.Record.{byteAt, number16, number32};
-ghost use Rattle.packed.specs.Command.{number64, partOf};
+ghost use Rattle.packed.specs.Command.{number64, sliceOf};
 use tree::wide;
 
 // The byte at a place.
@@ -41,7 +41,7 @@ pub fn number_64(s: &[u8], k: usize) -> u64
 
 // The bytes from one place to another; none where there are not so many.
 pub fn part(s: &[u8], from: usize, to: usize) -> &[u8]
-    ensures { λ r. ⌜ now r ≡ partOf (now (s .entry)) from to ⌝ }
+    ensures { λ r. ⌜ now r ≡ sliceOf (now (s .entry)) from to ⌝ }
 {
     if s.len() < to {
         return &s[..0];
