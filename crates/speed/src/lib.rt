@@ -1,11 +1,12 @@
 // The loops that bin/speed times: a recording run by the library's public calls, and single calls. Entries for a measuring program: they
-// ask nothing. They are no part of the product, and say only that they are safe and end: what they answer is compared with the plain
-// scheduler's sends, one by one.
+// ask nothing. They are no part of the product, and all but `speed_plan` say only that they are safe and end: what they answer is compared
+// with the plain scheduler's sends, one by one.
 pub mod opening;
 
 ghost use mathlib.Core.Path.{_≡_};
 ghost use Prim.Native.Nat.{suc, _<_};
 ghost use lib.ListN.{length};
+ghost use Rattle.plan.specs.Reader.{planOf};
 ghost use Rattle.speed.specs.Turns.{plainTimed, callsLeft};
 use checks::Verdict;
 use link::Arrival;
@@ -122,7 +123,9 @@ pub extern "C" fn speed_sound(input: &[u8], events: usize, out: &mut [u64], time
 
 // The bytes that a plan uses.
 #[no_mangle]
-pub extern "C" fn speed_plan(input: &[u8]) -> usize {
+pub extern "C" fn speed_plan(input: &[u8]) -> usize
+    ensures { λ r. ⌜ r ≡ planOf (now (input .entry)) .used ⌝ }
+{
     let read = plan::read_plan(input);
     read.used
 }
