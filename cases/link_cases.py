@@ -4,8 +4,9 @@
 #   cases/link_cases.py            checks that both files are what the text packs to, and each line of the text what the model says
 #   cases/link_cases.py --write    puts the model's lines into the text and packs it anew
 # It says what differs, by the names of the cases. Its status is 1 where something differs, 2 where the text cannot be read.
-# The model works the rules (R86 to R164) in plain whole numbers, and judges nothing by what the crates answer. It was written beside our
-# definitions and the program's source: a second computation, and not the independent reading, which is second/second.rs.
+# The model works the rules (R86 to R164, R276 and R277) in plain whole numbers, and judges nothing by what the crates answer. It was
+# written beside our definitions and the program's source: a second computation, and not the independent reading, which is
+# second/second.rs.
 import difflib
 import os
 import sys
@@ -43,6 +44,8 @@ class Link:
         self.held = [0] * NUMBERS
         self.length = [0] * (NUMBERS * PLACES)
         self.tag = [0] * (NUMBERS * PLACES)
+        self.packets = [0] * NUMBERS
+        self.bytes = [0] * NUMBERS
 
     def copy(self):
         other = Link.__new__(Link)
@@ -69,11 +72,32 @@ class Link:
     def queued_lengths(self, i):
         return [self.length[self.waiting_place(i, n)] for n in range(self.held[i])]
 
-    # The first packet of a class leaves its queue: its length and its tag.
+    # A class and the classes above it, as far as each has a lower parent.
+    def way_up(self, i):
+        way = [i]
+        while self.parent[way[-1]] < way[-1]:
+            way.append(self.parent[way[-1]])
+        return way
+
+    # The totals on the way up from a class change by so many packets and bytes.
+    def count_up(self, i, packets, charges):
+        for k in self.way_up(i):
+            self.packets[k] += packets
+            self.bytes[k] += charges
+
+    # A packet joins the queue of a class, and its totals.
+    def put_last(self, i, length, tag):
+        at = self.waiting_place(i, self.held[i])
+        self.length[at], self.tag[at] = length, tag
+        self.held[i] += 1
+        self.count_up(i, 1, charge(length))
+
+    # The first packet of a class leaves its queue, and its totals: its length and its tag.
     def take_first(self, i):
         at = self.waiting_place(i, 0)
         self.start[i] = (self.start[i] + 1) % PLACES
         self.held[i] -= 1
+        self.count_up(i, -1, -charge(self.length[at]))
         return self.length[at], self.tag[at]
 
 
@@ -156,6 +180,22 @@ def active_sound(link):
     return link.active == leaves | above(link, leaves)
 
 
+# The packets and the bytes, in charges, that wait at the leaves at or below each class number (R276): every leaf is added to each class
+# that it is below.
+def sums(link):
+    packets, charges = [0] * NUMBERS, [0] * NUMBERS
+    for leaf in link.leaves - {0}:
+        waiting = link.queued_lengths(leaf)
+        for i in link.way_up(leaf):
+            packets[i] += len(waiting)
+            charges[i] += sum(map(charge, waiting))
+    return packets, charges
+
+
+def totals_right(link):
+    return (link.packets, link.bytes) == sums(link)
+
+
 def can_send(link, i):
     return link.is_leaf(i) and i in link.active and link.balance[i] >= charge(link.queued_lengths(i)[0])
 
@@ -165,7 +205,7 @@ def is_sound(link):
         return False
     if not all(queue_sound(link, i) and account_sound(link, i) for i in range(NUMBERS)):
         return False
-    if not active_sound(link) or sum(link.balance) + sum(link.residual) != link.size:
+    if not active_sound(link) or sum(link.balance) + sum(link.residual) != link.size or not totals_right(link):
         return False
     return 1 <= link.place <= 64 and not any(can_send(link, i) for i in link.classes() if i < link.place)
 
@@ -227,14 +267,12 @@ def arrival_refusal(link, i, length):
     return 0, 0
 
 
-# An arrival puts its packet at the end of its leaf's queue. It moves no account, and makes no class active.
+# An arrival puts its packet at the end of its leaf's queue, and counts it on the way up. It moves no account, and makes no class active.
 def arrive(before, i, length, tag):
     link = before.copy()
     number, place = arrival_refusal(before, i, length)
     if number == 0:
-        at = link.waiting_place(i, link.held[i])
-        link.length[at], link.tag[at] = length, tag
-        link.held[i] += 1
+        link.put_last(i, length, tag)
     held = link.held[i] if i < NUMBERS else 0
     return link, "in %d %d held %d %s" % (number, place, held, same(before, link))
 
@@ -338,12 +376,20 @@ def send(before):
 # ---- The model: the commands that the cases have beside the calls ----
 
 
-# The first packet of a class leaves, with no account moved.
+# The first packet of a class leaves, with no account moved, and the totals are made to fit.
 def take(before, i):
     if i >= NUMBERS or before.held[i] == 0 or before.start[i] >= PLACES:
         return before, "took nothing"
     link = before.copy()
-    return link, "took %d %d" % link.take_first(i)
+    took = "took %d %d" % link.take_first(i)
+    return fit(link), took
+
+
+# The totals are made to fit the queues, on any record: a class that has no lower parent is below no other.
+def fit(before):
+    link = before.copy()
+    link.packets, link.bytes = sums(link)
+    return link
 
 
 # The fields of the record in the order of their numbers: what picks one of their numbers, and how many bits each has.
@@ -363,6 +409,8 @@ FIELDS = (
     ("length", "waiting", 16),
     ("tag", "waiting", 32),
     ("rule", "rule", 64),
+    ("packets", "class", 64),
+    ("bytes", "class", 64),
 )
 FIELD_NUMBER = {name: number for number, (name, _, _) in enumerate(FIELDS)}
 
@@ -399,6 +447,11 @@ def books(link):
     return "books place %d active %d size %d accounts %s" % (link.place, bits(link.active), link.size, " ".join(accounts))
 
 
+# The totals of each class from the root on, packets/bytes.
+def totals(link):
+    return "totals " + " ".join("%d/%d" % (link.packets[i], link.bytes[i]) for i in range(min(link.count, 63) + 1))
+
+
 # The record and the kept one, both links without classes at first, and the line of each command.
 class Model:
     def __init__(self):
@@ -432,13 +485,17 @@ class Model:
             self.link, line = send(self.link)
         elif word == "books":
             line = books(self.link)
+        elif word == "totals":
+            line = totals(self.link)
+        elif word == "fit":
+            self.link = fit(self.link)
         return line
 
 
 # ---- The text ----
 
 # The commands by their numbers, which are their first bytes.
-WORDS = (None, "case", "plan", "fresh", "arrive", "take", "store", "keep", "back", "sound", "compare", "send", "books")
+WORDS = (None, "case", "plan", "fresh", "arrive", "take", "store", "keep", "back", "sound", "compare", "send", "books", "totals", "fit")
 
 
 class Unreadable(Exception):

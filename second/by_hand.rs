@@ -269,6 +269,7 @@ impl Page {
     fn sent(&mut self, link: &mut Link, leaf: usize) -> String {
         let packet = link.queues[leaf].remove(0);
         let cost = packet.charge();
+        totals::left(link, leaf, cost);
         let (of_leaf, of_root) = (link.accounts[leaf].balance, link.accounts[ROOT].balance);
         link.accounts[leaf].balance = sub(of_leaf, cost);
         link.accounts[ROOT].balance = add(of_root, cost);

@@ -144,19 +144,10 @@ fn link_after(tree: &Tree, events: &[Event]) -> (Link, String) {
     (link, line)
 }
 
-/// The packets and the charged bytes that wait at the leaves at or below a class.
-fn waits_below(link: &Link, class: usize) -> (usize, u64) {
-    let leaves = link.numbers().filter(|&leaf| link.is_above(class, leaf));
-    leaves.fold((0, 0), |(packets, bytes), leaf| {
-        let queue = &link.queues[leaf];
-        (packets + queue.len(), add(bytes, queue.iter().map(Packet::charge).sum()))
-    })
-}
-
 /// The class and its row of the table.
 fn row_of(link: &Link, name: String, class: usize) -> Vec<String> {
     let Account { balance, residual } = link.accounts[class];
-    let (packets, bytes) = waits_below(link, class);
+    let totals::Total { packets, bytes } = link.totals[class];
     let weight = if class == ROOT { String::new() } else { link.tree.classes[class].weight.to_string() };
     let residual = if link.tree.is_leaf(class) { String::new() } else { residual.to_string() };
     let active = if link.active[class] { "yes" } else { "no" };
@@ -219,7 +210,7 @@ fn state(tree: &Tree, events: &[Event], event: usize) -> Vec<String> {
         return vec![format!("The run has {all} events; there is no event {event}.")];
     }
     let (link, line) = link_after(tree, &events[..event]);
-    let (packets, bytes) = waits_below(&link, ROOT);
+    let totals::Total { packets, bytes } = link.totals[ROOT];
     let size = if tree.rule == ACTIVE_CLASSES { format!(", size in force {}", link.in_force) } else { String::new() };
     let mut lines = wrapped(&format!("After event {event} of {all}: {line}"), "  ");
     let moment = format!("Q {}{size}, place {}; waiting: packets {packets}, charged bytes {bytes}", link.size, link.place);

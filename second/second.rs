@@ -3,8 +3,8 @@
 //! It reads a plan and events from standard input and prints the lines of "A whole run"; with the word `long` from input of any length.
 //! It is slow and plain on purpose: every sum is scanned again, every call is followed by a full check.
 //! With words it prints a run worked step by step, for docs/by-hand.md (see by_hand.rs) and for the desk's own runs (see desk.rs), why
-//! leaves are silent (see silent.rs), how far apart two siblings are (see siblings.rs), a plan's bytes written back (see write.rs), or a plan
-//! whose shares don't add up mended (see mend.rs).
+//! leaves are silent (see silent.rs), what waits under each class (see totals.rs), how far apart two siblings are (see siblings.rs), a
+//! plan's bytes written back (see write.rs), or a plan whose shares don't add up mended (see mend.rs).
 //! Build: rustc -O --edition 2021 second.rs; test: rustc -O --edition 2021 --test second.rs -o second_test
 
 #[path = "by_hand.rs"]
@@ -22,6 +22,8 @@ mod random_plans;
 mod siblings;
 #[path = "silent.rs"]
 mod silent;
+#[path = "totals.rs"]
+mod totals;
 #[path = "write.rs"]
 mod write;
 
@@ -58,7 +60,8 @@ impl Packet {
 }
 
 /// The whole state; the vectors are indexed by class number, and a queue's first packet is at position 0.
-/// `size` is Q, the whole-tree size; `in_force` is "the size in force, which a sound state keeps".
+/// `size` is Q, the whole-tree size; `in_force` is "the size in force, which a sound state keeps". "Keep both totals for each class beside
+/// the queues": `totals` has those of all 64 class numbers.
 #[derive(Clone, PartialEq, Eq, Debug)]
 struct Link {
     tree: Tree,
@@ -68,6 +71,7 @@ struct Link {
     active: Vec<bool>,
     place: usize,
     queues: Vec<Vec<Packet>>,
+    totals: Vec<totals::Total>,
 }
 
 /// The answer to a send: "class, length, tag and the number of rounds opened in that call"; the length is bare.
@@ -107,6 +111,7 @@ fn link_without_classes() -> Link {
         active: vec![false],
         place: 0,
         queues: vec![Vec::new()],
+        totals: totals::of_nothing(),
     }
 }
 
@@ -128,6 +133,7 @@ fn fresh_link(tree: &Tree) -> (Link, Option<Refusal>) {
         active: vec![false; all],
         place: LAST_PLACE,
         queues: vec![Vec::new(); all],
+        totals: totals::of_nothing(),
     };
     (link, None)
 }
@@ -143,9 +149,9 @@ impl Link {
         self.accounts.iter().fold(0, |sum, a| add(sum, add(a.balance, a.residual)))
     }
 
-    /// The packets still waiting, in all queues.
-    fn waiting(&self) -> usize {
-        self.queues.iter().map(|queue| queue.len()).sum()
+    /// The packets still waiting, "read from the root's total".
+    fn waiting(&self) -> u64 {
+        self.totals[ROOT].packets
     }
 
     /// The active children of a class, by a scan of all classes.
@@ -215,6 +221,9 @@ impl Link {
                 return Some(rule);
             }
         }
+        if !totals::add_up(self) {
+            return Some("each equals the sum over the leaves at or below it");
+        }
         if self.total() != self.in_force {
             return Some("All B and R add to the size in force");
         }
@@ -270,7 +279,7 @@ impl Link {
 // ---------------------------------------------------------------------------------------------
 // The two calls.
 
-/// An arrival: "Arrival: 11, 12, 13, 14"; a taken packet joins the end of its leaf's queue and nothing else changes.
+/// An arrival: "Arrival: 11, 12, 13, 14"; a taken packet joins the end of its leaf's queue, and nothing else changes but the totals.
 fn arrival(link: &mut Link, class: usize, length: u64, tag: u64) -> Result<(), Refusal> {
     // 11: "the state is not sound"
     if link.broken_rule().is_some() {
@@ -289,7 +298,9 @@ fn arrival(link: &mut Link, class: usize, length: u64, tag: u64) -> Result<(), R
         return refuse(14, class);
     }
     // "first in first out"; the leaf isn't made active here: "A new arrival to such a leaf waits for the next round."
-    link.queues[class].push(Packet { length, tag });
+    let packet = Packet { length, tag };
+    link.queues[class].push(packet);
+    totals::joined(link, class, packet.charge());
     link.assert_sound("an arrival");
     Ok(())
 }
@@ -300,7 +311,8 @@ fn send(link: &mut Link) -> Result<Sent, Refusal> {
     if link.broken_rule().is_some() {
         return refuse(11, 0);
     }
-    // 15: "send, and no packet waits"
+    // 15: "send, and no packet waits"; "read from the root's total and .. given in the same cases as before"
+    assert_eq!(link.waiting() == 0, link.queues.iter().all(Vec::is_empty), "refusal 15 in another case than before");
     if link.waiting() == 0 {
         return refuse(15, 0);
     }
@@ -341,6 +353,7 @@ fn search(link: &mut Link) -> Option<usize> {
 /// Step 1's sending: the leaf loses the charge, "the root's balance gains it, the place becomes that leaf".
 fn send_first(link: &mut Link, leaf: usize) -> Packet {
     let packet = link.queues[leaf].remove(0);
+    totals::left(link, leaf, packet.charge());
     link.accounts[leaf].balance = sub(link.accounts[leaf].balance, packet.charge());
     link.accounts[ROOT].balance = add(link.accounts[ROOT].balance, packet.charge());
     link.place = leaf;
@@ -733,10 +746,10 @@ fn output_of(run: &Run) -> Output {
 
 /// What the words may be.
 const USE: &str =
-    "tables FROM TABLE, waits FROM, worked FROM TO, state EVENT, silent [CLASS ..], silent-each, siblings I J, \
-    write [BYTES] or mend [write]";
+    "tables FROM TABLE, waits FROM, worked FROM TO, state EVENT, silent [CLASS ..], silent-each, totals-each, \
+    siblings I J, write [BYTES] or mend [write]";
 
-/// A run worked by hand, why leaves are silent, two siblings, a plan written back or mended.
+/// A run worked by hand, why leaves are silent, what waits under each class, two siblings, a plan written back or mended.
 fn worked(words: &[String], input: &[u8]) -> Output {
     match words[0].as_str() {
         "worked" | "state" => return Output::of_lines(&desk::answer(words, input)),
@@ -750,6 +763,7 @@ fn worked(words: &[String], input: &[u8]) -> Output {
         ("waits", &[from]) => by_hand::waits(input, from),
         ("silent", classes) => silent::silent(input, classes),
         ("silent-each", []) => silent::silent_each(input),
+        ("totals-each", []) => totals::totals_each(input),
         ("siblings", &[i, j]) => return siblings::program(input, i, j),
         _ => panic!("{USE}"),
     };
@@ -936,7 +950,7 @@ mod tests {
         send(&mut link).unwrap();
         let before = link.clone();
         arrival(&mut link, 4, 10, 5).unwrap();
-        // only the queue changes: leaf 4 waits for the next round
+        // only the queue and the totals change: leaf 4 waits for the next round
         assert_eq!((&link.accounts, &link.active, link.place), (&before.accounts, &before.active, before.place));
         assert_eq!((link.active[4], search(&mut link.clone())), (false, None));
         assert_eq!(sends(&mut link, 2), [(2, 1, vec![false]), (5, 0, vec![])]);

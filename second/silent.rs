@@ -150,7 +150,7 @@ fn send_as_foretold(link: &mut Link, siblings: &mut siblings::Siblings) {
 }
 
 /// Runs plan and events as a run does, shows the state after the plan and after each event, and gives the last one or why the run stops.
-fn each_state(input: &[u8], show: &mut dyn FnMut(&Link)) -> Result<Link, Refusal> {
+pub fn each_state(input: &[u8], show: &mut dyn FnMut(&Link)) -> Result<Link, Refusal> {
     // "The program checks 10 before all else and then runs nothing."
     if input.len() > MOST_INPUT {
         return refuse(10, MOST_INPUT);
@@ -179,7 +179,7 @@ fn each_state(input: &[u8], show: &mut dyn FnMut(&Link)) -> Result<Link, Refusal
 }
 
 /// `stop NUMBER PLACE`, "for 1, 2 or 10 or a refused plan".
-fn stop_line(refusal: Refusal) -> String {
+pub fn stop_line(refusal: Refusal) -> String {
     format!("stop {} {}", refusal.number, refusal.place)
 }
 

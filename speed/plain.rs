@@ -2,9 +2,10 @@
 // on a call. One struct of arrays. Sets of classes are 64-bit numbers: the leaves that a round has still to visit are kept as a set and
 // found by trailing zeros, a class turns off without a walk because each parent keeps the set of its children, and the leaves that hold a
 // packet are kept as a set too. The active set and its weight sums are worked out at an opening only where that last set has changed
-// since the opening before. Permits go down in two passes, inner classes first. Indexes are cut to the arrays' lengths, so that none is
-// checked on the way. Other shapes were tried and were slower: the place in place of the set to visit, lengths and tags apart, the first
-// packet's cost kept, one pass over all classes. It shares no line with the library or with the second program.
+// since the opening before. Permits go down in two passes, inner classes first. What waits below each class is kept as its totals (R276),
+// which each packet changes on its way up, and that nothing waits is read from the root's. Indexes are cut to the arrays' lengths, so that
+// none is checked on the way. Other shapes were tried and were slower: the place in place of the set to visit, lengths and tags apart, the
+// first packet's cost kept, one pass over all classes. It shares no line with the library or with the second program.
 
 const CLASSES: usize = 64;
 const PLACES: usize = 32;
@@ -14,6 +15,13 @@ const PLACES: usize = 32;
 struct Packet {
     length: u16,
     tag: u32,
+}
+
+// What waits at the leaves at or below a class: packets, and their costs.
+#[derive(Clone, Copy)]
+struct Total {
+    packets: u64,
+    bytes: u64,
 }
 
 pub struct Plain {
@@ -40,6 +48,7 @@ pub struct Plain {
     start: [u8; CLASSES],
     held: [u8; CLASSES],
     packets: [Packet; CLASSES * PLACES],
+    totals: [Total; CLASSES],
 }
 
 // What a send gives.
@@ -110,6 +119,7 @@ impl Plain {
             start: [0; CLASSES],
             held: [0; CLASSES],
             packets: [Packet { length: 0, tag: 0 }; CLASSES * PLACES],
+            totals: [Total { packets: 0, bytes: 0 }; CLASSES],
         };
         let mut at = 0;
         loop {
@@ -143,6 +153,19 @@ impl Plain {
         }
     }
 
+    // The totals of a class and of every class above it, the root's last, change alike.
+    #[inline(always)]
+    fn change_up(&mut self, class: usize, change: impl Fn(&mut Total)) {
+        let mut i = class % CLASSES;
+        loop {
+            change(&mut self.totals[i]);
+            if i == 0 {
+                return;
+            }
+            i = self.parent[i] as usize % CLASSES;
+        }
+    }
+
     // An arrival: taken, or the number of its refusal.
     #[inline(always)]
     pub fn arrive(&mut self, class: usize, length: u16, tag: u32) -> Result<(), u32> {
@@ -160,6 +183,11 @@ impl Plain {
         self.packets[at] = Packet { length, tag };
         self.held[class] += 1;
         self.waiting |= 1 << class;
+        let cost = cost(length);
+        self.change_up(class, |total| {
+            total.packets += 1;
+            total.bytes += cost;
+        });
         Ok(())
     }
 
@@ -272,7 +300,7 @@ impl Plain {
         let i = match self.next_leaf() {
             Some(i) => i,
             None => {
-                if self.waiting == 0 {
+                if self.totals[0].packets == 0 {
                     return None;
                 }
                 loop {
@@ -290,6 +318,10 @@ impl Plain {
         self.balance[0] += cost;
         self.start[i] = (self.start[i] + 1) % PLACES as u8;
         self.held[i] -= 1;
+        self.change_up(i, |total| {
+            total.packets -= 1;
+            total.bytes -= cost;
+        });
         if self.held[i] == 0 {
             self.waiting &= !(1 << i);
             self.left &= !(1 << i);
@@ -406,8 +438,7 @@ pub fn text(input: &[u8], out: &mut [u8]) -> usize {
         }
         let Some(room) = out[laid..].first_chunk_mut() else { return 0 };
         let Some((event, next)) = event_at(input, at) else {
-            let waiting = link.held.iter().map(|&held| held as u32).sum();
-            return before + laid + line(room, b"end", [waiting]);
+            return before + laid + line(room, b"end", [link.totals[0].packets as u32]);
         };
         at = next;
         laid += match event {

@@ -61,22 +61,14 @@ fn event_at(input: &[u8], place: usize) -> Event
     }
 }
 
-// The normal end's line.
-fn end_line(link: Link) -> Line
-    ensures { λ r. ⌜ r ≡ lastLine NoMore link ⌝ }
-{
-    let held = link.held;
-    Line::End(run::waiting(&held))
-}
-
 // The last line, of an event that is no call.
 fn last_line(read: EventRead, link: Link) -> Line
     ensures { λ r. ⌜ r ≡ lastLine read link ⌝ }
 {
     match read {
-        EventRead::NoMore => end_line(link),
-        EventRead::Arrive(_) => end_line(link),
-        EventRead::SendNext => end_line(link),
+        EventRead::NoMore => run::end_line(link),
+        EventRead::Arrive(_) => run::end_line(link),
+        EventRead::SendNext => run::end_line(link),
         EventRead::Fault(n, p) => Line::Stop(n as u64, p as u64),
     }
 }

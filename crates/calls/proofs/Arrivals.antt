@@ -7,7 +7,7 @@ use Prim.Native.Nat.{ℕ, _+_, _≤_, _<_}
 use native.Mathlib.Decide.{decLt, ℕ-discrete}
 use native.Mathlib.Omega.{arith}
 use lib.Dec.{leb}
-use lib.ListN.{length, getD, length-append, List·getD-append}
+use lib.ListN.{length, getD, set, length-append, List·getD-append}
 use lib.Seq.{getD-set-same, getD-set-other, getD-at}
 use borrow.Author.Tests.{leb-false, ltb-false, not-false}
 use Rattle.checks.specs.declared.Verdict.{Verdict}
@@ -25,6 +25,7 @@ use Rattle.state.specs.Queue.{Shaped, noPacket, heldOf, queueOf, putLast}
 use Rattle.state.specs.State.{State, meaning, queueAt}
 use Rattle.tree.proofs.Tables.{table-length}
 use Rattle.state.proofs.Queues.{shaped-put}
+use Rattle.state.proofs.Counting.{queues-totals}
 use Rattle.state.proofs.Meaning.{meaning-held, meaning-put}
 use Rattle.sound.specs.Sound.{InRange, HoldsRight, Sound, SoundLink}
 use Rattle.calls.specs.declared.AfterArrival.{AfterArrival}
@@ -176,6 +177,7 @@ arrival-keeps s i p u many sound t = record {
         (sound .behind k v .lacks f a b))
         (sound .behind k v .lacks f a b);
   };
+  totals = queues-totals s (set (s .queues) i (queueAt s i ++ (p ∷ [])));
 }
   where
     inside : i < length (s .queues)
@@ -201,9 +203,10 @@ arrival-keeps s i p u many sound t = record {
     at P k (no ne) new old = rw (there k ne) old
 
 -- the record after it means the state after it, and is sound
-pub arrival-means : (l : Link) (i : ℕ) (p : Packet) → Shaped l → i < 64 → heldOf l i < 32
+pub arrival-means : (l : Link) (i : ℕ) (p : Packet) → Shaped l → SoundLink l → isLeaf (l .tree) i ≡ true → heldOf l i < 32
     → meaning (putLast l i p) ≡ arrived (meaning l) i p
-arrival-means = meaning-put
+arrival-means l i p shape sound leaf room =
+    meaning-put l i p shape (record { rules = sound .state .fits .tree; leaf = leaf; totals = sound .state .totals }) room
 
 -- an accepted arrival's class is one of the 64 class numbers
 pub taken-number : (s : State) (i : ℕ) (p : Packet) → Sound s → firstBroken (arrivalChecks true s i p) ≡ Passed → i < 64
@@ -216,7 +219,7 @@ arrival-sound l i p shape sound e =
     let u = taken-number (meaning l) i p (sound .state) e in
     let room : heldOf l i < 32 = rw (meaning-held l i u) at (t .room) in
     record {
-      state = rw (arrival-means l i p shape u room) (arrival-keeps (meaning l) i p u (table-length (queueOf l) 64) (sound .state) t);
+      state = rw (arrival-means l i p shape sound (t .leaf) room) (arrival-keeps (meaning l) i p u (table-length (queueOf l) 64) (sound .state) t);
       starts = λ k v. record { start = sound .starts k v .start };
     }
 

@@ -11,7 +11,7 @@ use Rattle.checks.proofs.Laws.{not-both, pass-over, decides, exactly-unique}
 use Rattle.state.specs.declared.Link.{Link}
 use Rattle.state.specs.Queue.{Shaped}
 use Rattle.state.specs.State.{meaning}
-use Rattle.state.proofs.Queues.{shaped-take}
+use Rattle.state.proofs.Queues.{shaped-take, shaped-in}
 use Rattle.sound.specs.Sound.{SoundLink}
 use Rattle.rules.specs.Active.{someWaits}
 use Rattle.rules.specs.Sending.{traceOf}
@@ -53,9 +53,10 @@ module _ (l : Link) (shape : Shaped l) (sound : SoundLink l) (waits : someWaits 
   after-shaped : Shaped (departs l (traceOf (meaning l)) .link)
   after-shaped =
       let trace = traceOf (meaning l) in
+      let s = trace .state in
       let wide = trace-wide (meaning l) (sound .state) (meaning-wide l (shape .accounts)) (waits-leaf (meaning l) waits) in
       shaped-take (linkIn l (trace .state)) (trace .class)
-      (record { accounts = wide; start = shape .start; held = shape .held; lengths = shape .lengths; tags = shape .tags })
+      (shaped-in l (s .size) (s .active) (s .place) (s .accounts) shape wide)
 
 module _ (l : Link) (shape : Shaped l) (sound : SoundLink l) where
   pub send-sound : SoundLink (sendOf true l .link)

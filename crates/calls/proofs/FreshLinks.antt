@@ -1,10 +1,11 @@
 -- Laws of a fresh link: it is sound; the link without classes is not; the contract determines the answer. Demand 1.
 use mathlib.Core.Bool.{Bool}
+use mathlib.Core.List.{[]}
 use mathlib.Core.Path.{_≡_, refl, sym, ap, _∙_}
 use Prim.Native.Nat.{ℕ, zero, _≤_, _<_}
-use native.Mathlib.Decide.{ℕ-discrete}
+use native.Mathlib.Decide.{decLt, ℕ-discrete}
 use native.Mathlib.Omega.{arith}
-use lib.ListN.{length, replicate, length-replicate, getD-replicate}
+use lib.ListN.{length, replicate, length-replicate, getD-replicate, List·getD-eq-default}
 use lib.Seq.{getD-set-same, getD-set-other}
 use Rattle.checks.specs.declared.Verdict.the-variants.{Refused}
 use Rattle.checks.proofs.Laws.{not-true-and-false, exactly-unique}
@@ -13,12 +14,16 @@ use Rattle.tree.specs.declared.Tree.{Tree}
 use Rattle.tree.specs.Rules.{noClass, PlanRules}
 use Rattle.tree.specs.Size.{roundSize}
 use Rattle.tree.proofs.Sums.{sum-zero}
+use Rattle.tree.proofs.Leaves.{leaves-none}
 use Rattle.state.specs.declared.Account.{Account}
 use Rattle.state.specs.declared.Packet.{Packet}
 use Rattle.state.specs.Account.{account, noAccount, accountOf, fundsOf}
-use Rattle.state.specs.State.{meaning, queueAt, freshLink, noLink}
-use Rattle.state.proofs.Meaning.{meaning-held, fresh-queues}
+use Rattle.tree.specs.Sum.{table}
+use Rattle.state.specs.Queue.{queueOf, bytesIn}
+use Rattle.state.specs.State.{meaning, queueAt, TotalsRight, freshLink, noLink}
+use Rattle.state.proofs.Meaning.{meaning-queue, meaning-held, fresh-queues}
 use Rattle.state.proofs.Queues.{queue-length}
+use Rattle.tree.proofs.Tables.{table-length}
 use Rattle.sound.specs.Sound.{total, SoundLink}
 use Rattle.calls.specs.declared.AfterFresh.{AfterFresh}
 use Rattle.calls.specs.declared.AfterArrival.{AfterArrival}
@@ -38,6 +43,26 @@ module _ (t : Tree) where
 
   nothing-held : (i : ℕ) → i < 64 → length (queueAt (meaning (freshLink t)) i) ≡ 0
   nothing-held i u = meaning-held (freshLink t) i u ∙ sym (queue-length (freshLink t) i) ∙ ap length (fresh-queues t i)
+
+  -- nothing waits, and nothing is counted
+  nothing-waits : (i : ℕ) → queueAt (meaning (freshLink t)) i ≡ []
+  nothing-waits i = go (decLt i 64)
+    where
+      go : Dec (i < 64) → queueAt (meaning (freshLink t)) i ≡ []
+      go (yes u) = meaning-queue (freshLink t) i u ∙ fresh-queues t i
+      go (no u) =
+          List·getD-eq-default (table (queueOf (freshLink t)) 64) [] {n = i} (omega (arith, table-length (queueOf (freshLink t)) 64))
+
+  fresh-totals : (i : ℕ) → i < 64 → TotalsRight (meaning (freshLink t)) i
+  unfolding bytesIn
+  fresh-totals i u = record {
+    packets =
+        getD-replicate {A = ℕ} 64 i 0 0 u
+        ∙ sym (leaves-none t (λ j. length (queueAt (meaning (freshLink t)) j)) i (λ j. ap length (nothing-waits j)));
+    bytes =
+        getD-replicate {A = ℕ} 64 i 0 0 u
+        ∙ sym (leaves-none t (λ j. bytesIn (queueAt (meaning (freshLink t)) j)) i (λ j. ap bytesIn (nothing-waits j)));
+  }
 
   fresh-total : total (freshLink t .accounts) ≡ roundSize t
   unfolding total
@@ -75,6 +100,7 @@ fresh-sound t rules = record {
         adds = record { adds = fresh-total t };
         place = record { low = omega arith; high = omega arith };
         behind = λ i u. record { lacks = λ f a b. absurd (not-true-and-false a (has-empty i)) };
+        totals = fresh-totals t;
       };
   starts = λ i u. record { start = omega (arith, getD-replicate {A = ℕ} 64 i 0 0 u) };
 }

@@ -4,3 +4,4 @@ pub mod Departures
 pub mod FreshLinks
 pub mod Progress
 pub mod Runs
+pub mod Panels

@@ -38,9 +38,10 @@ module _ (l : Link) (i : ℕ) (p : Packet) (a : AfterArrival) (sound : SoundLink
   pub left-taken : firstBroken (arrivalChecks true (meaning l) i p) ≡ Passed → meaning (a .link) ≡ arrived (meaning l) i p
   left-taken e =
       let u = taken-number (meaning l) i p (sound .state) e in
-      let room : heldOf l i < 32 = omega (arith, meaning-held l i u, taken true (meaning l) i p e .room) in
+      let t = taken true (meaning l) i p e in
+      let room : heldOf l i < 32 = omega (arith, meaning-held l i u, t .room) in
       ap (λ (r : AfterArrival). meaning (r .link)) (arrives-as l i p a sound x ∙ arrival-taken true l i p e)
-      ∙ arrival-means l i p (x .shape) u room
+      ∙ arrival-means l i p (x .shape) sound (t .leaf) room
 
 -- a send while a packet waits is its trace, and leaves a link that means the trace's state
 module _ (l : Link) (d : AfterSend) (sound : SoundLink l) (x : Sends l d) (waits : someWaits (meaning l) ≡ true) where

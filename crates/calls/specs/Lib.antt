@@ -4,3 +4,4 @@ pub mod Arrival
 pub mod Send
 pub mod Progress
 pub mod Run
+pub mod Panel

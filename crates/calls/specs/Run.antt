@@ -3,13 +3,12 @@
 use mathlib.Core.Bool.{Bool}
 use mathlib.Core.List.{List, [], _∷_, _++_, map}
 use Prim.Native.Nat.{ℕ}
-use lib.ListN.{length}
+use lib.ListN.{getD}
 use Rattle.checks.specs.declared.Verdict.{Verdict}
 use Rattle.checks.specs.declared.Verdict.the-variants.{Passed, Refused}
-use Rattle.tree.specs.Sum.{sumTo}
 use Rattle.state.specs.declared.Link.{Link}
 use Rattle.state.specs.declared.Packet.{Packet}
-use Rattle.state.specs.State.{State, meaning, queueAt}
+use Rattle.state.specs.State.{State, meaning}
 use Rattle.rules.specs.Sending.{Turn, traceOf}
 use Rattle.calls.specs.declared.Arrival.{Arrival}
 use Rattle.calls.specs.declared.Departure.{Departure}
@@ -81,9 +80,9 @@ unfoldable pub lastLink : Link → List Made → Link
 lastLink l [] = l
 lastLink l (m ∷ ms) = lastLink (linkLeft m) ms
 
--- the packets still waiting in a state (R193)
-unfoldable pub waitingIn : State → ℕ
-waitingIn s = sumTo (λ i. length (queueAt s i)) 63
+-- the packets still waiting in a state: the root's total (R193; in a sound one those of all queues: `root-counts`, rules/proofs/Counted)
+abbrev pub waitingIn : State → ℕ
+waitingIn s = getD (s .totals .packets) 0 0
 
 -- ---- a run of the library
 

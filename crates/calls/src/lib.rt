@@ -2,6 +2,8 @@
 // calls stand in `link`. Serves demands 1 and 2.
 use checks::Verdict;
 use state::Link;
+use state::Totals;
+use units::Bytes;
 
 // What a fresh link asked of a tree gives: a verdict and the link.
 pub struct AfterFresh {
@@ -34,4 +36,17 @@ pub struct Departure {
 pub struct AfterSend {
     pub answer: Departure,
     pub link: Link,
+}
+
+// What the panel is told of a link: a verdict, and the totals of every class number, all 0 where it is refused.
+pub struct PanelTotals {
+    pub verdict: Verdict,
+    pub totals: Totals,
+}
+
+// And of one class number.
+pub struct ClassTotals {
+    pub verdict: Verdict,
+    pub packets: u64,
+    pub bytes: Bytes,
 }

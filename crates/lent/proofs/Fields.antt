@@ -41,6 +41,7 @@ use Rattle.units.specs.declared.Bytes.{Bytes}
 use Rattle.tree.specs.declared.Tree.{Tree}
 use Rattle.state.specs.declared.Account.{Account}
 use Rattle.state.specs.declared.Link.{Link}
+use Rattle.state.specs.declared.Totals.{Totals}
 use Rattle.state.specs.State.{linkOf}
 use Rattle.tree.proofs.Tree as T
 use Rattle.tree.proofs.Tree.Laws as T′
@@ -48,6 +49,8 @@ use Rattle.units.proofs.Bytes as B
 use Rattle.units.proofs.Bytes.Laws as B′
 use Rattle.state.proofs.Account as C
 use Rattle.state.proofs.Account.Laws as C′
+use Rattle.state.proofs.Totals as Q
+use Rattle.state.proofs.Totals.Laws as Q′
 use Rattle.state.proofs.Link as L
 use Rattle.state.proofs.Link.Laws as L′
 use Rattle.lent.proofs.Lends.{lval, Known}
@@ -88,6 +91,7 @@ same xs = map (λ v. v) xs
 abbrev pub handed : Link → Link
 handed h =
     linkOf (h .tree) (h .size) (h .active) (h .place) (h .accounts) (same (h .start)) (same (h .held)) (same (h .lengths)) (same (h .tags))
+    (h .totals)
 
 pub as-held : (h : Link) → handed h ≡ h
 as-held h = λ i. record {
@@ -100,21 +104,25 @@ as-held h = λ i. record {
   held = map-id (h .held) i;
   lengths = map-id (h .lengths) i;
   tags = map-id (h .tags) i;
+  totals = h .totals;
 }
 
 -- what a call over parts takes by value before all else, a record's fields but for its waiting places; and their machine values
-abbrev pub small : {R : Type 0} → Link → R → Tree × (Bytes × (ℕ × (ℕ × (List Account × (List ℕ × (List ℕ × R))))))
-small h rest = (h .tree, (h .size, (h .active, (h .place, (h .accounts, (same (h .start), (same (h .held), rest)))))))
+abbrev pub small : {R : Type 0} → Link → R → Tree × (Bytes × (ℕ × (ℕ × (List Account × (List ℕ × (List ℕ × (Totals × R)))))))
+small h rest = (h .tree, (h .size, (h .active, (h .place, (h .accounts, (same (h .start), (same (h .held), (h .totals, rest))))))))
 
 abbrev pub small-vals : {R : Type 0} → Link → R
-    → List Val × (List Val × (List Val × (List Val × (List Val × (List Val × (List Val × R))))))
+    → List Val × (List Val × (List Val × (List Val × (List Val × (List Val × (List Val × (List Val × R)))))))
 small-vals h rest = (
   val-at 0 (h .tree) ∷ [],
   (
     val-at 1 (h .size) ∷ [],
     (
       val-at 2 (h .active) ∷ [],
-      (val-at 3 (h .place) ∷ [], (val-at 4 (h .accounts) ∷ [], (val-at 5 (h .start) ∷ [], (val-at 6 (h .held) ∷ [], rest)))),
+      (
+        val-at 3 (h .place) ∷ [],
+        (val-at 4 (h .accounts) ∷ [], (val-at 5 (h .start) ∷ [], (val-at 6 (h .held) ∷ [], (val-at 9 (h .totals) ∷ [], rest)))),
+      ),
     ),
   ),
 )
@@ -122,13 +130,14 @@ small-vals h rest = (
 abbrev field-types : Tys
 field-types =
     tcons (rawTy (type-at 0)) (tcons (rawTy (type-at 1)) (tcons (rawTy (type-at 2)) (tcons (rawTy (type-at 3)) (tcons (rawTy (type-at 4))
-    (tcons (rawTy (type-at 5)) (tcons (rawTy (type-at 6)) (tcons (rawTy (type-at 7)) (tcons (rawTy (type-at 8)) tnil))))))))
+    (tcons (rawTy (type-at 5)) (tcons (rawTy (type-at 6)) (tcons (rawTy (type-at 7)) (tcons (rawTy (type-at 8)) (tcons (rawTy (type-at 9)) tnil)))))))))
 
 abbrev values : Link → Vals
 values h =
     vcons (val-at 0 (h .tree)) (vcons (val-at 1 (h .size)) (vcons (val-at 2 (h .active)) (vcons (val-at 3 (h .place))
     (vcons (val-at 4 (h .accounts))
-    (vcons (val-at 5 (h .start)) (vcons (val-at 6 (h .held)) (vcons (val-at 7 (h .lengths)) (vcons (val-at 8 (h .tags)) vnil))))))))
+    (vcons (val-at 5 (h .start)) (vcons (val-at 6 (h .held)) (vcons (val-at 7 (h .lengths)) (vcons (val-at 8 (h .tags))
+    (vcons (val-at 9 (h .totals)) vnil)))))))))
 
 module _ {M : Type 1} (𝓤 : URA M) (H : Heap 𝓤) (A : Atoms 𝓤) (W : Given 𝓤 H A) where
   pub typed : (k : ℕ) (x : FieldAt (L.the-type .parts) k .Value) → Fits k x
@@ -160,27 +169,29 @@ module _ {M : Type 1} {𝓤 : URA M} {H : Heap 𝓤} {A : Atoms 𝓤} {K : Type 
       (‵ (cell 0 0 b o (val-at 0 (h .tree))) ∷ ‵ (cell 1 472 b o (val-at 1 (h .size))) ∷ ‵ (cell 2 480 b o (val-at 2 (h .active)))
       ∷ ‵ (cell 3 488 b o (val-at 3 (h .place))) ∷ ‵ (cell 4 496 b o (val-at 4 (h .accounts)))
       ∷ ‵ (cell 5 1_520 b o (val-at 5 (h .start))) ∷ ‵ (cell 6 1_584 b o (val-at 6 (h .held)))
-      ∷ ‵ (cell 7 1_648 b o (val-at 7 (h .lengths))) ∷ ‵ (cell 8 5_744 b o (val-at 8 (h .tags))) ∷ raw (Way 𝓤 H b o) ∷ Γ) G
+      ∷ ‵ (cell 7 1_648 b o (val-at 7 (h .lengths))) ∷ ‵ (cell 8 5_744 b o (val-at 8 (h .tags)))
+      ∷ ‵ (cell 9 13_936 b o (val-at 9 (h .totals))) ∷ raw (Way 𝓤 H b o) ∷ Γ) G
       (‵ (cellAt fullShare (L.the-row .mir) (lval h ∷ []) b o) ∷ Γ) G
   apart t h b o = step (λ s.
       use1 W ((‵ (cell 0 0 b o (val-at 0 (h .tree))) ⊛ ‵ (cell 1 472 b o (val-at 1 (h .size))) ⊛ ‵ (cell 2 480 b o (val-at 2 (h .active)))
       ⊛ ‵ (cell 3 488 b o (val-at 3 (h .place))) ⊛ ‵ (cell 4 496 b o (val-at 4 (h .accounts)))
       ⊛ ‵ (cell 5 1_520 b o (val-at 5 (h .start))) ⊛ ‵ (cell 6 1_584 b o (val-at 6 (h .held)))
-      ⊛ ‵ (cell 7 1_648 b o (val-at 7 (h .lengths))) ⊛ ‵ (cell 8 5_744 b o (val-at 8 (h .tags))) ⊛ ‵ ftrue) ⊛ raw (Way 𝓤 H b o))
+      ⊛ ‵ (cell 7 1_648 b o (val-at 7 (h .lengths))) ⊛ ‵ (cell 8 5_744 b o (val-at 8 (h .tags)))
+      ⊛ ‵ (cell 9 13_936 b o (val-at 9 (h .totals))) ⊛ ‵ ftrue) ⊛ raw (Way 𝓤 H b o))
       (W .laws .at-fields fullShare [] field-types b o (values h)) $
       split t $ split t $ move t (1 ∷ []) $ split t $ move t (1 ∷ []) $ split t $ move t (1 ∷ []) $ split t $ move t (1 ∷ []) $ split t $
       move t (1 ∷ []) $
-      split t $ move t (1 ∷ []) $ split t $ move t (1 ∷ []) $ split t $ move t (1 ∷ []) $ split t $ move t (1 ∷ []) $ drop t $
-      move t (8 ∷ 7 ∷ 6 ∷ 5 ∷ 4 ∷ 3 ∷ 2 ∷ 1 ∷ 0 ∷ []) $ s)
+      split t $ move t (1 ∷ []) $ split t $ move t (1 ∷ []) $ split t $ move t (1 ∷ []) $ split t $ move t (1 ∷ []) $ split t $ move t (1 ∷ []) $ drop t $
+      move t (9 ∷ 8 ∷ 7 ∷ 6 ∷ 5 ∷ 4 ∷ 3 ∷ 2 ∷ 1 ∷ 0 ∷ []) $ s)
 
   pub together : K → (m : Link) (b o : ℕ)
       → Step K W (‵ (cellAt fullShare (L.the-row .mir) (lval m ∷ []) b o) ∷ Γ) G
       (‵ (cell 0 0 b o (val-at 0 (m .tree))) ∷ ‵ (cell 1 472 b o (val-at 1 (m .size))) ∷ ‵ (cell 2 480 b o (val-at 2 (m .active)))
       ∷ ‵ (cell 3 488 b o (val-at 3 (m .place))) ∷ ‵ (cell 4 496 b o (val-at 4 (m .accounts))) ∷ ‵ (cell 5 1_520 b o (val-at 5 (m .start)))
       ∷ ‵ (cell 6 1_584 b o (val-at 6 (m .held))) ∷ ‵ (cell 7 1_648 b o (val-at 7 (m .lengths))) ∷ ‵ (cell 8 5_744 b o (val-at 8 (m .tags)))
-      ∷ raw (Way 𝓤 H b o) ∷ Γ) G
+      ∷ ‵ (cell 9 13_936 b o (val-at 9 (m .totals))) ∷ raw (Way 𝓤 H b o) ∷ Γ) G
   together t m b o = step (λ s.
-      nothing t $ move t (9 ∷ 0 ∷ []) $ join t $ move t (8 ∷ 0 ∷ []) $ join t $ move t (7 ∷ 0 ∷ []) $ join t $ move t (6 ∷ 0 ∷ []) $
+      nothing t $ move t (10 ∷ 0 ∷ []) $ join t $ move t (9 ∷ 0 ∷ []) $ join t $ move t (8 ∷ 0 ∷ []) $ join t $ move t (7 ∷ 0 ∷ []) $ join t $ move t (6 ∷ 0 ∷ []) $
       join t $ move t (5 ∷ 0 ∷ []) $ join t $
       move t (4 ∷ 0 ∷ []) $ join t $ move t (3 ∷ 0 ∷ []) $ join t $ move t (2 ∷ 0 ∷ []) $ join t $ move t (1 ∷ 0 ∷ []) $ join t $
       use2 W (‵ (cellAt fullShare (L.the-row .mir) (lval m ∷ []) b o)) (way-back 𝓤 H b o (values m)) $ s)
@@ -272,6 +283,30 @@ module _ {M : Type 1} {𝓤 : URA M} {H : Heap 𝓤} {A : Atoms 𝓤} {K : Type 
       learn t (λ isy. move t (1 ∷ 0 ∷ []) $ k isx isy))
 
 module _ {M : Type 1} {𝓤 : URA M} {H : Heap 𝓤} {A : Atoms 𝓤} {K : Type 0} {W : Given 𝓤 H A} {Γ : List (Item 𝓤)} {G : Goal 𝓤 H} where
+  -- the lengths alone lent as `&`
+  pub lengths-shared : K → Soaks G → (xs : List ℕ) (b o : ℕ) → Fits 7 xs
+      → ((α : ℕ) (γ : GName) → Seq K W
+      (‵ (flft (α ∷ []) fullShare) ∷ ‵ (shr-lengths b o α γ (same xs)) ∷ ‵ (flent (α ∷ []) (lengths-at b o (same xs))) ∷ Γ) G)
+      → Seq K W (‵ (cell 7 1_648 b o (val-at 7 xs)) ∷ Γ) G
+  lengths-shared t z xs b o isx k =
+      use1 W (‵ (lengths-at b o (same xs)))
+      (lies 𝓤 H A W Lengths (same xs) b (o + 1_648) (array-makes 𝓤 H A W u16 (uint-makes 𝓤 H A W w16) 2_048) (val-at 7 xs) isx) $
+      lft-new t z (λ α. move t (1 ∷ []) $
+      use1 W (later (some (λ (γ : GName). ‵ (shr-lengths b o α γ (same xs)) ⊛ ‵ (flent (α ∷ []) (lengths-at b o (same xs))))))
+      (lends-shr 𝓤 H A W Lengths (named 0) (α ∷ []) fullShare (same xs) b (o + 1_648)) $
+      await t z $ pick t (λ γ. split t $ move t (2 ∷ 0 ∷ 1 ∷ []) $ k α γ))
+
+  -- and taken back, as they were
+  pub lengths-unshared : K → Soaks G → (xs : List ℕ) (b o : ℕ) {α : ℕ}
+      → Step K W (‵ (cell 7 1_648 b o (val-at 7 xs)) ∷ Γ) G
+      (‵ (flft (α ∷ []) fullShare) ∷ ‵ (flent (α ∷ []) (lengths-at b o (same xs))) ∷ Γ) G
+  lengths-unshared t z xs b o {α} = step (λ s.
+      lft-end t z $ lent-back t z $
+      use1 W (given (Fits 7 xs) (‵ (cell 7 1_648 b o (val-at 7 xs))))
+      (lay 𝓤 H A W Lengths (same xs) b (o + 1_648) lengths-vals (lawAt (L.the-type .parts) L′.the-laws 7 .tells)) $
+      learn t (λ isx. s))
+
+module _ {M : Type 1} {𝓤 : URA M} {H : Heap 𝓤} {A : Atoms 𝓤} {K : Type 0} {W : Given 𝓤 H A} {Γ : List (Item 𝓤)} {G : Goal 𝓤 H} where
   -- lent as `&`
   pub shared : K → Soaks G → (xs ys : List ℕ) (b o : ℕ) → Fits 7 xs → Fits 8 ys
       → ((α : ℕ) (γ δ : GName) → Seq K W
@@ -326,11 +361,13 @@ module _ {M : Type 1} {𝓤 : URA M} {H : Heap 𝓤} {A : Atoms 𝓤} {K : Type 
       (fsep (u64 .own (h .active) (val-at 2 (h .active) ∷ [])) (fsep (usize .own (h .place) (val-at 3 (h .place) ∷ []))
       (fsep (Accounts .own (h .accounts) (val-at 4 (h .accounts) ∷ []))
       (fsep (Array u8 64 .own (same (h .start)) (val-at 5 (h .start) ∷ []))
-      (fsep (Array u8 64 .own (same (h .held)) (val-at 6 (h .held) ∷ [])) X))))))) ∷ Γ) G
+      (fsep (Array u8 64 .own (same (h .held)) (val-at 6 (h .held) ∷ []))
+      (fsep (Q.the-row .own (h .totals) (val-at 9 (h .totals) ∷ [])) X)))))))) ∷ Γ) G
       (‵ X ∷ Γ) G
   by-value t h is = step (λ s.
       let ps = parts-of h is in
       let bytes = array-makes 𝓤 H A W u8 (uint-makes 𝓤 H A W w8) 64 in
+      owned t Q.the-row (Is Q.the-row) (LL.makes Q.the-type Q′.the-plain 𝓤 H A) (h .totals) _ (ps .1 .1 .1 .1 .1 .1 .1 .1 .1 .0) $ fjoin t $
       owned t (Array u8 64) (Is (Array u8 64)) bytes (same (h .held)) _ (ps .1 .1 .1 .1 .1 .1 .0) $ fjoin t $
       owned t (Array u8 64) (Is (Array u8 64)) bytes (same (h .start)) _ (ps .1 .1 .1 .1 .1 .0) $ fjoin t $
       owned t Accounts (Is Accounts) (array-makes 𝓤 H A W C.the-row (LL.makes C.the-type C′.the-plain 𝓤 H A) 64) (h .accounts) _

@@ -1,10 +1,14 @@
-// The box's loop keeps one link record and lends it to both calls (R164): an arrival and a send behind `&mut`. Entries for callers
-// outside: they ask nothing.
+// The box's loop keeps one link record and lends it to both calls (R164): an arrival and a send behind `&mut`; and to what the panel asks
+// (R280 to R282). Entries for callers outside: they ask nothing.
 // Serves demands 1 and 2: the answer and the record at exit are those of the calls by value, by the same definitions.
+ghost use mathlib.Core.Path.{_≡_};
 ghost use Rattle.calls.specs.Arrival.{arrivalLeaves, Arrives};
+ghost use Rattle.calls.specs.Panel.{TellsTotals, TellsClass};
 ghost use Rattle.calls.specs.Send.{sendLeaves, Sends};
 use link::Arrival;
+use link::ClassTotals;
 use link::Departure;
+use link::PanelTotals;
 use state::Link;
 use state::Packet;
 
@@ -20,12 +24,14 @@ pub fn arrive(link: &mut Link, class: usize, packet: Packet) -> Arrival
         link.accounts,
         link.start,
         link.held,
+        link.totals,
         &mut link.lengths,
         &mut link.tags,
         class,
         packet,
     );
     link.held = placed.held;
+    link.totals = placed.totals;
     placed.answer
 }
 
@@ -41,6 +47,7 @@ pub fn send(link: &mut Link) -> Departure
         link.accounts,
         link.start,
         link.held,
+        link.totals,
         &link.lengths,
         &link.tags,
     );
@@ -50,5 +57,41 @@ pub fn send(link: &mut Link) -> Departure
     link.start = went.start;
     link.held = went.held;
     link.size = went.size;
+    link.totals = went.totals;
     went.answer
+}
+
+// What the panel is told of a lent link: every class number's totals. The record stays as it is.
+pub fn totals(link: &mut Link) -> PanelTotals
+    ensures { λ r. ⌜ TellsTotals (now (link .entry)) r × (now (link .exit) ≡ now (link .entry)) ⌝ }
+{
+    link::totals_of(
+        link.tree,
+        link.size,
+        link.active,
+        link.place,
+        link.accounts,
+        link.start,
+        link.held,
+        link.totals,
+        &link.lengths,
+    )
+}
+
+// And of one class number, any number.
+pub fn class_totals(link: &mut Link, class: usize) -> ClassTotals
+    ensures { λ r. ⌜ TellsClass (now (link .entry)) class r × (now (link .exit) ≡ now (link .entry)) ⌝ }
+{
+    link::class_totals_of(
+        link.tree,
+        link.size,
+        link.active,
+        link.place,
+        link.accounts,
+        link.start,
+        link.held,
+        link.totals,
+        &link.lengths,
+        class,
+    )
 }

@@ -1,2 +1,3 @@
 -- Laws of the calls over the parts of a link.
 pub mod OverParts
+pub mod Told

@@ -46,13 +46,15 @@ sends-whole l r shape x = sends-by l (x .sound) (sendLeaves (r .answer) (changed
 pub send-parts-one-answer : (l : Link) (r s : Changed) → SendsIn l r → SendsIn l s → r ≡ s
 send-parts-one-answer l r s x y =
     ap
-    (λ (a : AfterSend). changedTo (a .answer) (a .link .active) (a .link .place) (a .link .accounts) (a .link .start) (a .link .held) (a .link .size))
+    (λ (a : AfterSend). changedTo (a .answer) (a .link .active) (a .link .place) (a .link .accounts) (a .link .start) (a .link .held) (a .link .size)
+    (a .link .totals))
     (x .gives ∙ ap (λ (b : Bool). sendOf b l) (exactly-unique (x .exactly) (y .exactly)) ∙ sym (y .gives))
 
 module _ (l : Link) (flag : Bool) (exactly : Exactly flag (SoundLink l)) (r : Changed) where
   -- a refused send changes no part
   pub stays-sends : (n : ℕ) → sendOf flag l ≡ sendGives (Refused n 0) l
-      → r ≡ changedTo (refusedSend (Refused n 0)) (l .active) (l .place) (l .accounts) (l .start) (l .held) (l .size) → SendsIn l r
+      → r ≡ changedTo (refusedSend (Refused n 0)) (l .active) (l .place) (l .accounts) (l .start) (l .held) (l .size) (l .totals)
+      → SendsIn l r
   stays-sends n gives said = record {
     sound = flag;
     exactly = exactly;

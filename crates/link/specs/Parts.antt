@@ -1,18 +1,23 @@
 -- What the calls over the parts of a link say: the rules of a call on the link that the parts make up; no rule of its own. Demands 1 and 2.
-use mathlib.Core.Bool.{Bool}
+use mathlib.Core.Bool.{Bool, cond}
 use mathlib.Core.List.{List}
 use mathlib.Core.Path.{_≡_}
 use Prim.Native.Nat.{ℕ}
+use lib.Dec.{ltb}
+use lib.ListN.{getD}
 use Rattle.checks.specs.Check.{Exactly}
 use Rattle.units.specs.declared.Bytes.{Bytes}
 use Rattle.state.specs.declared.Account.{Account}
 use Rattle.state.specs.declared.Link.{Link}
 use Rattle.state.specs.declared.Packet.{Packet}
-use Rattle.state.specs.Queue.{queued}
+use Rattle.state.specs.declared.Totals.{Totals}
+use Rattle.state.specs.Queue.{queued, withTotals}
 use Rattle.state.specs.State.{linkInRound}
 use Rattle.steps.specs.declared.Moved.{Moved}
 use Rattle.calls.specs.declared.Arrival.{Arrival}
 use Rattle.calls.specs.declared.Departure.{Departure}
+use Rattle.calls.specs.declared.PanelTotals.{PanelTotals}
+use Rattle.calls.specs.declared.ClassTotals.{ClassTotals}
 use Rattle.link.specs.declared.Changed.{Changed}
 use Rattle.sound.specs.Sound.{SoundLink}
 use Rattle.calls.specs.Arrival.{arrivalLeaves, arrivalOf}
@@ -24,8 +29,8 @@ pub record ArrivesIn (l : Link) (class : ℕ) (p : Packet) (answer : Arrival) (a
   pub exactly : Exactly sound (SoundLink l)
   pub gives : arrivalLeaves answer after ≡ arrivalOf sound l class p
 
-abbrev pub changedTo : Departure → ℕ → ℕ → List Account → List ℕ → List ℕ → Bytes → Changed
-changedTo answer active place accounts start held size = record {
+abbrev pub changedTo : Departure → ℕ → ℕ → List Account → List ℕ → List ℕ → Bytes → Totals → Changed
+changedTo answer active place accounts start held size totals = record {
   answer = answer;
   active = active;
   place = place;
@@ -33,18 +38,29 @@ changedTo answer active place accounts start held size = record {
   start = start;
   held = held;
   size = size;
+  totals = totals;
 }
 
 -- a packet that goes, and the parts of the link after it
 abbrev pub goesBy : Moved → Changed
-goesBy m = changedTo (goes (m .class) (m .packet) (m .rounds)) (m .active) (m .place) (m .accounts) (m .start) (m .held) (m .size)
+goesBy m =
+    changedTo (goes (m .class) (m .packet) (m .rounds)) (m .active) (m .place) (m .accounts) (m .start) (m .held) (m .size) (m .totals)
 
 -- the link with the parts that a send may change
 abbrev pub changedLink : Link → Changed → Link
-changedLink l r = queued (linkInRound l (r .size .0) (r .active) (r .place) (r .accounts)) (r .start) (r .held) (l .lengths) (l .tags)
+changedLink l r =
+    withTotals (queued (linkInRound l (r .size .0) (r .active) (r .place) (r .accounts)) (r .start) (r .held) (l .lengths) (l .tags)) (r .totals)
 
 -- a send over the parts of a link
 pub record SendsIn (l : Link) (r : Changed) : Type 0 where
   pub sound : Bool
   pub exactly : Exactly sound (SoundLink l)
   pub gives : sendLeaves (r .answer) (changedLink l r) ≡ sendOf sound l
+
+-- one class number's totals, out of what the panel is told of all
+abbrev pub classIn : PanelTotals → ℕ → ClassTotals
+classIn told i = record {
+  verdict = told .verdict;
+  packets = cond (ltb 63 i) 0 (getD (told .totals .packets) i 0);
+  bytes = record { 0 = cond (ltb 63 i) 0 (getD (told .totals .bytes) i 0) };
+}

@@ -7,26 +7,33 @@ pub use calls::AfterArrival;
 pub use calls::AfterFresh;
 pub use calls::AfterSend;
 pub use calls::Arrival;
+pub use calls::ClassTotals;
 pub use calls::Departure;
+pub use calls::PanelTotals;
+ghost use mathlib.Core.List.{List};
 ghost use mathlib.Core.Path.{_≡_};
+ghost use Prim.Native.Nat.{ℕ};
 ghost use Rattle.calls.specs.Fresh.{MakesFresh};
 ghost use Rattle.calls.specs.Arrival.{Arrives};
+ghost use Rattle.calls.specs.Panel.{TellsTotals, TellsClass};
 ghost use Rattle.checks.specs.declared.Verdict.the-variants.{Refused};
 ghost use Rattle.state.specs.State.{linkOf};
 ghost use Rattle.calls.specs.Send.{refusedSend, Sends};
-ghost use Rattle.link.specs.Parts.{ArrivesIn, changedTo, goesBy, SendsIn};
+ghost use Rattle.link.specs.Parts.{ArrivesIn, changedTo, goesBy, SendsIn, classIn};
 use checks::Verdict;
 use state::Account;
 use state::Link;
 use state::Packet;
+use state::Totals;
 use steps::Moved;
 use tree::Tree;
 use units::Bytes;
 
-// An arrival over the parts of a link: the packets held after it, and its answer. The answer stands last, here and below: the walks of the
-// lent entries count bytes, and no other place moves when it gets a field.
+// An arrival over the parts of a link: the packets held and the totals after it, and its answer. The answer stands last, here and below: the
+// walks of the lent entries count bytes, and no other place moves when it gets a field.
 pub struct Placed {
     pub held: [u8; Link::CLASSES],
+    pub totals: Totals,
     pub answer: Arrival,
 }
 
@@ -38,6 +45,7 @@ pub struct Changed {
     pub start: [u8; Link::CLASSES],
     pub held: [u8; Link::CLASSES],
     pub size: Bytes,
+    pub totals: Totals,
     pub answer: Departure,
 }
 
@@ -64,30 +72,48 @@ pub fn arrive_in<'a>(
     accounts: [Account; Link::CLASSES],
     start: [u8; Link::CLASSES],
     held: [u8; Link::CLASSES],
+    totals: Totals,
     lengths: &'a mut [u16; 2048],
     tags: &'a mut [u32; 2048],
     class: usize,
     packet: Packet,
 ) -> Placed
-    ensures { λ r. ⌜ ArrivesIn (linkOf tree size active place accounts start held (now (lengths .entry)) (now (tags .entry))) class packet
-        (r .answer) (linkOf tree size active place accounts start (r .held) (now (lengths .exit)) (now (tags .exit))) ⌝ }
+    ensures { λ r. ⌜ ArrivesIn (linkOf tree size active place accounts start held (now (lengths .entry)) (now (tags .entry)) totals) class packet
+        (r .answer) (linkOf tree size active place accounts start (r .held) (now (lengths .exit)) (now (tags .exit)) (r .totals)) ⌝ }
 {
-    let sound = sound::is_sound_of(tree, size, active, place, accounts, start, held, lengths);
+    let sound = sound::is_sound_of(
+        tree,
+        size,
+        active,
+        place,
+        accounts,
+        start,
+        held,
+        lengths,
+        totals,
+    );
+    let parent = tree.parent;
     let longest = tree.longest;
     let mut after = held;
+    let mut packets = totals.packets;
+    let mut bytes = totals.bytes;
     let answer = steps::arrive(
         sound,
         class,
         packet,
         tree.leaves,
+        &parent,
         &longest,
         &start,
         &mut after,
         lengths,
         tags,
+        &mut packets,
+        &mut bytes,
     );
     Placed {
         held: after,
+        totals: Totals { packets, bytes },
         answer,
     }
 }
@@ -103,6 +129,7 @@ pub fn arrive(link: Link, class: usize, packet: Packet) -> AfterArrival
     let held = link.held;
     let mut lengths = link.lengths;
     let mut tags = link.tags;
+    let totals = link.totals;
     let placed = arrive_in(
         tree,
         size,
@@ -111,6 +138,7 @@ pub fn arrive(link: Link, class: usize, packet: Packet) -> AfterArrival
         accounts,
         start,
         held,
+        totals,
         &mut lengths,
         &mut tags,
         class,
@@ -118,10 +146,12 @@ pub fn arrive(link: Link, class: usize, packet: Packet) -> AfterArrival
     );
     let answer = placed.answer;
     let held_after = placed.held;
+    let totals_after = placed.totals;
     let mut after = link;
     after.held = held_after;
     after.lengths = lengths;
     after.tags = tags;
+    after.totals = totals_after;
     AfterArrival {
         answer,
         link: after,
@@ -137,8 +167,9 @@ fn stays(
     accounts: [Account; Link::CLASSES],
     start: [u8; Link::CLASSES],
     held: [u8; Link::CLASSES],
+    totals: Totals,
 ) -> Changed
-    ensures { λ r. ⌜ r ≡ changedTo (refusedSend (Refused number 0)) active place accounts start held size ⌝ }
+    ensures { λ r. ⌜ r ≡ changedTo (refusedSend (Refused number 0)) active place accounts start held size totals ⌝ }
 {
     let verdict = Verdict::Refused(number, 0);
     let answer = Departure {
@@ -156,6 +187,7 @@ fn stays(
         start,
         held,
         size,
+        totals,
     }
 }
 
@@ -176,6 +208,7 @@ fn goes(moved: Moved) -> Changed
     let start = moved.start;
     let held = moved.held;
     let size = moved.size;
+    let totals = moved.totals;
     Changed {
         answer,
         active: moved.active,
@@ -184,6 +217,7 @@ fn goes(moved: Moved) -> Changed
         start,
         held,
         size,
+        totals,
     }
 }
 
@@ -196,12 +230,23 @@ pub fn send_of<'a>(
     accounts: [Account; Link::CLASSES],
     start: [u8; Link::CLASSES],
     held: [u8; Link::CLASSES],
+    totals: Totals,
     lengths: &'a [u16; 2048],
     tags: &'a [u32; 2048],
 ) -> Changed
-    ensures { λ r. ⌜ SendsIn (linkOf tree size active place accounts start held (now (lengths .entry)) (now (tags .entry))) r ⌝ }
+    ensures { λ r. ⌜ SendsIn (linkOf tree size active place accounts start held (now (lengths .entry)) (now (tags .entry)) totals) r ⌝ }
 {
-    if !sound::is_sound_of(tree, size, active, place, accounts, start, held, lengths) {
+    if !sound::is_sound_of(
+        tree,
+        size,
+        active,
+        place,
+        accounts,
+        start,
+        held,
+        lengths,
+        totals,
+    ) {
         return stays(
             checks::NOT_SOUND,
             size,
@@ -210,6 +255,7 @@ pub fn send_of<'a>(
             accounts,
             start,
             held,
+            totals,
         );
     }
     let moved = steps::send_values(
@@ -222,6 +268,7 @@ pub fn send_of<'a>(
         held,
         lengths,
         tags,
+        totals,
     );
     let some = moved.some;
     if !some {
@@ -233,6 +280,7 @@ pub fn send_of<'a>(
             accounts,
             start,
             held,
+            totals,
         );
     }
     goes(moved)
@@ -247,6 +295,7 @@ pub fn send(link: Link) -> AfterSend
     let accounts = link.accounts;
     let start = link.start;
     let held = link.held;
+    let totals = link.totals;
     let went = send_of(
         tree,
         size,
@@ -255,6 +304,7 @@ pub fn send(link: Link) -> AfterSend
         accounts,
         start,
         held,
+        totals,
         &link.lengths,
         &link.tags,
     );
@@ -263,6 +313,7 @@ pub fn send(link: Link) -> AfterSend
     let start_after = went.start;
     let held_after = went.held;
     let size_after = went.size;
+    let totals_after = went.totals;
     let mut after = link;
     after.active = went.active;
     after.place = went.place;
@@ -270,8 +321,97 @@ pub fn send(link: Link) -> AfterSend
     after.start = start_after;
     after.held = held_after;
     after.size = size_after;
+    after.totals = totals_after;
     AfterSend {
         answer,
         link: after,
     }
+}
+
+// What the panel is told of the link that these parts make up: every class number's totals. Its tags have no say.
+pub fn totals_of(
+    tree: Tree,
+    size: Bytes,
+    active: u64,
+    place: usize,
+    accounts: [Account; Link::CLASSES],
+    start: [u8; Link::CLASSES],
+    held: [u8; Link::CLASSES],
+    totals: Totals,
+    lengths: &[u16; 2048],
+) -> PanelTotals
+    ensures { λ r. ⌜ ((tags : List ℕ)
+        → TellsTotals (linkOf tree size active place accounts start held (now (lengths .entry)) tags totals) r) ⌝ }
+{
+    if !sound::is_sound_of(
+        tree,
+        size,
+        active,
+        place,
+        accounts,
+        start,
+        held,
+        lengths,
+        totals,
+    ) {
+        let verdict = Verdict::Refused(checks::NOT_SOUND, 0);
+        return PanelTotals {
+            verdict,
+            totals: Totals::none(),
+        };
+    }
+    let verdict = Verdict::Passed;
+    PanelTotals { verdict, totals }
+}
+
+// One class number's of them: any number, and 0 and 0 where it is past the table.
+fn class_in(told: PanelTotals, class: usize) -> ClassTotals
+    ensures { λ r. ⌜ r ≡ classIn told class ⌝ }
+{
+    let verdict = told.verdict;
+    if Tree::MOST < class {
+        return ClassTotals {
+            verdict,
+            packets: 0,
+            bytes: Bytes(0),
+        };
+    }
+    let totals = told.totals;
+    let packets = totals.packets;
+    let bytes = totals.bytes;
+    ClassTotals {
+        verdict,
+        packets: packets[class],
+        bytes: Bytes(bytes[class]),
+    }
+}
+
+// What the panel is told of one class number, any number.
+pub fn class_totals_of(
+    tree: Tree,
+    size: Bytes,
+    active: u64,
+    place: usize,
+    accounts: [Account; Link::CLASSES],
+    start: [u8; Link::CLASSES],
+    held: [u8; Link::CLASSES],
+    totals: Totals,
+    lengths: &[u16; 2048],
+    class: usize,
+) -> ClassTotals
+    ensures { λ r. ⌜ ((tags : List ℕ)
+        → TellsClass (linkOf tree size active place accounts start held (now (lengths .entry)) tags totals) class r) ⌝ }
+{
+    let told = totals_of(
+        tree,
+        size,
+        active,
+        place,
+        accounts,
+        start,
+        held,
+        totals,
+        lengths,
+    );
+    class_in(told, class)
 }

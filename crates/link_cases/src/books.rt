@@ -1,9 +1,10 @@
-// The books of a link record on a line: its place, active set and size in force, and B and R of each class; they run, and are compared with
-// the written-down ones.
+// The books of a link record on a line: its place, active set and size in force, and B and R of each class; and its totals on another. They
+// run, and are compared with the written-down ones.
 use shown::number;
 use shown::word;
 use state::Account;
 use state::Link;
+use state::Totals;
 
 // B and R of a class.
 fn account(held: Account) {
@@ -30,6 +31,32 @@ pub(crate) fn show(link: Link) -> Link {
     number(b" size ", link.size.0);
     word(b" accounts");
     accounts(held, tree.count);
+    word(b"\n");
+    link
+}
+
+// Packets and bytes of a class.
+fn total(packets: u64, bytes: u64) {
+    number(b" ", packets);
+    number(b"/", bytes);
+}
+
+// Packets and bytes of every class, from the root to the last.
+fn each_total(held: Totals, last: usize) {
+    for i in 0..64 {
+        if last < i {
+            return;
+        }
+        total(held.packets[i], held.bytes[i]);
+    }
+}
+
+// The totals of a link record.
+pub(crate) fn totals(link: Link) -> Link {
+    let tree = link.tree;
+    let held = link.totals;
+    word(b"totals");
+    each_total(held, tree.count);
     word(b"\n");
     link
 }

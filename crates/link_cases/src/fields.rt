@@ -51,6 +51,21 @@ fn class_number(mut link: Link, field: u64, i: usize, value: u64) -> Link {
     link
 }
 
+// Fields 15 and 16: packets or bytes of the totals at a class number.
+fn total(mut link: Link, field: u64, i: usize, value: u64) -> Link {
+    if 63 < i {
+        return link;
+    }
+    let mut totals = link.totals;
+    if field == 15 {
+        totals.packets[i] = value;
+    } else {
+        totals.bytes[i] = value;
+    }
+    link.totals = totals;
+    link
+}
+
 // Fields 12 and 13: length or tag in a waiting place.
 fn place_number(mut link: Link, field: u64, i: usize, value: u64) -> Link {
     if 2_047 < i {
@@ -73,6 +88,7 @@ pub(crate) fn stored(link: Link, field: u64, i: usize, value: u64) -> Link {
         7 => with_place(link, value as usize),
         8 | 9 | 10 | 11 => class_number(link, field, i, value),
         12 | 13 => place_number(link, field, i, value),
+        15 | 16 => total(link, field, i, value),
         _ => link,
     }
 }

@@ -2,6 +2,7 @@
 // and 2); it runs, and is compared with the written-down answers.
 mod books;
 mod fields;
+mod fit;
 mod same;
 
 ghost use Prim.Native.Nat.{_<_, _≤_};
@@ -59,6 +60,12 @@ const SEND: u64 = 11;
 
 // The books of the record.
 const BOOKS: u64 = 12;
+
+// The totals of the record.
+const TOTALS: u64 = 13;
+
+// The totals are made to fit.
+const FIT: u64 = 14;
 
 // A word, then a verdict's number and place.
 fn print_verdict(text: &[u8], v: Verdict) {
@@ -145,7 +152,7 @@ fn left(mut link: Link, class: usize) -> Link
     link
 }
 
-// It does where there is one.
+// It does where there is one, and the totals fit then.
 fn take(before: Link, command: &[u8]) -> Link {
     let class = number_64(command, 1) as usize;
     if 63 < class {
@@ -157,7 +164,7 @@ fn take(before: Link, command: &[u8]) -> Link {
     if 31 < before.start[class] {
         return untaken(before);
     }
-    left(before, class)
+    fit::fit(left(before, class))
 }
 
 // A value stored into one number of the record.
@@ -213,6 +220,8 @@ fn after(link: Link, kept: Link, command: &[u8]) -> Link {
         COMPARE => compare(link, kept),
         SEND => send(link),
         BOOKS => books::show(link),
+        TOTALS => books::totals(link),
+        FIT => fit::fit(link),
         _ => link,
     }
 }
@@ -253,7 +262,7 @@ fn run(input: &[u8]) {
 }
 
 // The most bytes of commands.
-const MOST: usize = 98_304;
+const MOST: usize = 131_072;
 
 // Every command of standard input, read into the room that is lent.
 fn run_read(room: &mut [u8]) {

@@ -3,6 +3,7 @@
 ghost use Prim.Native.Nat.{_<_};
 use state::Account;
 use state::Link;
+use state::Totals;
 use tree::Tree;
 
 // The same account.
@@ -26,6 +27,16 @@ fn same_classes(a: Link, b: Link) -> bool {
     for i in 0..64 {
         let same = same_class(s, t, i) & same_account(a.accounts[i], b.accounts[i]);
         if !same | (a.start[i] != b.start[i]) | (a.held[i] != b.held[i]) {
+            return false;
+        }
+    }
+    true
+}
+
+// The same totals in every class number.
+fn same_totals(a: Totals, b: Totals) -> bool {
+    for i in 0..64 {
+        if (a.packets[i] != b.packets[i]) | (a.bytes[i] != b.bytes[i]) {
             return false;
         }
     }
@@ -56,6 +67,9 @@ pub(crate) fn same_link(a: Link, b: Link) -> bool {
         return false;
     }
     if !same_classes(a, b) {
+        return false;
+    }
+    if !same_totals(a.totals, b.totals) {
         return false;
     }
     same_places(a, b)

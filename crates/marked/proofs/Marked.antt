@@ -13,14 +13,14 @@ use Rattle.plan.specs.Kind.{recordKind}
 use Rattle.plan.specs.Record.{kindAt, missing, unknown, cut, bodyOf, ruleOf, lateRule, badRule, classAt}
 use Rattle.plan.specs.Reader.{recordChecks, ruleFirst, after, followsOf, treeOf, passes, inRow, passedOver, decidingChecks, planOf}
 use Rattle.state.specs.Queue.{queueOf}
-use Rattle.tree.specs.Below.{climbs, atOrBelow}
+use Rattle.tree.specs.Below.{wayUp, changedUp, climbs, atOrBelow}
 use Rattle.rules.specs.Active.{waits, someWaits, someBelow, setOf, upward, roundActive, activeChild, activeWeight, weightSum}
 use Rattle.rules.specs.Opening.{surplusAt, hasSurplus, kindOf, quotaIn, quota, due, handsDown, openedLeaf, openedInner, openedAccount}
 use Rattle.rules.specs.Opening.{openedAccounts, nextKind, nextSize, resizedAccounts, openedWith}
 use Rattle.rules.specs.Sending.{ready, firstFrom, nextLeaf, givenUp, turnsOff, paid, booksAfter, sentState, turnOf, sends, traceOf}
 use Rattle.calls.specs.Arrival.{noLeaf, badLength, full, arrivalOf}
 use Rattle.calls.specs.Send.{sendOf}
-use Rattle.calls.specs.Run.{runOf, madeIn, closedIn, waitingIn}
+use Rattle.calls.specs.Run.{runOf, madeIn, closedIn}
 use Rattle.marked.specs.Run.{readOf, accountsOf, openingOf, classesIn, callsIn, exchangesOf, AllRight}
 use Rattle.marked.specs.Table.{markedCases}
 use Rattle.marked.proofs.Computed.{exchangesOn, found, expected, all-right}
@@ -33,11 +33,11 @@ unfolding markedCases found expected readOf accountsOf openingOf classesIn calls
     tooMany badParent badWeight badLongest tooHeavy childless noClass
     recordKind kindAt missing unknown cut bodyOf ruleOf lateRule badRule classAt recordChecks ruleFirst after followsOf treeOf passes
     inRow passedOver decidingChecks planOf
-    table queueOf climbs atOrBelow waits someWaits someBelow setOf upward roundActive activeChild activeWeight weightSum
+    table queueOf wayUp changedUp climbs atOrBelow waits someWaits someBelow setOf upward roundActive activeChild activeWeight weightSum
     surplusAt hasSurplus kindOf quotaIn quota due handsDown openedLeaf openedInner openedAccount openedAccounts nextKind nextSize
     ifActive activeWeights activeLongest activeSize mainSize resizedAccounts openedWith
     ready firstFrom nextLeaf givenUp turnsOff paid booksAfter sentState turnOf sends traceOf
-    noLeaf badLength full arrivalOf sendOf runOf madeIn closedIn waitingIn
+    noLeaf badLength full arrivalOf sendOf runOf madeIn closedIn
 computed = refl
 
 -- each is right of every run of the library

@@ -3,12 +3,12 @@ use mathlib.Core.Bool.{Bool, true, false, cond}
 use mathlib.Core.List.{List}
 use mathlib.Core.Path.{_≡_, refl, sym, ap, ap₂, subst, _∙_}
 use Prim.Native.Nat.{ℕ, _+_}
-use lib.ListN.{drop, getD}
+use lib.ListN.{drop}
 use Rattle.checks.specs.declared.Verdict.the-variants.{Refused}
 use Rattle.checks.specs.Check.{Exactly}
 use Rattle.units.specs.declared.Bytes.{Bytes}
 use Rattle.tree.specs.declared.Tree.{Tree}
-use Rattle.tree.specs.Sum.{sumTo, table}
+use Rattle.tree.specs.Sum.{table}
 use Rattle.plan.specs.declared.Arrived.{Arrived}
 use Rattle.plan.specs.declared.EventRead.the-variants.{NoMore, Arrive, SendNext, Fault}
 use Rattle.plan.specs.Event.{usedOf, eventAt}
@@ -26,7 +26,7 @@ use Rattle.calls.specs.declared.AfterArrival.{AfterArrival}
 use Rattle.calls.specs.declared.Departure.{Departure}
 use Rattle.calls.specs.declared.AfterSend.{AfterSend}
 use Rattle.calls.specs.Send.{goes, refusedSend, sendOf, sendLeaves}
-use Rattle.calls.specs.Run.{Call, arrival, send, linkLeft, makes}
+use Rattle.calls.specs.Run.{Call, arrival, send, linkLeft, makes, waitingIn}
 use Rattle.calls.proofs.Arrivals.{arrival-shaped}
 use Rattle.calls.proofs.Departures.{send-unsound, send-goes, send-nothing, send-shaped}
 use Rattle.calls.proofs.Runs.{rules-meet}
@@ -39,7 +39,7 @@ use Rattle.steps.specs.Rounds.{sentWhere, Departs}
 use Rattle.steps.proofs.Wholes.{in-lists}
 use Rattle.run.specs.Event.{arrivalLine, sendLine, packetIn, callLine, stepBy}
 use Rattle.parts.specs.Steps.{LaysLine, ArrivesAs, wentSays, DepartsAs, Happens}
-use Rattle.run.proofs.Events.{gives-by, waiting-means}
+use Rattle.run.proofs.Events.{gives-by}
 
 -- ---- an arrival
 
@@ -101,14 +101,14 @@ call-shaped l send false exactly shape = subst (λ (x : AfterSend). Shaped (x .l
 
 module _ (l : Link) (input : List ℕ) (place : ℕ) (shape : Shaped l) (at : ℕ) (before : List ℕ) (r : ℕ) (out : List ℕ) where
   -- the normal end, and a refused record
-  pub end-in-place : (n active visit : ℕ) (size : Bytes) → eventAt (drop place input) place ≡ NoMore → n ≡ sumTo (λ i. getD (l .held) i 0) 63
+  pub end-in-place : (n active visit : ℕ) (size : Bytes) → eventAt (drop place input) place ≡ NoMore → n ≡ waitingIn (meaning l)
       → LaysLine at (End n) before r out
       → Happens l input place at before (record { laid = r; more = false; place = place; active = active; visit = visit; size = size }) out l
   end-in-place n active visit size told e lays = record {
     line = End n;
     lays = lays;
     goes = gives-by l input place NoMore _ told
-        (ap (λ (k : ℕ). record { line = End k; more = false; link = l; place = place }) (e ∙ waiting-means l));
+        (ap (λ (k : ℕ). record { line = End k; more = false; link = l; place = place }) e);
     shape = shape;
   }
 
@@ -164,7 +164,7 @@ module _ (l : Link) (input : List ℕ) (place : ℕ) (shape : Shaped l) (at : �
 
 pub apart-is : (l : Link) (t : Tree) (b r : List ℕ) → t ≡ l .tree → Shaped l → b ≡ table (balanceOf (l .accounts)) 64
     → r ≡ table (residualOf (l .accounts)) 64
-    → lentLink t (l .size) (l .active) (l .place) b r (l .start) (l .held) (l .lengths) (l .tags) ≡ l
+    → lentLink t (l .size) (l .active) (l .place) b r (l .start) (l .held) (l .lengths) (l .tags) (l .totals .packets) (l .totals .bytes) ≡ l
 apart-is l t b r same shape x y =
-    ap₂ (λ (t : Tree) (xs : List Account). linkOf t (l .size) (l .active) (l .place) xs (l .start) (l .held) (l .lengths) (l .tags)) same
+    ap₂ (λ (t : Tree) (xs : List Account). linkOf t (l .size) (l .active) (l .place) xs (l .start) (l .held) (l .lengths) (l .tags) (l .totals)) same
     (in-lists (l .accounts) (shape .accounts) b r x y)

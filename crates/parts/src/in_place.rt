@@ -8,8 +8,10 @@ ghost use Rattle.checks.specs.Check.{Exactly};
 ghost use Rattle.tree.specs.Rules.{PlanRules};
 ghost use Rattle.lines.specs.Line.{lineRoom};
 ghost use Rattle.state.specs.declared.Link.{Link};
-ghost use Rattle.state.specs.Queue.{Shaped, queued};
+ghost use Rattle.state.specs.Queue.{Shaped};
+ghost use Rattle.state.specs.WayUp.{Climbs};
 ghost use Rattle.sound.specs.Sound.{SoundLink};
+ghost use Rattle.steps.specs.Arrivals.{lentWaiting};
 ghost use Rattle.steps.specs.Parts.{lentLink, lentTree};
 ghost use Rattle.steps.specs.Rounds.{Kept};
 ghost use Rattle.parts.specs.Steps.{LaysLine, wentSays, Taken, ArrivesAs, DepartsAs, Happens};
@@ -20,6 +22,7 @@ use plan::Arrived;
 use plan::EventRead;
 use state::Link;
 use state::Packet;
+use state::Totals;
 use steps::Went;
 use tree::Tree;
 use units::Bytes;
@@ -40,19 +43,23 @@ fn arrives(
     sound: bool,
     a: Arrived,
     leaves: u64,
+    parent: &[u8; 64],
     longest: &[u16; 64],
     start: &[u8; 64],
     held: &mut [u8; 64],
     lengths: &mut [u16; 2048],
     tags: &mut [u32; 2048],
+    packets: &mut [u64; 64],
+    bytes: &mut [u64; 64],
     at: usize,
     out: &mut [u8],
 ) -> usize
-    requires { ⌜ at + lineRoom ≤ length (now out) ⌝ }
-    ensures { λ r. ⌜ ((l : Link) → l .tree .leaves ≡ leaves → l .tree .longest ≡ now (longest .entry)
-        → ArrivesAs sound (queued l (now (start .entry)) (now (held .entry)) (now (lengths .entry)) (now (tags .entry))) a
-        at (now (out .entry)) r (now (out .exit))
-        (queued l (now (start .entry)) (now (held .exit)) (now (lengths .exit)) (now (tags .exit)))) ⌝ }
+    requires { ⌜ (sound ≡ true → Climbs (now parent) (now packets) (now bytes)) × (at + lineRoom ≤ length (now out)) ⌝ }
+    ensures { λ r. ⌜ ((l : Link) → l .tree .leaves ≡ leaves → l .tree .parent ≡ now (parent .entry) → l .tree .longest ≡ now (longest .entry)
+        → ArrivesAs sound (lentWaiting l (now (start .entry)) (now (held .entry)) (now (lengths .entry)) (now (tags .entry))
+        (now (packets .entry)) (now (bytes .entry))) a at (now (out .entry)) r (now (out .exit))
+        (lentWaiting l (now (start .entry)) (now (held .exit)) (now (lengths .exit)) (now (tags .exit))
+        (now (packets .exit)) (now (bytes .exit)))) ⌝ }
 {
     let class = a.class as usize;
     let len = a.length;
@@ -62,11 +69,14 @@ fn arrives(
         class,
         Packet { length: len, tag },
         leaves,
+        parent,
         longest,
         start,
         held,
         lengths,
         tags,
+        packets,
+        bytes,
     );
     let verdict = answer.verdict;
     if let Verdict::Passed = verdict {
@@ -96,18 +106,21 @@ fn departs(
     held: &mut [u8; 64],
     lengths: &[u16; 2048],
     tags: &[u32; 2048],
+    packets: &mut [u64; 64],
+    bytes: &mut [u64; 64],
 ) -> Went
     requires { ⌜ Exactly sound (SoundLink (lentLink (lentTree count leaves (now parent) (now weight) (now longest) follows) size active visit
-        (now balance) (now residual) (now start) (now held) (now lengths) (now tags)))
+        (now balance) (now residual) (now start) (now held) (now lengths) (now tags) (now packets) (now bytes)))
         × Shaped (lentLink (lentTree count leaves (now parent) (now weight) (now longest) follows) size active visit (now balance)
-        (now residual) (now start) (now held) (now lengths) (now tags))
+        (now residual) (now start) (now held) (now lengths) (now tags) (now packets) (now bytes))
         × (sound ≡ true → Kept (lentTree count leaves (now parent) (now weight) (now longest) follows) known (now kept)) ⌝ }
     ensures { λ r. ⌜ DepartsAs sound (lentLink
         (lentTree count leaves (now (parent .entry)) (now (weight .entry)) (now (longest .entry)) follows) size active visit
-        (now (balance .entry)) (now (residual .entry)) (now (start .entry)) (now (held .entry)) (now (lengths .entry)) (now (tags .entry)))
+        (now (balance .entry)) (now (residual .entry)) (now (start .entry)) (now (held .entry)) (now (lengths .entry)) (now (tags .entry))
+        (now (packets .entry)) (now (bytes .entry)))
         r (lentLink (lentTree count leaves (now (parent .entry)) (now (weight .entry)) (now (longest .entry)) follows) (r .size) (r .active)
         (r .place) (now (balance .exit)) (now (residual .exit)) (now (start .exit)) (now (held .exit)) (now (lengths .entry))
-        (now (tags .entry))) ⌝ }
+        (now (tags .entry)) (now (packets .exit)) (now (bytes .exit))) ⌝ }
 {
     if !sound {
         return steps::nothing(size, active, visit);
@@ -130,6 +143,8 @@ fn departs(
         held,
         lengths,
         tags,
+        packets,
+        bytes,
     )
 }
 
@@ -186,31 +201,34 @@ fn event(
     held: &mut [u8; 64],
     lengths: &mut [u16; 2048],
     tags: &mut [u32; 2048],
+    packets: &mut [u64; 64],
+    bytes: &mut [u64; 64],
     input: &[u8],
     place: usize,
     at: usize,
     out: &mut [u8],
 ) -> Did
     requires { ⌜ Exactly sound (SoundLink (lentLink (lentTree count leaves (now parent) (now weight) (now longest) follows) size active visit
-        (now balance) (now residual) (now start) (now held) (now lengths) (now tags)))
+        (now balance) (now residual) (now start) (now held) (now lengths) (now tags) (now packets) (now bytes)))
         × Shaped (lentLink (lentTree count leaves (now parent) (now weight) (now longest) follows) size active visit (now balance)
-        (now residual) (now start) (now held) (now lengths) (now tags))
+        (now residual) (now start) (now held) (now lengths) (now tags) (now packets) (now bytes))
         × (sound ≡ true → Kept (lentTree count leaves (now parent) (now weight) (now longest) follows) known (now kept))
         × (at + lineRoom ≤ length (now out)) ⌝ }
     ensures { λ r. ⌜ Happens (lentLink
         (lentTree count leaves (now (parent .entry)) (now (weight .entry)) (now (longest .entry)) follows) size active visit
-        (now (balance .entry)) (now (residual .entry)) (now (start .entry)) (now (held .entry)) (now (lengths .entry)) (now (tags .entry)))
+        (now (balance .entry)) (now (residual .entry)) (now (start .entry)) (now (held .entry)) (now (lengths .entry)) (now (tags .entry))
+        (now (packets .entry)) (now (bytes .entry)))
         (now (input .entry)) place at (now (out .entry)) r (now (out .exit))
         (lentLink (lentTree count leaves (now (parent .entry)) (now (weight .entry)) (now (longest .entry)) follows) (r .size) (r .active)
         (r .visit) (now (balance .exit)) (now (residual .exit)) (now (start .exit)) (now (held .exit)) (now (lengths .exit))
-        (now (tags .exit))) ⌝ }
+        (now (tags .exit)) (now (packets .exit)) (now (bytes .exit))) ⌝ }
 {
     let rest = plan::events_after(input, place);
     let read = plan::read_event(rest, place);
     let after = place + plan::used(read);
     match read {
         EventRead::NoMore => {
-            let laid = lines::lay_at(Line::End(run::waiting(held)), at, out);
+            let laid = lines::lay_at(Line::End(packets[0]), at, out);
             outcome(laid, false, place, active, visit, size)
         }
         EventRead::Arrive(a) => {
@@ -218,11 +236,14 @@ fn event(
                 sound,
                 a,
                 leaves,
+                parent,
                 longest,
                 start,
                 held,
                 lengths,
                 tags,
+                packets,
+                bytes,
                 at,
                 out,
             );
@@ -248,6 +269,8 @@ fn event(
                 held,
                 lengths,
                 tags,
+                packets,
+                bytes,
             );
             let laid = lay_went(went, at, out);
             outcome(laid, true, after, went.active, went.place, went.size)
@@ -298,6 +321,9 @@ pub fn part_of(sound: bool, link: Link, input: &[u8], place: usize, out: &mut [u
     let mut held = link.held;
     let mut lengths = link.lengths;
     let mut tags = link.tags;
+    let totals = link.totals;
+    let mut packets = totals.packets;
+    let mut bytes = totals.bytes;
     let sums = sums_now(sound, tree, &held);
     let kept = sums.kept;
     let mut size = link.size;
@@ -326,6 +352,8 @@ pub fn part_of(sound: bool, link: Link, input: &[u8], place: usize, out: &mut [u
             &mut held,
             &mut lengths,
             &mut tags,
+            &mut packets,
+            &mut bytes,
             input,
             from,
             laid,
@@ -349,6 +377,7 @@ pub fn part_of(sound: bool, link: Link, input: &[u8], place: usize, out: &mut [u
         held,
         lengths,
         tags,
+        totals: Totals { packets, bytes },
     };
     PartRun {
         laid,

@@ -1,7 +1,7 @@
 // Recorded runs: inputs one after the other, each after its length plus 1 in three bytes; prints for each how many lines its run has and
-// a sum over their bytes. Where 128 is added to the first of the three, it does the same for the lines that say why each leaf is silent,
-// after the plan and after each event. The expected sums are those of the second program's lines (bin/record writes both files). Serves
-// demands 1 and 2.
+// a sum over their bytes. Where 128 is added to the first of the three, it does the same for the lines that say why each leaf is silent
+// and for those of each class's totals, after the plan and after each event. The expected sums are those of the second program's lines
+// (bin/record writes both files). Serves demands 1 and 2.
 ghost use Prim.Native.Nat.{_<_};
 use libc::STDIN_FILENO;
 use lines::Line;
@@ -91,6 +91,33 @@ fn with_leaves(tally: Tally, link: Link) -> Tally {
     sofar
 }
 
+// A word and a number more.
+fn with_number(tally: Tally, text: &[u8], n: u64) -> Tally {
+    let mut digits = [0u8; 20];
+    let k = io::decimal(n, &mut digits);
+    with_text(with_text(tally, text), &digits[..k])
+}
+
+// The line of a class's totals: packets and bytes.
+fn with_total(tally: Tally, class: usize, packets: u64, bytes: u64) -> Tally {
+    let of_class = with_number(tally, b"total ", class as u64);
+    let of_both = with_number(with_number(of_class, b" ", packets), b" ", bytes);
+    with_text(of_both, b"\n")
+}
+
+// The totals of each class of a link, from the root to the last.
+fn with_totals(tally: Tally, link: Link) -> Tally {
+    let tree = link.tree;
+    let totals = link.totals;
+    let mut sofar = tally;
+    for class in 0..Link::CLASSES {
+        if class <= tree.count {
+            sofar = with_total(sofar, class, totals.packets[class], totals.bytes[class]);
+        }
+    }
+    sofar
+}
+
 // The last line of a run, where that is `stop`.
 fn with_stop(tally: Tally, line: Line) -> Tally {
     match line {
@@ -99,16 +126,39 @@ fn with_stop(tally: Tally, line: Line) -> Tally {
     }
 }
 
-// Why each leaf is silent, after the plan and after each event.
-fn silences(input: &[u8]) -> Tally {
-    let mut tally = none();
+// What was told of a run's links so far: why each leaf is silent, and the totals of each class.
+struct Both {
+    silent: Tally,
+    totals: Tally,
+}
+
+// A link more.
+fn with_link(before: Both, link: Link) -> Both {
+    let silent = with_leaves(before.silent, link);
+    let totals = with_totals(before.totals, link);
+    Both { silent, totals }
+}
+
+// The last line of the run in both, where that is `stop`.
+fn with_end(before: Both, line: Line) -> Both {
+    let silent = with_stop(before.silent, line);
+    let totals = with_stop(before.totals, line);
+    Both { silent, totals }
+}
+
+// Both after the plan and after each event.
+fn after_each(input: &[u8]) -> Both {
+    let mut both = Both {
+        silent: none(),
+        totals: none(),
+    };
     let mut step = run::first(input);
     while step.more {
-        tally = with_leaves(tally, step.link);
+        both = with_link(both, step.link);
         step = run::next(step.link, input, step.place);
     }
     let line = step.line;
-    with_stop(tally, line)
+    with_end(both, line)
 }
 
 // How many lines, and the sum over them.
@@ -117,13 +167,20 @@ fn show(tally: Tally) {
     number(b" sum ", tally.sum);
 }
 
+// What was told.
+fn show_both(both: Both) {
+    word(b" silent");
+    show(both.silent);
+    word(b" totals");
+    show(both.totals);
+}
+
 // The line of a run.
 fn show_run(k: usize, asked: bool, input: &[u8]) {
     number(b"run ", k as u64);
     show(whole(input));
     if asked {
-        word(b" silent");
-        show(silences(input));
+        show_both(after_each(input));
     }
     word(b"\n");
 }
@@ -131,7 +188,7 @@ fn show_run(k: usize, asked: bool, input: &[u8]) {
 // The most inputs.
 const RUNS: usize = 10_000;
 
-// What is added to a length where it is asked why leaves are silent.
+// What is added to a length where it is asked why leaves are silent and what the totals are.
 const ASKED: usize = 8_388_608;
 
 // The number before the next input; 0 where there is none.

@@ -26,3 +26,4 @@ pub mod Fitting
 pub mod Meanings
 pub mod OnTheWay
 pub mod Traces
+pub mod Counted

@@ -21,8 +21,9 @@ use Rattle.rules.proofs.Sent.{wide-after, sound-after}
 use Rattle.state.specs.declared.Link.{Link}
 use Rattle.state.specs.declared.Packet.{Packet}
 use Rattle.state.specs.Queue.{Shaped, queueOf, startOf, heldOf, packetAt, takenFirst}
-use Rattle.state.specs.State.{State, meaning, queueAt}
+use Rattle.state.specs.State.{State, meaning, queueAt, inRound}
 use Rattle.tree.proofs.Tables.{table-length}
+use Rattle.state.proofs.Queues.{shaped-in}
 use Rattle.state.proofs.Meaning.{meaning-held, meaning-take, meaning-first}
 use Rattle.sound.specs.Sound.{Sound, SoundLink}
 use Rattle.tree.proofs.Rules.{few-classes, size-ceiling}
@@ -48,23 +49,15 @@ sound-fit l many sound =
     let st = sound .state in
     record { many = many; small = omega (arith, st .adds .adds, st .fits .size .most, size-ceiling (l .tree) (st .fits .tree)) }
 
--- a link in another state means that state
-pub meaning-in : (l : Link) (s : State) → l .tree ≡ s .tree → meaning l .queues ≡ s .queues
-    → meaning (linkIn l s) ≡ s
+-- a link in another state that is its own in a round means that state
+pub meaning-in : (l : Link) (s : State) → s ≡ inRound (meaning l) (s .size) (s .active) (s .place) (s .accounts) → meaning (linkIn l s) ≡ s
 unfolding queueOf
-meaning-in l s tree queues = λ k. record {
-  tree = tree k;
-  size = s .size;
-  active = s .active;
-  place = s .place;
-  accounts = s .accounts;
-  queues = queues k;
-}
+meaning-in l s same = sym same
 
 -- an opening
 pub opened-means : (l : Link) → meaning (openedLink l) ≡ opened (meaning l)
 unfolding openedWith
-opened-means l = meaning-in l (opened (meaning l)) refl refl
+opened-means l = meaning-in l (opened (meaning l)) refl
 
 pub opened-link-sound : (l : Link) → Wide (meaning l) → SoundLink l → Covers (meaning l) (nextSize (meaning l)) → SoundLink (openedLink l)
 opened-link-sound l wide sound covers = record {
@@ -105,16 +98,16 @@ books-last l i u h = rw (le-leb (length (queueAt (meaning l) i)) 1 (omega (arith
 pub sent-means : (l : Link) (i : ℕ) → Shaped l → SendsNext l i → meaning (sentLink l i) ≡ sentState (meaning l) i
 unfolding sentState queueOf
 sent-means l i shape n =
-    meaning-take (linkIn l (sentState (meaning l) i)) i
+    let s = sentState (meaning l) i in
+    let wide = wide-after (meaning l) i (n .sound .state) (meaning-wide l (shape .accounts)) (link-sender l i n) in
+    meaning-take (linkIn l s) i
+    (shaped-in l (s .size) (s .active) (s .place) (s .accounts) shape (wide .accounts))
     (record {
-      accounts = wide-after (meaning l) i (n .sound .state) (meaning-wide l (shape .accounts))
-          (link-sender l i n) .accounts;
-      start = shape .start;
-      held = shape .held;
-      lengths = shape .lengths;
-      tags = shape .tags;
+      rules = n .sound .state .fits .tree;
+      leaf = link-sender l i n .leaf;
+      totals = λ k u. record { packets = n .sound .state .totals k u .packets; bytes = n .sound .state .totals k u .bytes };
     })
-    (n .found) (sender-holds l i n)
+    (sender-holds l i n)
 
 -- a packet waits where a leaf's count says so
 pub waits-means : (l : Link) → SoundLink l → someWaits (meaning l) ≡ someTo (holdsSome (l .tree) (l .held)) (l .tree .count)

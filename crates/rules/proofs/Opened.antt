@@ -335,6 +335,7 @@ module _ (s : State) (size : ℕ) (sound : Sound s) (wide : Wide s) where
     adds = record { adds = opened-total fit covers };
     place = record { low = omega arith; high = omega arith };
     behind = opened-behind;
+    totals = λ i u. record { packets = sound .totals i u .packets; bytes = sound .totals i u .bytes };
   }
 
 -- ---- with the size that the tree's rule gives

@@ -14,7 +14,7 @@ use Rattle.tree.specs.Class.{isClass, isLeaf}
 use Rattle.rules.specs.Sizes.{activeSize}
 use Rattle.tree.proofs.Classes.{class-range}
 use Rattle.state.specs.Account.{accountOf, fundsOf}
-use Rattle.state.specs.State.{State}
+use Rattle.state.specs.State.{State, inRound}
 use Rattle.sound.specs.Sound.{Sound}
 use Rattle.rules.specs.Active.{roundActive, weightSum}
 use Rattle.rules.specs.Opening.{main, surplus, nextKind, nextSize, openedWith, opened, Resizes}
@@ -120,14 +120,18 @@ unfoldable pub Rounds : State → List Turn → State → Type 0
 Rounds s [] after = s ≡ after
 Rounds s (turn ∷ turns) after = (nextLeaf s ≡ 64) × (turn ≡ turnOf s) × Rounds (opened s) turns after
 
+-- an opening leaves all else of a state as it was
+pub opened-same : (s : State) → opened s ≡ inRound s (opened s .size) (opened s .active) (opened s .place) (opened s .accounts)
+unfolding openedWith
+opened-same s = refl
+
 -- a send goes: it opens at most two rounds, however many it might open, and then a leaf sends
 pub record Goes (s : State) : Type 0 where
   pub after : State
   pub more : List Turn
   pub sound : Sound after
   pub wide : Wide after
-  pub tree : after .tree ≡ s .tree
-  pub queues : after .queues ≡ s .queues
+  pub same : after ≡ inRound s (after .size) (after .active) (after .place) (after .accounts)
   pub leaf : nextLeaf after < 64
   pub few : length more ≤ 2
   pub rounds : Rounds s more after
@@ -154,8 +158,7 @@ module _ (s : State) (sound : Sound s) (wide : Wide s) where
     more = [];
     sound = sound;
     wide = wide;
-    tree = refl;
-    queues = refl;
+    same = refl;
     leaf = found;
     few = omega arith;
     rounds = refl;
@@ -170,8 +173,7 @@ module _ (s : State) (sound : Sound s) (wide : Wide s) where
     more = turnOf s ∷ [];
     sound = next-sound s sound wide closed;
     wide = next-wide s sound wide;
-    tree = opened-tree (nextSize s) s;
-    queues = opened-queues (nextSize s) s;
+    same = opened-same s;
     leaf = found;
     few = omega arith;
     rounds = (closed, refl, refl);
@@ -182,12 +184,13 @@ module _ (s : State) (sound : Sound s) (wide : Wide s) where
   two-opened : nextLeaf s ≡ 64 → nextLeaf (opened s) ≡ 64 → nextLeaf (opened (opened s)) < 64 → Goes s
   unfolding Rounds
   two-opened closed again found = record {
-    after = opened (opened s);
+    after = after;
     more = turnOf s ∷ turnOf (opened s) ∷ [];
     sound = next-sound (opened s) (next-sound s sound wide closed) (next-wide s sound wide) again;
     wide = next-wide (opened s) (next-sound s sound wide closed) (next-wide s sound wide);
-    tree = opened-tree (nextSize (opened s)) (opened s) ∙ opened-tree (nextSize s) s;
-    queues = opened-queues (nextSize (opened s)) (opened s) ∙ opened-queues (nextSize s) s;
+    same =
+        opened-same (opened s)
+        ∙ ap (λ (x : State). inRound x (after .size) (after .active) (after .place) (after .accounts)) (opened-same s);
     leaf = found;
     few = omega arith;
     rounds = (closed, refl, (again, refl, refl));
@@ -197,6 +200,9 @@ module _ (s : State) (sound : Sound s) (wide : Wide s) where
         ∙ sends-now n ((turns ++ (turnOf s ∷ [])) ++ (turnOf (opened s) ∷ [])) (opened (opened s)) found
         ∙ ap (gone (opened (opened s))) (append-assoc turns (turnOf s ∷ []) (turnOf (opened s) ∷ []));
   }
+    where
+      after : State
+      after = opened (opened s)
 
   -- and never more: a round that opens on one only just opened is a main round, and sends
   pub two-rounds : Waits s → Goes s

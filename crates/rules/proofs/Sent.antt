@@ -5,7 +5,7 @@ use mathlib.Core.Path.{_≡_, sym, ap, subst, _∙_}
 use Prim.Native.Nat.{ℕ, _+_, _-_, _<_}
 use native.Mathlib.Decide.{ℕ-discrete}
 use native.Mathlib.Omega.{arith}
-use lib.ListN.{length, getD, drop, length-set, length-drop}
+use lib.ListN.{length, getD, set, drop, length-set, length-drop}
 use lib.Seq.{getD-set-same, getD-set-other, getD-drop}
 use Rattle.sets.specs.Set.{has}
 use Rattle.units.specs.Cost.{costOf}
@@ -14,6 +14,7 @@ use Rattle.state.specs.declared.Account.{Account}
 use Rattle.state.specs.declared.Packet.{Packet}
 use Rattle.state.specs.Account.{balanceOf}
 use Rattle.state.specs.Queue.{noPacket}
+use Rattle.state.proofs.Counting.{queues-totals}
 use Rattle.state.specs.State.{State, queueAt}
 use Rattle.sound.specs.Sound.{InRange, HoldsRight, ActiveHolds, BehindPlace, Sound}
 use Rattle.sound.proofs.Active.{child-to-leaf}
@@ -127,6 +128,10 @@ module _ (s : State) (i : ℕ) (sound : Sound s) (wide : Wide s) (is : Sender s 
         adds = record { adds = books-total s i (sound .fits .tree) wide (is .high) (is .covers) .0 ∙ sound .adds .adds };
         place = record { low = is .low; high = omega (arith, is .high) };
         behind = behind-after;
+        totals =
+            λ k u.
+            let q = queues-totals s (set (s .queues) i (drop 1 (queueAt s i))) k u in
+            record { packets = q .packets; bytes = q .bytes };
       }
 
 -- a send of the next leaf leaves a sound state

@@ -11,6 +11,7 @@ use Rattle.state.specs.declared.Packet.{Packet}
 use Rattle.state.specs.declared.Link.{Link}
 use Rattle.state.specs.Queue.{Shaped, noPacket, takenFirst}
 use Rattle.state.specs.State.{State, meaning, queueAt}
+use Rattle.state.proofs.Queues.{shaped-in}
 use Rattle.sound.specs.Sound.{Sound, SoundLink}
 use Rattle.rules.specs.Active.{someWaits}
 use Rattle.rules.specs.Sending.{nextLeaf, firstOf, sentState, Trace, traceOf}
@@ -49,7 +50,13 @@ module _ (l : Link) (shape : Shaped l) (sound : SoundLink l) (waits : someWaits 
 
   last-means : meaning last ≡ goes .after
   unfolding last
-  last-means = meaning-in l (goes .after) (sym (goes .tree)) (sym (goes .queues))
+  last-means = meaning-in l (goes .after) (goes .same)
+
+  same-tree : goes .after .tree ≡ l .tree
+  same-tree = ap (λ (s : State). s .tree) (goes .same)
+
+  same-queues : goes .after .queues ≡ meaning l .queues
+  same-queues = ap (λ (s : State). s .queues) (goes .same)
 
   trace-is : traceOf (meaning l)
       ≡ record { turns = goes .more; class = leaf; packet = firstOf (goes .after) leaf; state = sentState (goes .after) leaf }
@@ -59,7 +66,8 @@ module _ (l : Link) (shape : Shaped l) (sound : SoundLink l) (waits : someWaits 
   last-shaped : Shaped last
   unfolding last
   last-shaped =
-      record { accounts = goes .wide .accounts; start = shape .start; held = shape .held; lengths = shape .lengths; tags = shape .tags }
+      let s = goes .after in
+      shaped-in l (s .size) (s .active) (s .place) (s .accounts) shape (goes .wide .accounts)
 
   last-next : SendsNext last leaf
   unfolding last leaf
@@ -95,17 +103,17 @@ module _ (l : Link) (shape : Shaped l) (sound : SoundLink l) (waits : someWaits 
   sender = next-sender (goes .after) (goes .sound) (goes .leaf)
 
   pub trace-leaf : isLeaf (l .tree) (traceOf (meaning l) .class) ≡ true
-  trace-leaf = rw trace-is (ap (λ (t : Tree). isLeaf t leaf) (sym (goes .tree)) ∙ sender .leaf)
+  trace-leaf = rw trace-is (ap (λ (t : Tree). isLeaf t leaf) (sym same-tree) ∙ sender .leaf)
 
   pub trace-queue : queueAt (meaning l) (traceOf (meaning l) .class)
       ≡ traceOf (meaning l) .packet ∷ queueAt (traceOf (meaning l) .state) (traceOf (meaning l) .class)
   trace-queue =
       rw trace-is
-      (ap (λ (q : List (List Packet)). getD q leaf []) (sym (goes .queues))
+      (ap (λ (q : List (List Packet)). getD q leaf []) (sym same-queues)
       ∙ first-and-rest (queueAt (goes .after) leaf) (sender .holds)
       ∙ ap (λ (q : List Packet). firstOf (goes .after) leaf ∷ q) (sym (sent-queue (goes .after) leaf (goes .wide) (sender .high))))
 
   pub trace-others : (k : ℕ) → (k ≡ traceOf (meaning l) .class → ⊥) → queueAt (traceOf (meaning l) .state) k ≡ queueAt (meaning l) k
   trace-others k ne =
       let other : k ≡ leaf → ⊥ = λ e. ne (e ∙ sym (ap (λ (t : Trace). t .class) trace-is)) in
-      rw trace-is (sent-other (goes .after) leaf k other ∙ ap (λ (q : List (List Packet)). getD q k []) (goes .queues))
+      rw trace-is (sent-other (goes .after) leaf k other ∙ ap (λ (q : List (List Packet)). getD q k []) same-queues)

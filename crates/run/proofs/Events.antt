@@ -21,11 +21,6 @@ use Rattle.calls.specs.Run.{waitingIn}
 use Rattle.run.specs.Event.{Gives, GoesOn}
 use Rattle.run.specs.Run.{planGives, beginOf, inputGives, programBegins}
 
--- the packets still waiting, counted in the record
-pub waiting-means : (l : Link) → sumTo (λ i. getD (l .held) i 0) 63 ≡ waitingIn (meaning l)
-unfolding waitingIn
-waiting-means l = sum-same _ _ 63 (λ i a b. sym (meaning-held l i (omega arith)))
-
 -- a plan's step, by its verdict
 pub begin-by : (s : List ℕ) (r : PlanRead) (v : Verdict) → r ≡ planOf s → r .verdict ≡ v → planGives v r ≡ beginOf s
 unfolding beginOf

@@ -2,14 +2,11 @@
 // Serves demands 1 and 2: the lines are those of R185 to R195, from the input's bytes, whatever they are (R196).
 ghost use mathlib.Core.Path.{_≡_};
 ghost use mathlib.Core.Bool.{true};
-ghost use Prim.Native.Nat.{_<_};
-ghost use lib.ListN.{getD};
 ghost use Rattle.checks.specs.declared.Verdict.the-variants.{Passed};
 ghost use Rattle.tree.specs.Rules.{PlanRules};
-ghost use Rattle.tree.specs.Sum.{sumTo};
 ghost use Rattle.plan.specs.declared.EventRead.the-variants.{NoMore, Fault};
 ghost use Rattle.calls.specs.Run.{arrival, send};
-ghost use Rattle.run.specs.Event.{packetIn, arrivalLine, sendLine, eventGives, Calls, GoesOn};
+ghost use Rattle.run.specs.Event.{packetIn, arrivalLine, sendLine, lastLine, eventGives, Calls, GoesOn};
 ghost use Rattle.run.specs.Run.{planGives, beginOf, programBegins};
 use checks::Verdict;
 use lines::Line;
@@ -27,26 +24,6 @@ pub struct Step {
     pub more: bool,
     pub link: Link,
     pub place: usize,
-}
-
-// A count, wide.
-fn wide(n: u8) -> u64
-    ensures { λ r. ⌜ (r ≡ n) × (r < 256) ⌝ }
-{
-    n as u64
-}
-
-// The packets still waiting.
-pub fn waiting(held: &[u8; Link::CLASSES]) -> u64
-    ensures { λ r. ⌜ r ≡ sumTo (λ i. getD (now (held .entry)) i 0) 63 ⌝ }
-{
-    let mut sum: u64 = 0;
-    let mut i: usize = 1;
-    while i < Link::CLASSES {
-        sum += wide(held[i]);
-        i += 1;
-    }
-    sum
 }
 
 // The line of an arrival.
@@ -79,12 +56,20 @@ pub fn send_line(d: Departure) -> Line
     }
 }
 
+// The line of the normal end: the packets still waiting, as the root counts them.
+pub fn end_line(link: Link) -> Line
+    ensures { λ r. ⌜ r ≡ lastLine NoMore link ⌝ }
+{
+    let totals = link.totals;
+    let packets = totals.packets;
+    Line::End(packets[0])
+}
+
 // The normal end.
 fn end(link: Link, place: usize) -> Step
     ensures { λ r. ⌜ r ≡ eventGives true link place NoMore ⌝ }
 {
-    let held = link.held;
-    let line = Line::End(waiting(&held));
+    let line = end_line(link);
     Step {
         line,
         more: false,

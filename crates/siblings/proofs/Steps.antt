@@ -175,7 +175,7 @@ module _
   goes-steps some =
       subst (λ (turns : List Turn). Steps k (meaning l) (map closed turns ++ (called this ∷ later))) (sym turns-are)
       (rounds-steps (g .more) k (meaning l) (g .after) (called this ∷ later) (sound .state) wide (g .rounds)
-      (λ h. subst (λ (qs : List (List Packet)). 1 ≤ length (getD qs k [])) (g .queues)
+      (λ h. subst (λ (qs : List (List Packet)). 1 ≤ length (getD qs k [])) (ap (λ (s : State). s .queues) (g .same))
       (found-held k (g .after) answer after (length (g .more)) (g .sound) (g .wide) leaf-there (g .leaf) answer-is means h))
       (found-charges k (g .after) answer after (length (g .more)) (g .sound) (g .wide) leaf-there (g .leaf) answer-is means, steps))
     where
@@ -186,7 +186,7 @@ module _
       g = two-rounds (meaning l) (sound .state) wide (waits-leaf (meaning l) some)
 
       leaf-there : isLeaf (g .after .tree) k ≡ true
-      leaf-there = ap (λ (t : Tree). isLeaf t k) (g .tree) ∙ leaf
+      leaf-there = ap (λ (s : State). isLeaf (s .tree) k) (g .same) ∙ leaf
 
       this-is : sendLeaves answer after ≡ departs l (traceOf (meaning l))
       this-is = sent-is l (sendLeaves answer after) sound x some

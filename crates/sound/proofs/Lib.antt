@@ -1,4 +1,5 @@
 pub mod Active
 pub mod Totals
+pub mod Counts
 pub mod Views
 pub mod Places

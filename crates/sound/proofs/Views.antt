@@ -26,6 +26,7 @@ use Rattle.tree.specs.Below.{Above}
 use Rattle.sound.specs.Sound.{InRange, PlaceRight, Sound, SoundLink}
 use Rattle.sound.specs.Steps.{parentsAfter, viewOf, ViewRight, ClassRight, ClassesRight}
 use Rattle.sound.proofs.Active.{ActiveChild, ByChild, child-to-leaf, leaf-to-child, parents-in, parents-only}
+use Rattle.sound.proofs.Counts.{right-totals, totals-packets, totals-bytes}
 use Rattle.sound.proofs.Totals.{total-part}
 
 -- ---- from the numbers to soundness
@@ -119,7 +120,8 @@ module _ (l : Link) (rules : PlanRules (l .tree)) where
   packet-is : (i j : ℕ) → i < 64 → j < heldOf l i → getD (queueAt (meaning l) i) j noPacket ≡ packetAt l i j
   packet-is i j u h = ap (λ (q : List Packet). getD q j noPacket) (meaning-queue l i u) ∙ queue-at l i j h
 
-  pub right-to-sound : SizeRight (l .tree) (l .size .0) → PlaceRight (meaning l) → l .active < 2 ^ 64 → ClassesRight l → SoundLink l
+  pub right-to-sound : SizeRight (l .tree) (l .size .0) → PlaceRight (meaning l) → l .active < 2 ^ 64 → ClassesRight l
+      → SoundLink l
   unfolding viewOf after NoneActive
   right-to-sound size place word right =
       let view : (i : ℕ) → i < 64 → ViewRight (viewOf l i) = λ i u. right .at i u .view in
@@ -135,7 +137,7 @@ module _ (l : Link) (rules : PlanRules (l .tree)) where
                         λ f j h.
                         let h′ : j < heldOf l i = rw (meaning-held l i u) at h in
                         rw (packet-is i j u h′)
-                        (record { low = right .at i u .packets .low j h′; high = right .at i u .packets .high j h′ });
+                        (record { low = right .at i u .queue f .low j h′; high = right .at i u .queue f .high j h′ });
                     other = λ f. rw (meaning-held l i u) (view i u .other f .none);
                   };
               waiting = λ i u. record { waits = λ f a. omega (arith, meaning-held l i u, view i u .leaf f .waits a) };
@@ -152,6 +154,7 @@ module _ (l : Link) (rules : PlanRules (l .tree)) where
                   λ i u. record {
                     lacks = λ f a h. rw (first-is i u (view i u .leaf f .waits a)) (view i u .leaf f .lacks a h);
                   };
+              totals = right-totals l rules (right .at);
             };
         starts = λ i u. record { start = view i u .start };
       }
@@ -187,12 +190,8 @@ module _ (l : Link) (rules : PlanRules (l .tree)) where
             from-leaf = λ i ab. st .above i (omega (arith, ab .class, few-classes (l .tree) rules)) .active ab;
           })
 
-      range : (i : ℕ) (u : i < 64) (j : ℕ) → j < heldOf l i → InRange (l .tree) i (packetAt l i j)
-      range i u j h = go (isLeaf (l .tree) i) refl
-        where
-          go : (b : Bool) → isLeaf (l .tree) i ≡ b → InRange (l .tree) i (packetAt l i j)
-          go true f = rw (packet-is i j u h) at (st .holds i u .range f j (rw (meaning-held l i u) h))
-          go false f = absurd (omega (arith, st .holds i u .other f, meaning-held l i u))
+      range : (i : ℕ) (u : i < 64) → isLeaf (l .tree) i ≡ true → (j : ℕ) → j < heldOf l i → InRange (l .tree) i (packetAt l i j)
+      range i u f j h = rw (packet-is i j u h) at (st .holds i u .range f j (rw (meaning-held l i u) h))
 
       same : (i : ℕ) → i < 64 → isLeaf (l .tree) i ≡ false → Dec (i ≤ l .tree .count) → has (l .active) i ≡ has (after i) i
       same i u f (yes m) = by-numbers (st .past .past) by i m f
@@ -207,6 +206,7 @@ module _ (l : Link) (rules : PlanRules (l .tree)) where
               residual = omega (arith, total-part (l .accounts) i u, st .adds .adds);
               leaf = λ f. record {
                 few = rw (meaning-held l i u) at (st .holds i u .few f);
+                packets = totals-packets l rules (st .totals) i u .leaf f;
                 waits = λ a. rw (meaning-held l i u) at (st .waiting i u .waits f a);
                 balance = λ a. st .zero i u .balance (leaf-low i f) a;
                 residual = st .zero i u .leaf f;
@@ -217,10 +217,16 @@ module _ (l : Link) (rules : PlanRules (l .tree)) where
               };
               other = λ f. record {
                 none = rw (meaning-held l i u) at (st .holds i u .other f);
+                packets = totals-packets l rules (st .totals) i u .other f;
+                bytes = totals-bytes l rules (st .totals) i u .other f;
                 above = same i u f (decLe i (l .tree .count));
                 balance = st .zero i u .balance;
                 residual = st .zero i u .residual;
               };
             };
-        packets = record { low = λ j h. range i u j h .low; high = λ j h. range i u j h .high };
+        queue = λ f. record {
+          low = λ j h. range i u f j h .low;
+          high = λ j h. range i u f j h .high;
+          bytes = totals-bytes l rules (st .totals) i u .leaf f;
+        };
       }

@@ -16,7 +16,7 @@ use Rattle.state.specs.declared.Link.{Link}
 use Rattle.state.specs.declared.Packet.{Packet}
 use Rattle.state.specs.Account.{accountOf, balanceOf, residualOf, fundsOf}
 use Rattle.state.specs.Queue.{noPacket, startOf}
-use Rattle.state.specs.State.{State, meaning, queueAt}
+use Rattle.state.specs.State.{State, meaning, queueAt, TotalsRight}
 use Rattle.tree.specs.Below.{Below, Above}
 
 -- its tree obeys the plan rules, and its size is one that may be in force (R101, R102)
@@ -85,7 +85,7 @@ pub record BehindPlace (s : State) (i : ℕ) : Type 0 where
   pub lacks : isLeaf (s .tree) i ≡ true → has (s .active) i ≡ true → i < s .place
       → balanceOf (s .accounts) i < costOf (getD (queueAt s i) 0 noPacket .length)
 
--- a state is sound when all of this holds (R115)
+-- a state is sound when all of this holds, and its totals are right (R115, R278)
 pub record Sound (s : State) : Type 0 where
   pub fits : TreeFits s
   pub holds : (i : ℕ) → i < 64 → HoldsRight s i
@@ -96,6 +96,7 @@ pub record Sound (s : State) : Type 0 where
   pub adds : AddsUp s
   pub place : PlaceRight s
   pub behind : (i : ℕ) → i < 64 → BehindPlace s i
+  pub totals : (i : ℕ) → i < 64 → TotalsRight s i
 
 -- and of a link, that any start kept for a queue is 0 to 31 (R115)
 pub record SoundLink (l : Link) : Type 0 where

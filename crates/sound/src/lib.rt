@@ -1,5 +1,6 @@
 // Whether a link record, any record of numbers whatever, is sound (R101 to R115), decided with no overflow and no fault.
 // Serves demand 1: refusal 11 rests on it.
+
 ghost use mathlib.Core.Path.{_≡_};
 ghost use mathlib.Core.List.{List};
 ghost use Prim.Native.Nat.{ℕ, _≤_, _<_};
@@ -8,16 +9,18 @@ ghost use Rattle.checks.specs.Check.{Exactly};
 ghost use Rattle.tree.specs.Rules.{PlanRules};
 ghost use Rattle.state.specs.State.{linkOf};
 ghost use Rattle.sound.specs.Sound.{SoundLink};
-ghost use Rattle.sound.specs.Steps.{LeafRight, OtherRight, ViewRight, PlaceInRange, LengthsRight, ClassRight};
-ghost use Rattle.sound.specs.Steps.{viewBy, ClassesRight, SizeWithin};
+ghost use Rattle.sound.specs.Steps.{LeafRight, OtherRight, ViewRight, PlaceInRange, placeCost, QueueRight, ClassRight};
+ghost use Rattle.sound.specs.Steps.{viewBy, inSets, withTotals, ClassesRight, SizeWithin};
 use state::Account;
 use state::Link;
+use state::Totals;
 use state::queue::slot;
 use tree::Tree;
 use tree::wide;
 use units::Bytes;
 
-// The numbers of one class that the clauses of soundness speak of; child says whether a child of it is active.
+// The numbers of one class that the clauses of soundness speak of: child says whether a child of it is active; packets and bytes are its
+// totals, waiting and cost what its children's add to.
 pub struct View {
     pub class: usize,
     pub place: usize,
@@ -29,14 +32,21 @@ pub struct View {
     pub held: u8,
     pub first: u16,
     pub account: Account,
+    pub packets: u64,
+    pub bytes: u64,
+    pub waiting: u64,
+    pub cost: u64,
 }
 
-// The clauses of soundness at a leaf: it holds 0 to 32 packets, and one where it is active; R = 0, and B = 0 where it is not active; and an
-// active one that is numbered below the place has a balance smaller than its first packet.
+// The clauses of soundness at a leaf: it holds 0 to 32 packets, as many as its total says, and one where it is active; R = 0, and B = 0
+// where it is not active; and an active one that is numbered below the place has a balance smaller than its first packet.
 fn leaf_right(v: View) -> bool
     ensures { λ r. ⌜ Exactly r (LeafRight v) ⌝ }
 {
     if (Link::PLACES as u8) < v.held {
+        return false;
+    }
+    if v.packets != v.held as u64 {
         return false;
     }
     if v.account.residual.0 != 0 {
@@ -55,11 +65,18 @@ fn leaf_right(v: View) -> bool
     v.account.balance.0 < units::cost(first).0
 }
 
-// The clauses at any other number: it holds no packet, is active exactly when a child is, and inactive it has B = R = 0, but for the root.
+// The clauses at any other number: it holds no packet, its totals are its children's together, it is active exactly when a child is, and
+// inactive it has B = R = 0, but for the root.
 fn other_right(v: View) -> bool
     ensures { λ r. ⌜ Exactly r (OtherRight v) ⌝ }
 {
     if v.held != 0 {
+        return false;
+    }
+    if v.packets != v.waiting {
+        return false;
+    }
+    if v.bytes != v.cost {
         return false;
     }
     if v.active {
@@ -77,7 +94,7 @@ fn other_right(v: View) -> bool
     v.account.residual.0 == 0
 }
 
-// The clauses of soundness at one class number, but for the range of its packets.
+// The clauses of soundness at one class number, but for the lengths of its packets.
 fn view_is_right(v: View) -> bool
     ensures { λ r. ⌜ Exactly r (ViewRight v) ⌝ }
 {
@@ -112,22 +129,39 @@ fn outside(length: u16, turn: u8, held: u8, longest: u16) -> u8
     0
 }
 
-// The waiting packets of a class, if any, are within its range: place by place, without an early end.
-fn lengths_right(lengths: &[u16; 2048], class: usize, start: u8, held: u8, longest: u16) -> bool
-    requires { ⌜ (class < 64) × (start ≤ 31) × (held ≤ 32) ⌝ }
-    ensures { λ r. ⌜ Exactly r (LengthsRight (now (lengths .entry)) class start held longest) ⌝ }
+// What the packet at a place costs, where one waits there, and else 0.
+fn charge(length: u16, turn: u8, held: u8) -> u32
+    ensures { λ r. ⌜ (r ≡ placeCost length turn held) × (r ≤ 65_559) ⌝ }
 {
-    if held == 0 {
-        return true;
+    let cost = units::cost(length).0;
+    if held <= turn {
+        return 0;
+    }
+    cost as u32
+}
+
+// The waiting packets of a leaf are within its range, and cost together what its total says: place by place, without an early end.
+fn queue_right(v: View, lengths: &[u16; 2048], longest: u16) -> bool
+    requires { ⌜ (v .class < 64) × (v .start ≤ 31) × (v .held ≤ 32) ⌝ }
+    ensures { λ r. ⌜ Exactly r (QueueRight v (now (lengths .entry)) longest) ⌝ }
+{
+    if v.held == 0 {
+        return v.bytes == 0;
     }
     let mut wrong: u8 = 0;
+    let mut sum: u32 = 0;
     let mut k: u8 = 0;
     while k < 32 {
-        let length = lengths[slot(class, wide(k))];
-        wrong += outside(length, (k + 32 - start) % 32, held, longest);
+        let length = lengths[slot(v.class, wide(k))];
+        let turn = (k + 32 - v.start) % 32;
+        wrong += outside(length, turn, v.held, longest);
+        sum += charge(length, turn, v.held);
         k += 1;
     }
-    wrong == 0
+    if wrong != 0 {
+        return false;
+    }
+    v.bytes == sum as u64
 }
 
 // A class right, in its numbers and its packets.
@@ -138,10 +172,13 @@ fn class_right(v: View, lengths: &[u16; 2048], longest: u16) -> bool
     if !view_is_right(v) {
         return false;
     }
-    lengths_right(lengths, v.class, v.start, v.held, longest)
+    if !v.leaf {
+        return true;
+    }
+    queue_right(v, lengths, longest)
 }
 
-// The numbers of a class, which is in no set yet.
+// The numbers of a class, which is in no set yet and has no totals.
 fn numbers_of(
     class: usize,
     place: usize,
@@ -166,10 +203,39 @@ fn numbers_of(
         held,
         first,
         account,
+        packets: 0,
+        bytes: 0,
+        waiting: 0,
+        cost: 0,
     }
 }
 
-// Every class right, from the highest down, and all B and R add to the size. Each active class puts its parent into a set.
+// The class in the sets that it is in: leaves, active classes, parents of active ones.
+fn in_sets(v: View, leaves: u64, active: u64, parents: u64) -> View
+    requires { ⌜ v .class < 64 ⌝ }
+    ensures { λ r. ⌜ r ≡ inSets v leaves active parents ⌝ }
+{
+    let mut w = v;
+    w.leaf = sets::has(leaves, v.class);
+    w.active = sets::has(active, v.class);
+    w.child = sets::has(parents, v.class);
+    w
+}
+
+// The class with its totals, and what its children's add to.
+fn with_totals(v: View, packets: u64, bytes: u64, waiting: u64, cost: u64) -> View
+    ensures { λ r. ⌜ r ≡ withTotals v packets bytes waiting cost ⌝ }
+{
+    let mut w = v;
+    w.packets = packets;
+    w.bytes = bytes;
+    w.waiting = waiting;
+    w.cost = cost;
+    w
+}
+
+// Every class right, from the highest down, and all B and R add to the size. Each class adds its totals to what its parent's are to be,
+// and each active one puts its parent into a set.
 fn classes_right(
     tree: Tree,
     size: Bytes,
@@ -179,27 +245,30 @@ fn classes_right(
     start: [u8; Link::CLASSES],
     held: [u8; Link::CLASSES],
     lengths: &[u16; 2048],
+    totals: Totals,
 ) -> bool
     requires { ⌜ PlanRules tree × (size .0 ≤ mostSize) ⌝ }
     ensures { λ r. ⌜ ((tags : List ℕ)
-        → Exactly r (ClassesRight (linkOf tree size active place accounts start held (now (lengths .entry)) tags))) ⌝ }
+        → Exactly r (ClassesRight (linkOf tree size active place accounts start held (now (lengths .entry)) tags totals))) ⌝ }
 {
-    let parent = tree.parent;
-    let longest = tree.longest;
+    let mut waiting = [0u64; Link::CLASSES];
+    let mut cost = [0u64; Link::CLASSES];
     let mut sum = Bytes(0);
     let mut parents: u64 = 0;
     let mut n = Link::CLASSES;
     while 0 < n {
         let i = n - 1;
         let mut v = numbers_of(i, place, size, start[i], held[i], accounts[i], lengths);
-        v.leaf = sets::has(tree.leaves, i);
-        v.active = sets::has(active, i);
-        v.child = sets::has(parents, i);
-        if !class_right(v, lengths, longest[i]) {
+        v = in_sets(v, tree.leaves, active, parents);
+        v = with_totals(v, totals.packets[i], totals.bytes[i], waiting[i], cost[i]);
+        if !class_right(v, lengths, tree.longest[i]) {
             return false;
         }
         sum = sum.plus(v.account.funds());
-        parents = sets::with_if(parents, wide(parent[i]), v.active);
+        let up = wide(tree.parent[i]);
+        parents = sets::with_if(parents, up, v.active);
+        waiting[up] += v.packets;
+        cost[up] += v.bytes;
         n -= 1;
     }
     sum.0 == size.0
@@ -225,9 +294,10 @@ pub fn is_sound_of(
     start: [u8; Link::CLASSES],
     held: [u8; Link::CLASSES],
     lengths: &[u16; 2048],
+    totals: Totals,
 ) -> bool
     ensures { λ r. ⌜ ((tags : List ℕ)
-        → Exactly r (SoundLink (linkOf tree size active place accounts start held (now (lengths .entry)) tags))) ⌝ }
+        → Exactly r (SoundLink (linkOf tree size active place accounts start held (now (lengths .entry)) tags totals))) ⌝ }
 {
     let plan = tree::plan_size(tree);
     if !plan.right {
@@ -243,7 +313,17 @@ pub fn is_sound_of(
     if Link::CLASSES < place {
         return false;
     }
-    classes_right(tree, size, active, place, accounts, start, held, lengths)
+    classes_right(
+        tree,
+        size,
+        active,
+        place,
+        accounts,
+        start,
+        held,
+        lengths,
+        totals,
+    )
 }
 
 // Whether a link is sound.
@@ -256,6 +336,7 @@ pub fn is_sound(link: Link) -> bool
     let start = link.start;
     let held = link.held;
     let lengths = link.lengths;
+    let totals = link.totals;
     is_sound_of(
         tree,
         size,
@@ -265,5 +346,6 @@ pub fn is_sound(link: Link) -> bool
         start,
         held,
         &lengths,
+        totals,
     )
 }

@@ -33,3 +33,5 @@ pub record Rest : Type 0 where
   pub start : List ℕ
   pub lengths : List ℕ
   pub tags : List ℕ
+  pub packets : List ℕ
+  pub bytes : List ℕ

@@ -36,13 +36,13 @@ fn open_next(
     residual: &mut [u64; Link::CLASSES],
 ) -> u64
     requires { ⌜ ((k : Rest) × InParts tree size (k .active) (k .place) (now balance) (now residual) (k .start) (now held) (k .lengths)
-        (k .tags)) × (tree .follows ≡ false) ⌝ }
+        (k .tags) (k .packets) (k .bytes)) × (tree .follows ≡ false) ⌝ }
     ensures { λ r. ⌜ ((k : Rest)
         → InParts tree size (k .active) (k .place) (now (balance .entry)) (now (residual .entry)) (k .start) (now (held .entry))
-        (k .lengths) (k .tags)
-        → lentLink tree size r 1 (now (balance .exit)) (now (residual .exit)) (k .start) (now (held .entry)) (k .lengths) (k .tags)
+        (k .lengths) (k .tags) (k .packets) (k .bytes)
+        → lentLink tree size r 1 (now (balance .exit)) (now (residual .exit)) (k .start) (now (held .entry)) (k .lengths) (k .tags) (k .packets) (k .bytes)
         ≡ openedLink (lentLink tree size (k .active) (k .place) (now (balance .entry)) (now (residual .entry)) (k .start)
-        (now (held .entry)) (k .lengths) (k .tags))) ⌝ }
+        (now (held .entry)) (k .lengths) (k .tags) (k .packets) (k .bytes))) ⌝ }
 {
     let active = steps::round_active(tree, 0, held);
     let sums = steps::weight_sums(tree, active);

@@ -1,5 +1,5 @@
 -- Laws of the bytes of a queue: its first packet's among them, the rest without it, and no more than its packets can cost. Demand 3.
-use mathlib.Core.List.{List, [], _∷_}
+use mathlib.Core.List.{List, [], _∷_, _++_}
 use mathlib.Core.Path.{_≡_, refl}
 use Prim.Native.Nat.{ℕ, suc, _+_, _*_, _≤_, _<_}
 use native.Mathlib.Nat.{suc-mul}
@@ -14,6 +14,18 @@ pub bytes-first : (q : List Packet) (k : ℕ) → k < length q → costOf (getD 
 unfolding bytesIn
 bytes-first [] k h = absurd (omega arith)
 bytes-first (p ∷ q) k h = omega arith
+
+-- a packet more
+pub bytes-more : (q : List Packet) (p : Packet) → bytesIn (q ++ (p ∷ [])) ≡ bytesIn q + costOf (p .length)
+unfolding bytesIn
+bytes-more [] p = omega arith
+bytes-more (x ∷ q) p = omega (arith, bytes-more q p)
+
+-- all but the first
+pub bytes-rest : (q : List Packet) → 1 ≤ length q → bytesIn q ≡ costOf (getD q 0 noPacket .length) + bytesIn (drop 1 q)
+unfolding bytesIn
+bytes-rest [] h = absurd (omega arith)
+bytes-rest (p ∷ q) h = refl
 
 -- without the first packet there is one packet less
 pub bytes-without : (q : List Packet) (k : ℕ) → suc k < length q

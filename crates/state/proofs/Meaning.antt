@@ -1,19 +1,29 @@
 -- What a link record means, what the steps on a queue do to that, and that the meaning leaves out no more than R97 says. Demand 2.
+use mathlib.Core.Bool.{true, false}
 use mathlib.Core.List.{List, [], _∷_, _++_}
-use mathlib.Core.Path.{_≡_, sym, ap, _∙_}
+use mathlib.Core.Path.{_≡_, refl, sym, ap, _∙_}
 use Prim.Native.Nat.{ℕ, _+_, _-_, _/_, _%_, _≤_, _<_}
 use native.Mathlib.Decide.{decLt}
 use native.Mathlib.Omega.{arith}
-use lib.ListN.{length, getD, drop, replicate, length-set, length-replicate, getD-replicate, List·getD-eq-default}
+use lib.ListN.{length, getD, set, drop, replicate, length-set, length-append, length-drop, length-replicate}
+use lib.ListN.{getD-replicate, List·getD-eq-default}
 use lib.Seq.{ext-getD}
 use Rattle.tree.specs.declared.Tree.{Tree}
+use Rattle.tree.specs.Class.{isLeaf}
+use Rattle.tree.specs.Rules.{PlanRules}
 use Rattle.tree.specs.Size.{roundSize}
+use Rattle.tree.specs.Sum.{table}
+use Rattle.tree.proofs.Rules.{leaf-number}
+use Rattle.units.specs.Cost.{costOf}
 use Rattle.state.specs.declared.Link.{Link}
 use Rattle.state.specs.declared.Packet.{Packet}
 use Rattle.state.specs.Account.{account, noAccount}
-use Rattle.state.specs.Queue.{noPacket, startOf, heldOf, slotOf, packetAt, queueOf, putLast, takenFirst, Shaped}
-use Rattle.state.specs.State.{State, meaning, queueAt, withQueues, withQueue, freshLink, noLink}
-use Rattle.tree.proofs.Tables.{table-at, table-same, table-set}
+use Rattle.state.specs.Queue.{noPacket, startOf, heldOf, slotOf, packetAt, queueOf, bytesIn, putLast, takenFirst, Shaped}
+use Rattle.state.specs.State.{State, meaning, queueAt, totalsOf, TotalsRight, withQueues, withQueue, linkInRound, freshLink, noLink}
+use Rattle.state.specs.WayUp.{changed}
+use Rattle.tree.proofs.Tables.{table-length, table-at, table-same, table-set}
+use Rattle.state.proofs.Bytes.{bytes-more, bytes-rest}
+use Rattle.state.proofs.Counting.{totals-change}
 use Rattle.state.proofs.Queues.{queue-length, queue-at, queue-none, queue-put-same, queue-put-other, queue-take-same}
 use Rattle.state.proofs.Queues.{queue-take-other}
 
@@ -25,27 +35,84 @@ meaning-queue l i h = table-at (queueOf l) [] 64 i h
 pub meaning-held : (l : Link) (i : ℕ) → i < 64 → length (queueAt (meaning l) i) ≡ heldOf l i
 meaning-held l i h = ap length (meaning-queue l i h) ∙ queue-length l i
 
--- a packet put last changes the meaning of its class's queue alone
-pub meaning-put : (l : Link) (i : ℕ) (p : Packet) → Shaped l → i < 64 → heldOf l i < 32
-    → meaning (putLast l i p) ≡ withQueue (meaning l) i (queueAt (meaning l) i ++ (p ∷ []))
-meaning-put l i p s h room =
-    ap (withQueues (meaning l))
-    (table-set (queueOf l) (queueOf (putLast l i p)) 64 i (queueAt (meaning l) i ++ (p ∷ [])) h
+-- a packet put last changes the queue of its class alone
+put-queues : (l : Link) (i : ℕ) (p : Packet) → Shaped l → i < 64 → heldOf l i < 32
+    → table (queueOf (putLast l i p)) 64 ≡ set (meaning l .queues) i (queueAt (meaning l) i ++ (p ∷ []))
+put-queues l i p s h room =
+    table-set (queueOf l) (queueOf (putLast l i p)) 64 i (queueAt (meaning l) i ++ (p ∷ [])) h
     (queue-put-same l i p s h room ∙ ap (λ (q : List Packet). q ++ (p ∷ [])) (sym (meaning-queue l i h)))
-    (queue-put-other l i p))
+    (queue-put-other l i p)
 
--- the first packet taken changes the meaning of its class's queue alone
-pub meaning-take : (l : Link) (i : ℕ) → Shaped l → i < 64 → 1 ≤ heldOf l i
-    → meaning (takenFirst l i) ≡ withQueue (meaning l) i (drop 1 (queueAt (meaning l) i))
-meaning-take l i s h some =
-    ap (withQueues (meaning l))
-    (table-set (queueOf l) (queueOf (takenFirst l i)) 64 i (drop 1 (queueAt (meaning l) i)) h
+-- and so does the first packet taken
+take-queues : (l : Link) (i : ℕ) → Shaped l → i < 64 → 1 ≤ heldOf l i
+    → table (queueOf (takenFirst l i)) 64 ≡ set (meaning l .queues) i (drop 1 (queueAt (meaning l) i))
+take-queues l i s h some =
+    table-set (queueOf l) (queueOf (takenFirst l i)) 64 i (drop 1 (queueAt (meaning l) i)) h
     (sym (ap (drop 1) (meaning-queue l i h ∙ queue-take-same l i s h some)))
-    (queue-take-other l i))
+    (queue-take-other l i)
+
+-- a leaf of a plan's tree in a link whose totals are right: there a packet is counted
+pub record Counts (l : Link) (i : ℕ) : Type 0 where
+  pub rules : PlanRules (l .tree)
+  pub leaf : isLeaf (l .tree) i ≡ true
+  pub totals : (k : ℕ) → k < 64 → TotalsRight (meaning l) k
+
+-- the link's queues and totals changed, its meaning is with those queues
+with-queues : (l l′ : Link) (queues : List (List Packet)) → linkInRound l′ (l .size .0) (l .active) (l .place) (l .accounts) ≡ l′
+    → l′ .tree ≡ l .tree → table (queueOf l′) 64 ≡ queues → l′ .totals ≡ totalsOf (l .tree) queues → meaning l′ ≡ withQueues (meaning l) queues
+with-queues l l′ queues same tree waits totals = λ k. record {
+  tree = tree k;
+  size = sym same k .size .0;
+  active = sym same k .active;
+  place = sym same k .place;
+  accounts = sym same k .accounts;
+  queues = waits k;
+  totals = totals k;
+}
+
+-- a packet put last in a leaf changes the meaning of that leaf's queue, and the totals with it
+pub meaning-put : (l : Link) (i : ℕ) (p : Packet) → Shaped l → Counts l i → heldOf l i < 32
+    → meaning (putLast l i p) ≡ withQueue (meaning l) i (queueAt (meaning l) i ++ (p ∷ []))
+unfolding totalsOf
+meaning-put l i p s c room =
+    let h = leaf-number (l .tree) i (c .rules) (c .leaf) in
+    let q = queueAt (meaning l) i in
+    let many : length (meaning l .queues) ≡ 64 = table-length (queueOf l) 64 in
+    let packets =
+    totals-change length (l .tree) (meaning l .queues) i (q ++ (p ∷ [])) (c .rules) (c .leaf) many (changed false 1) (l .totals .packets)
+    (s .packets) (λ k v. c .totals k v .packets) (λ a b e. omega (arith, e, length-append q (p ∷ [])))
+    in
+    let bytes =
+    totals-change bytesIn (l .tree) (meaning l .queues) i (q ++ (p ∷ [])) (c .rules) (c .leaf) many
+    (changed false (costOf (p .length))) (l .totals .bytes)
+    (s .bytes) (λ k v. c .totals k v .bytes) (λ a b e. omega (arith, e, bytes-more q p))
+    in
+    with-queues l (putLast l i p) _ refl refl (put-queues l i p s h room) (λ k. record { packets = packets k; bytes = bytes k })
 
 -- the packet that leaves is the first of its queue
 pub meaning-first : (l : Link) (i : ℕ) → i < 64 → 1 ≤ heldOf l i → getD (queueAt (meaning l) i) 0 noPacket ≡ packetAt l i 0
 meaning-first l i h some = ap (λ (q : List Packet). getD q 0 noPacket) (meaning-queue l i h) ∙ queue-at l i 0 some
+
+-- the first packet taken from a leaf changes the meaning of that leaf's queue, and the totals with it
+pub meaning-take : (l : Link) (i : ℕ) → Shaped l → Counts l i → 1 ≤ heldOf l i
+    → meaning (takenFirst l i) ≡ withQueue (meaning l) i (drop 1 (queueAt (meaning l) i))
+unfolding totalsOf
+meaning-take l i s c some =
+    let h = leaf-number (l .tree) i (c .rules) (c .leaf) in
+    let q = queueAt (meaning l) i in
+    let many : length (meaning l .queues) ≡ 64 = table-length (queueOf l) 64 in
+    let held : 1 ≤ length q = omega (arith, meaning-held l i h) in
+    let first = ap (λ (x : Packet). costOf (x .length)) (meaning-first l i h some) in
+    let packets =
+    totals-change length (l .tree) (meaning l .queues) i (drop 1 q) (c .rules) (c .leaf) many (changed true 1) (l .totals .packets)
+    (s .packets) (λ k v. c .totals k v .packets) (λ a b e. omega (arith, e, length-drop 1 q, held))
+    in
+    let bytes =
+    totals-change bytesIn (l .tree) (meaning l .queues) i (drop 1 q) (c .rules) (c .leaf) many
+    (changed true (costOf (packetAt l i 0 .length))) (l .totals .bytes)
+    (s .bytes) (λ k v. c .totals k v .bytes) (λ a b e. omega (arith, e, first, bytes-rest q held))
+    in
+    with-queues l (takenFirst l i) _ refl refl (take-queues l i s h some) (λ k. record { packets = packets k; bytes = bytes k })
 
 -- a fresh link, and the link without classes, hold no packet
 none-held : (i : ℕ) → heldOf noLink i ≡ 0
@@ -65,6 +132,8 @@ shaped-fresh t = record {
   held = length-replicate {A = ℕ} 64 0;
   lengths = length-replicate {A = ℕ} 2_048 0;
   tags = length-replicate {A = ℕ} 2_048 0;
+  packets = length-replicate {A = ℕ} 64 0;
+  bytes = length-replicate {A = ℕ} 64 0;
 }
 
 -- two links of one meaning
@@ -131,6 +200,7 @@ module _ (l l′ : Link) (same : meaning l ≡ meaning l′) where
       held = same-helds i;
       lengths = same-lengths i;
       tags = same-tags i;
+      totals = same i .totals;
     }
 
 -- the meaning leaves out the starts and the free places, and nothing else
@@ -142,12 +212,13 @@ nothing-forgotten l l′ s s′ same starts free = same-link l l′ same s s′ 
 
 -- two states are equal when all else agrees and each class's packets agree in order (R98)
 pub same-meaning : (l l′ : Link) → l .tree ≡ l′ .tree → l .size ≡ l′ .size → l .active ≡ l′ .active → l .place ≡ l′ .place
-    → l .accounts ≡ l′ .accounts → ((i : ℕ) → i < 64 → queueOf l i ≡ queueOf l′ i) → meaning l ≡ meaning l′
-same-meaning l l′ tree size active place accounts queues = λ i. record {
+    → l .accounts ≡ l′ .accounts → ((i : ℕ) → i < 64 → queueOf l i ≡ queueOf l′ i) → l .totals ≡ l′ .totals → meaning l ≡ meaning l′
+same-meaning l l′ tree size active place accounts queues totals = λ i. record {
   tree = tree i;
   size = size i .0;
   active = active i;
   place = place i;
   accounts = accounts i;
   queues = table-same (queueOf l) (queueOf l′) 64 queues i;
+  totals = totals i;
 }

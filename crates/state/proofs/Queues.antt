@@ -1,4 +1,5 @@
 -- What a packet put last, or the first one taken, does to each class's queue. Demand 2.
+use mathlib.Core.Bool.{true, false}
 use mathlib.Core.List.{List, [], _∷_, _++_}
 use mathlib.Core.Path.{_≡_, sym, ap, ap₂, _∙_}
 use Prim.Native.Nat.{ℕ, suc, _+_, _-_, _%_, _≤_, _<_}
@@ -6,8 +7,13 @@ use native.Mathlib.Numerals.{add-one}
 use native.Mathlib.Omega.{arith}
 use lib.ListN.{getD, length, length-set}
 use lib.Seq.{getD-set-same, getD-set-other}
+use Rattle.tree.proofs.Changes.{changed-length}
+use Rattle.units.specs.Cost.{costOf}
+use Rattle.state.specs.declared.Account.{Account}
 use Rattle.state.specs.declared.Link.{Link}
 use Rattle.state.specs.declared.Packet.{Packet}
+use Rattle.state.specs.State.{linkInRound}
+use Rattle.state.specs.WayUp.{changed}
 use Rattle.state.specs.Queue.{noPacket, startOf, heldOf, slot, slotOf, packetAt, queueOf, putLast, takenFirst, Shaped}
 use Rattle.tree.specs.Sum.{table}
 use Rattle.tree.proofs.Tables.{table-none, table-last, table-length, table-at, table-same, table-first}
@@ -110,6 +116,8 @@ shaped-put l i p s = record {
   held = length-set (l .held) i (heldOf l i + 1) ∙ s .held;
   lengths = length-set (l .lengths) (slotOf l i (heldOf l i)) (p .length) ∙ s .lengths;
   tags = length-set (l .tags) (slotOf l i (heldOf l i)) (p .tag) ∙ s .tags;
+  packets = changed-length (l .tree) (changed false 1) i (l .totals .packets) ∙ s .packets;
+  bytes = changed-length (l .tree) (changed false (costOf (p .length))) i (l .totals .bytes) ∙ s .bytes;
 }
 
 pub shaped-take : (l : Link) (i : ℕ) → Shaped l → Shaped (takenFirst l i)
@@ -119,4 +127,18 @@ shaped-take l i s = record {
   held = length-set (l .held) i (heldOf l i - 1) ∙ s .held;
   lengths = s .lengths;
   tags = s .tags;
+  packets = changed-length (l .tree) (changed true 1) i (l .totals .packets) ∙ s .packets;
+  bytes = changed-length (l .tree) (changed true (costOf (packetAt l i 0 .length))) i (l .totals .bytes) ∙ s .bytes;
+}
+
+pub shaped-in : (l : Link) (size active place : ℕ) (accounts : List Account) → Shaped l → length accounts ≡ 64
+    → Shaped (linkInRound l size active place accounts)
+shaped-in l size active place accounts s many = record {
+  accounts = many;
+  start = s .start;
+  held = s .held;
+  lengths = s .lengths;
+  tags = s .tags;
+  packets = s .packets;
+  bytes = s .bytes;
 }

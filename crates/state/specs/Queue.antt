@@ -1,4 +1,5 @@
 -- Each class's queue, first in first out, in its 32 of the 2,048 waiting places (R93 to R95). Demands 2 and 3.
+use mathlib.Core.Bool.{true, false}
 use mathlib.Core.List.{List, [], _∷_}
 use mathlib.Core.Path.{_≡_}
 use Prim.Native.Nat.{ℕ, _+_, _-_, _*_, _%_}
@@ -7,6 +8,8 @@ use Rattle.units.specs.Cost.{costOf}
 use Rattle.tree.specs.Sum.{table}
 use Rattle.state.specs.declared.Link.{Link}
 use Rattle.state.specs.declared.Packet.{Packet}
+use Rattle.state.specs.declared.Totals.{Totals}
+use Rattle.state.specs.WayUp.{recounted}
 
 -- a packet whose numbers are 0
 abbrev pub noPacket : Packet
@@ -52,17 +55,41 @@ queued l start held lengths tags = record {
   held = held;
   lengths = lengths;
   tags = tags;
+  totals = l .totals;
 }
 
--- a packet waits last in class i's queue (R93)
-abbrev pub putLast : Link → ℕ → Packet → Link
-putLast l i p =
+-- the link with these totals
+abbrev pub withTotals : Link → Totals → Link
+withTotals l totals = record {
+  tree = l .tree;
+  size = l .size;
+  active = l .active;
+  place = l .place;
+  accounts = l .accounts;
+  start = l .start;
+  held = l .held;
+  lengths = l .lengths;
+  tags = l .tags;
+  totals = totals;
+}
+
+-- a packet laid last in class i's places, and not counted yet (R93)
+abbrev pub laidLast : Link → ℕ → Packet → Link
+laidLast l i p =
     queued l (l .start) (set (l .held) i (heldOf l i + 1))
     (set (l .lengths) (slotOf l i (heldOf l i)) (p .length)) (set (l .tags) (slotOf l i (heldOf l i)) (p .tag))
 
--- the first packet leaves class i's queue (R93, R95)
+-- the first packet lifted from class i's places, and still counted (R93, R95)
+abbrev pub liftedFirst : Link → ℕ → Link
+liftedFirst l i = queued l (set (l .start) i ((startOf l i + 1) % 32)) (set (l .held) i (heldOf l i - 1)) (l .lengths) (l .tags)
+
+-- a packet waits last in class i's queue, and is counted on the way up (R93, R277)
+abbrev pub putLast : Link → ℕ → Packet → Link
+putLast l i p = withTotals (laidLast l i p) (recounted false (l .tree) i (costOf (p .length)) (l .totals))
+
+-- the first packet leaves class i's queue, and is counted there no more (R93, R95, R277)
 abbrev pub takenFirst : Link → ℕ → Link
-takenFirst l i = queued l (set (l .start) i ((startOf l i + 1) % 32)) (set (l .held) i (heldOf l i - 1)) (l .lengths) (l .tags)
+takenFirst l i = withTotals (liftedFirst l i) (recounted true (l .tree) i (costOf (packetAt l i 0 .length)) (l .totals))
 
 -- the lists of a link have the lengths of its arrays (R94)
 pub record Shaped (l : Link) : Type 0 where
@@ -71,3 +98,5 @@ pub record Shaped (l : Link) : Type 0 where
   pub held : length (l .held) ≡ 64
   pub lengths : length (l .lengths) ≡ 2_048
   pub tags : length (l .tags) ≡ 2_048
+  pub packets : length (l .totals .packets) ≡ 64
+  pub bytes : length (l .totals .bytes) ≡ 64

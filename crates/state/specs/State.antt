@@ -1,19 +1,23 @@
 -- What a link record means, and the links that are made from nothing (R96 to R100). Demand 2.
 use mathlib.Core.List.{List, []}
+use mathlib.Core.Path.{_≡_}
 use Prim.Native.Nat.{ℕ}
-use lib.ListN.{getD, set, replicate}
+use lib.ListN.{length, getD, set, replicate}
 use Rattle.units.specs.declared.Bytes.{Bytes}
 use Rattle.tree.specs.declared.Tree.{Tree}
+use Rattle.tree.specs.Below.{leavesSum}
 use Rattle.tree.specs.Class.{noTree}
 use Rattle.tree.specs.Size.{roundSize}
 use Rattle.state.specs.declared.Account.{Account}
 use Rattle.state.specs.declared.Link.{Link}
 use Rattle.state.specs.declared.Packet.{Packet}
+use Rattle.state.specs.declared.Totals.{Totals}
 use Rattle.state.specs.Account.{account, noAccount}
-use Rattle.state.specs.Queue.{queueOf}
+use Rattle.state.specs.Queue.{queueOf, bytesIn}
 use Rattle.tree.specs.Sum.{table}
 
--- the tree, the round size in force, the set of active classes, the place in the round, each class's account and each class's queue (R96)
+-- the tree, the round size in force, the set of active classes, the place in the round, each class's account and each class's queue (R96),
+-- and its totals by class number (R276)
 pub record State : Type 0 where
   pub tree : Tree
   pub size : ℕ
@@ -21,6 +25,7 @@ pub record State : Type 0 where
   pub place : ℕ
   pub accounts : List Account
   pub queues : List (List Packet)
+  pub totals : Totals
 
 -- What a place without a packet holds, and where in its 32 places a queue starts, are no part of a state's meaning (R97, R98).
 abbrev pub meaning : Link → State
@@ -31,13 +36,30 @@ meaning l = record {
   place = l .place;
   accounts = l .accounts;
   queues = table (queueOf l) 64;
+  totals = l .totals;
 }
 
 -- the packets of class i in order
 abbrev pub queueAt : State → ℕ → List Packet
 queueAt s i = getD (s .queues) i []
 
--- the state with other queues, or with another queue for class i alone
+-- the packets, or the charged bytes, that wait at the leaves at or below class i: a sum over these of what a queue counts for (R276)
+abbrev pub waitingBelow : (List Packet → ℕ) → Tree → List (List Packet) → ℕ → ℕ
+waitingBelow count t queues i = leavesSum t (λ j. count (getD queues j [])) i
+
+-- the totals of these queues, of each class number (R276)
+unfoldable pub totalsOf : Tree → List (List Packet) → Totals
+totalsOf t queues = record {
+  packets = table (waitingBelow length t queues) 64;
+  bytes = table (waitingBelow bytesIn t queues) 64;
+}
+
+-- the totals of class number i are right: they are what waits at the leaves at or below it (R276)
+pub record TotalsRight (s : State) (i : ℕ) : Type 0 where
+  pub packets : getD (s .totals .packets) i 0 ≡ waitingBelow length (s .tree) (s .queues) i
+  pub bytes : getD (s .totals .bytes) i 0 ≡ waitingBelow bytesIn (s .tree) (s .queues) i
+
+-- the state with other queues, and so with other totals, or with another queue for class i alone
 abbrev pub withQueues : State → List (List Packet) → State
 withQueues s queues = record {
   tree = s .tree;
@@ -46,6 +68,7 @@ withQueues s queues = record {
   place = s .place;
   accounts = s .accounts;
   queues = queues;
+  totals = totalsOf (s .tree) queues;
 }
 
 abbrev pub withQueue : State → ℕ → List Packet → State
@@ -60,11 +83,12 @@ inRound s size active place accounts = record {
   place = place;
   accounts = accounts;
   queues = s .queues;
+  totals = s .totals;
 }
 
 -- the link that its parts make up
-abbrev pub linkOf : Tree → Bytes → ℕ → ℕ → List Account → List ℕ → List ℕ → List ℕ → List ℕ → Link
-linkOf tree size active place accounts start held lengths tags = record {
+abbrev pub linkOf : Tree → Bytes → ℕ → ℕ → List Account → List ℕ → List ℕ → List ℕ → List ℕ → Totals → Link
+linkOf tree size active place accounts start held lengths tags totals = record {
   tree = tree;
   size = size;
   active = active;
@@ -74,12 +98,17 @@ linkOf tree size active place accounts start held lengths tags = record {
   held = held;
   lengths = lengths;
   tags = tags;
+  totals = totals;
 }
 
 -- the link in a round, as a state is
 abbrev pub linkInRound : Link → ℕ → ℕ → ℕ → List Account → Link
 linkInRound l size active place accounts =
-    linkOf (l .tree) (record { 0 = size }) active place accounts (l .start) (l .held) (l .lengths) (l .tags)
+    linkOf (l .tree) (record { 0 = size }) active place accounts (l .start) (l .held) (l .lengths) (l .tags) (l .totals)
+
+-- nothing waits (R99, R100)
+abbrev pub noTotals : Totals
+noTotals = record { packets = replicate 64 0; bytes = replicate 64 0 }
 
 -- a fresh link, whose size is the whole tree's: root balance Q, every other B and R zero, queues empty, nothing active, place 64 (R99)
 abbrev pub freshLink : Tree → Link
@@ -93,6 +122,7 @@ freshLink t = record {
   held = replicate 64 0;
   lengths = replicate 2_048 0;
   tags = replicate 2_048 0;
+  totals = noTotals;
 }
 
 -- the link without classes, all its numbers 0 (R100)
@@ -107,4 +137,5 @@ noLink = record {
   held = replicate 64 0;
   lengths = replicate 2_048 0;
   tags = replicate 2_048 0;
+  totals = noTotals;
 }

@@ -3,10 +3,11 @@
 mod accounts;
 pub mod lent_accounts;
 pub mod queue;
+pub mod way_up;
 
 ghost use mathlib.Core.Path.{_≡_};
 ghost use Rattle.tree.specs.Rules.{PlanRules};
-ghost use Rattle.state.specs.State.{freshLink, noLink};
+ghost use Rattle.state.specs.State.{freshLink, noLink, noTotals};
 use tree::Tree;
 use units::Bytes;
 
@@ -22,6 +23,12 @@ pub struct Packet {
     pub tag: u32,
 }
 
+// The totals of each class number: the packets, and their charged bytes, that wait at the leaves at or below it.
+pub struct Totals {
+    pub packets: [u64; Link::CLASSES],
+    pub bytes: [u64; Link::CLASSES],
+}
+
 // The link: class i's packets lie in the 32 places from i * 32 on, the first of them at its start, and the others follow round the 32.
 pub struct Link {
     pub tree: Tree,
@@ -33,6 +40,18 @@ pub struct Link {
     pub held: [u8; Link::CLASSES],
     pub lengths: [u16; 2048],
     pub tags: [u32; 2048],
+    pub totals: Totals,
+}
+
+impl Totals {
+    // Nothing waits.
+    pub fn none() -> Totals
+        ensures { λ r. ⌜ r ≡ noTotals ⌝ }
+    {
+        let packets = [0u64; Link::CLASSES];
+        let bytes = [0u64; Link::CLASSES];
+        Totals { packets, bytes }
+    }
 }
 
 impl Link {
@@ -68,6 +87,7 @@ impl Link {
             held,
             lengths,
             tags,
+            totals: Totals::none(),
         }
     }
 
@@ -91,6 +111,7 @@ impl Link {
             held,
             lengths,
             tags,
+            totals: Totals::none(),
         }
     }
 }

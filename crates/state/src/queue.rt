@@ -5,7 +5,7 @@ ghost use Prim.Native.Nat.{ℕ, _+_, _%_, _<_, _≤_};
 ghost use mathlib.Core.List.{List};
 ghost use lib.ListN.{getD};
 ghost use Rattle.state.specs.declared.Link.{Link};
-ghost use Rattle.state.specs.Queue.{slot, packetAt, queued, putLast, takenFirst};
+ghost use Rattle.state.specs.Queue.{slot, packetAt, queued, laidLast, liftedFirst};
 use crate::Link;
 use crate::Packet;
 use tree::wide;
@@ -26,7 +26,7 @@ pub fn free_place(class: usize, start: u8, held: u8) -> usize
     slot(class, (wide(start) + wide(held)) % Link::PLACES)
 }
 
-// A packet waits last in its class's queue.
+// A packet is laid last in its class's queue.
 pub fn put(
     class: usize,
     packet: Packet,
@@ -37,7 +37,7 @@ pub fn put(
 )
     requires { ⌜ (class < 64) × (getD (now held) class 0 < 32) ⌝ }
     ensures { λ _. ⌜ ((l : Link) → queued l (now (start .entry)) (now (held .exit)) (now (lengths .exit)) (now (tags .exit))
-        ≡ putLast (queued l (now (start .entry)) (now (held .entry)) (now (lengths .entry)) (now (tags .entry))) class packet) ⌝ }
+        ≡ laidLast (queued l (now (start .entry)) (now (held .entry)) (now (lengths .entry)) (now (tags .entry))) class packet) ⌝ }
 {
     let at = free_place(class, start[class], held[class]);
     lengths[at] = packet.length;
@@ -58,11 +58,11 @@ pub fn first(class: usize, start: &[u8; 64], lengths: &[u16; 2048], tags: &[u32;
     }
 }
 
-// The first packet leaves its class's queue, and its place is free.
+// The first packet is lifted from its class's queue, and its place is free.
 pub fn take(class: usize, start: &mut [u8; 64], held: &mut [u8; 64])
     requires { ⌜ (class < 64) × (getD (now start) class 0 < 32) × (1 ≤ getD (now held) class 0) ⌝ }
     ensures { λ _. ⌜ ((l : Link) (lengths tags : List ℕ) → queued l (now (start .exit)) (now (held .exit)) lengths tags
-        ≡ takenFirst (queued l (now (start .entry)) (now (held .entry)) lengths tags) class) ⌝ }
+        ≡ liftedFirst (queued l (now (start .entry)) (now (held .entry)) lengths tags) class) ⌝ }
 {
     let s = start[class] as usize;
     start[class] = ((s + 1) % Link::PLACES) as u8;

@@ -1,27 +1,26 @@
--- A whole send over the parts of a link: a leaf is found at once, no packet waits, or rounds are opened. Demand 2.
-use mathlib.Core.Bool.{true, false}
+-- A whole send over the parts of a link: no packet waits, a leaf is found at once, or rounds are opened. Demand 2.
+use mathlib.Core.Bool.{true}
 use mathlib.Core.List.{List}
 use mathlib.Core.Path.{_≡_, refl, sym, ap, subst, _∙_}
 use Prim.Native.Nat.{ℕ, _≤_, _<_}
 use native.Mathlib.Omega.{arith}
-use lib.ListN.{length}
-use borrow.Author.Tests.{le-leb, lt-ltb, le-ltb}
+use lib.Dec.{leb}
+use lib.ListN.{getD}
+use borrow.Author.Tests.{le-leb, lt-leb}
 use Rattle.sets.specs.Set.{has}
 use Rattle.units.specs.declared.Bytes.{Bytes}
 use Rattle.tree.specs.declared.Tree.{Tree}
-use Rattle.tree.proofs.Classes.{class-range}
-use Rattle.tree.proofs.Sums.{some-found}
+use Rattle.tree.specs.Rules.{PlanRules}
 use Rattle.state.specs.declared.Link.{Link}
-use Rattle.state.specs.State.{State, meaning, queueAt}
+use Rattle.state.specs.State.{meaning}
 use Rattle.state.specs.Queue.{packetAt}
-use Rattle.rules.specs.Active.{waits, someWaits, roundActive, upward}
+use Rattle.rules.specs.Active.{someWaits, roundActive, upward}
 use Rattle.rules.specs.Steps.{holdsSome}
 use Rattle.rules.specs.Sending.{nextLeaf}
 use Rattle.rules.proofs.Waiting.{active-meaning}
 use Rattle.rules.proofs.Rounds.{leaf-most}
-use Rattle.rules.proofs.Sender.{next-sender}
 use Rattle.rules.proofs.Taken.{root-waits}
-use Rattle.sound.specs.Sound.{Sound}
+use Rattle.rules.proofs.Counted.{root-counts-some}
 use Rattle.rules.specs.After.{sentLink}
 use Rattle.rules.specs.Steps.{SendsNext, OnTheWay}
 use Rattle.rules.proofs.Meanings.{waits-leaf}
@@ -29,41 +28,30 @@ use Rattle.rules.proofs.OnTheWay.{way-starts, way-found, way-ends}
 use Rattle.steps.specs.declared.leaf.Gone.{Gone}
 use Rattle.steps.specs.Parts.{lentLink, GoesNext}
 use Rattle.steps.specs.declared.reopening.Found.{Found}
-use Rattle.steps.specs.Rounds.{InParts, Unseen, Closed, Opens, Finds, closedLink, openLink, sentWhere, Departs, wentBy, nothingGoes}
-
--- where a leaf can send a packet waits
-found-waits : (s : State) → Sound s → nextLeaf s < 64 → someWaits s ≡ true
-unfolding someWaits waits
-found-waits s sound here =
-    let k = next-sender s sound here in
-    let r = class-range (s .tree) (nextLeaf s) (k .class) in
-    some-found (waits s) (s .tree .count) (nextLeaf s) (r .0) (r .1) (rw (k .leaf, le-leb 1 (length (queueAt s (nextLeaf s))) (k .holds)))
+use Rattle.steps.specs.Rounds.{InParts, Going, Unseen, Closed, Opens, Finds, closedLink, openLink, Departs, wentBy, nothingGoes}
 
 -- a leaf is found at once, on a link in parts
 module _
-    {t : Tree} {size : Bytes} {before from : ℕ} (balance residual : List ℕ) {start held lengths tags : List ℕ}
-    (s : InParts t size before from balance residual start held lengths tags) where
+    {t : Tree} {size : Bytes} {before from : ℕ} (balance residual : List ℕ) {start held lengths tags packets bytes : List ℕ}
+    (s : Going t size before from balance residual start held lengths tags packets bytes) where
   abbrev whole : Link
-  whole = lentLink t size before from balance residual start held lengths tags
+  whole = lentLink t size before from balance residual start held lengths tags packets bytes
 
   pub now-finds : (at : ℕ) → at ≡ nextLeaf (meaning whole) → at < 64
       → Finds whole (record { class = at; rounds = 0; active = before; size = size })
-      (λ after active place. lentLink t after active place balance residual start held lengths tags)
-  now-finds at next here =
-      let some : someWaits (meaning whole) ≡ true = found-waits (meaning whole) (s .sound .state) (omega (arith, next, here)) in
-      record {
-        some = lt-ltb at 64 here ∙ sym some;
-        place = from;
-        way = λ h. way-starts whole at (s .wide) (s .sound) (waits-leaf (meaning whole) some) next;
-        none = λ h. absurd (omega (arith, here, h));
-      }
+      (λ after active place. lentLink t after active place balance residual start held lengths tags packets bytes)
+  now-finds at next here = record {
+    here = here;
+    place = from;
+    way = way-starts whole at (s .parts .wide) (s .parts .sound) (waits-leaf (meaning whole) (s .some)) next;
+  }
 
   -- or its round has closed
   abbrev unseen : Unseen
-  unseen = record { active = before; place = from; held = held; tags = tags }
+  unseen = record { active = before; place = from; held = held; tags = tags; packets = packets; bytes = bytes }
 
   pub is-closed : (at : ℕ) → at ≡ nextLeaf (meaning whole) → 64 ≤ at → Closed t size unseen balance residual start lengths
-  is-closed at next none = record { parts = s; closed = omega (arith, none, next, leaf-most (meaning whole) (s .sound .state)) }
+  is-closed at next none = record { going = s; closed = omega (arith, none, next, leaf-most (meaning whole) (s .parts .sound .state)) }
 
 -- the round has closed
 module _
@@ -73,67 +61,68 @@ module _
   abbrev shut : Link
   shut = closedLink t size k balance residual start lengths
 
+  rules : PlanRules t
+  rules = c .going .parts .sound .state .fits .tree
+
   taken : active ≡ roundActive (meaning shut)
-  taken = is ∙ active-meaning shut (c .parts .sound .state .fits .tree)
+  taken = is ∙ active-meaning shut rules
 
-  root : has active 0 ≡ someWaits (meaning shut)
-  root = ap (λ (a : ℕ). has a 0) taken ∙ root-waits (meaning shut) (c .parts .sound .state .fits .tree)
+  -- the root is active in the next round, since a packet waits
+  pub root-on : has active 0 ≡ true
+  root-on = ap (λ (a : ℕ). has a 0) taken ∙ root-waits (meaning shut) rules ∙ c .going .some
 
-  -- no packet waits
-  pub nothing-finds : has active 0 ≡ false
-      → Finds shut (record { class = 64; rounds = 0; active = active; size = size })
-      (λ after on place. lentLink t after on place balance residual start (k .held) lengths (k .tags))
-  nothing-finds off = record { some = sym off ∙ root; place = 0; way = λ h. absurd (omega (arith, h)); none = λ h. refl }
+  pub round-opens : Opens t size k active balance residual start lengths
+  round-opens = record { shut = c; taken = taken }
+
+  pub then-finds : (b r : List ℕ) (f : Found) → f .class < 64 → f .active ≡ active
+      → OnTheWay shut (f .class) (openLink t (f .size) k active b r start lengths) (f .rounds)
+      → Finds shut f (λ after x place. lentLink t after x place b r start (k .held) lengths (k .tags) (k .packets) (k .bytes))
+  then-finds b r f here same way = record {
+    here = here;
+    place = 1;
+    way = subst (λ (x : ℕ). OnTheWay shut (f .class) (openLink t (f .size) k x b r start lengths) (f .rounds)) (sym same) way;
+  }
+
+-- a leaf is found on a link in parts, and its packet goes
+module _
+    {t : Tree} {size : Bytes} {before from : ℕ} (balance residual : List ℕ) {start held lengths tags packets bytes : List ℕ} (f : Found)
+    (b r : List ℕ)
+    (q : Finds (lentLink t size before from balance residual start held lengths tags packets bytes) f
+    (λ after active place. lentLink t after active place b r start held lengths tags packets bytes)) where
+  abbrev found-in : Link
+  found-in = lentLink t size before from balance residual start held lengths tags packets bytes
+
+  abbrev at-turn : Link
+  at-turn = lentLink t (f .size) (f .active) (q .place) b r start held lengths tags packets bytes
+
+  its-turn : SendsNext at-turn (f .class)
+  its-turn = way-found found-in (f .class) at-turn (f .rounds) (q .way) (λ z. omega (arith, q .here, z))
+
+  pub then-goes : GoesNext t (f .size) (q .place) (f .class) (f .active) (t .count) (t .parent) b r start held lengths tags packets bytes
+  then-goes = record { many = refl; parents = refl; wide = q .way .many; next = its-turn }
+
+  pub then-departs : (gone : Gone) (after : Link) → gone .packet ≡ packetAt at-turn (f .class) 0 → after ≡ sentLink at-turn (f .class)
+      → true ≡ someWaits (meaning found-in)
+      → Departs found-in (wentBy (f .class) (f .rounds) (f .size) gone) after
+  then-departs gone after packet link some = record {
+    some = some;
+    sent = way-ends found-in (f .class) at-turn (f .rounds) (gone .packet) after (q .way) its-turn packet link;
+  }
+
+-- whether the root of a link in parts counts a packet
+module _
+    {t : Tree} {size : Bytes} {before from : ℕ} (balance residual : List ℕ) {start held lengths tags packets bytes : List ℕ}
+    (s : InParts t size before from balance residual start held lengths tags packets bytes) where
+  abbrev withTotals-in : Link
+  withTotals-in = lentLink t size before from balance residual start held lengths tags packets bytes
+
+  root-some : someWaits (meaning withTotals-in) ≡ leb 1 (getD packets 0 0)
+  root-some = root-counts-some (meaning withTotals-in) (s .sound .state)
 
   -- one does
-  module _ (on : has active 0 ≡ true) where
-    waiting : someWaits (meaning shut) ≡ true
-    waiting = sym root ∙ on
+  pub going-on : (getD packets 0 0 ≡ 0 → ⊥) → Going t size before from balance residual start held lengths tags packets bytes
+  going-on n = record { parts = s; some = root-some ∙ le-leb 1 (getD packets 0 0) (omega (arith, n)) }
 
-    pub round-opens : Opens t size k active balance residual start lengths
-    round-opens = record { shut = c; waits = waits-leaf (meaning shut) waiting; taken = taken }
-
-    pub then-finds : (b r : List ℕ) (f : Found) → f .class < 64 → f .active ≡ active
-        → OnTheWay shut (f .class) (openLink t (f .size) k active b r start lengths) (f .rounds)
-        → Finds shut f (λ after x place. lentLink t after x place b r start (k .held) lengths (k .tags))
-    then-finds b r f here same way = record {
-      some = lt-ltb (f .class) 64 here ∙ sym waiting;
-      place = 1;
-      way = λ h. subst (λ (x : ℕ). OnTheWay shut (f .class) (openLink t (f .size) k x b r start lengths) (f .rounds)) (sym same) way;
-      none = λ h. absurd (omega (arith, here, h));
-    }
-
--- a leaf is found on a link in parts, or none
-module _
-    {t : Tree} {size : Bytes} {before from : ℕ} (balance residual : List ℕ) {start held lengths tags : List ℕ} (f : Found)
-    (b r : List ℕ)
-    (q : Finds (lentLink t size before from balance residual start held lengths tags) f
-    (λ after active place. lentLink t after active place b r start held lengths tags)) where
-  abbrev found-in : Link
-  found-in = lentLink t size before from balance residual start held lengths tags
-
-  -- its packet goes
-  module _ (here : f .class < 64) where
-    abbrev at-turn : Link
-    at-turn = lentLink t (f .size) (f .active) (q .place) b r start held lengths tags
-
-    its-turn : SendsNext at-turn (f .class)
-    its-turn = way-found found-in (f .class) at-turn (f .rounds) (q .way here) (λ z. omega (arith, here, z))
-
-    pub then-goes : GoesNext t (f .size) (q .place) (f .class) (f .active) (t .count) (t .parent) b r start held lengths tags
-    then-goes = record { many = refl; parents = refl; wide = q .way here .many; next = its-turn }
-
-    pub then-departs : (gone : Gone) (after : Link) → gone .packet ≡ packetAt at-turn (f .class) 0 → after ≡ sentLink at-turn (f .class)
-        → Departs found-in (wentBy (f .class) (f .rounds) (f .size) gone) after
-    then-departs gone after packet link = record {
-      some = sym (lt-ltb (f .class) 64 here) ∙ q .some;
-      sent = way-ends found-in (f .class) at-turn (f .rounds) (gone .packet) after (q .way here) its-turn packet link;
-    }
-
-  -- nothing changes
-  pub nothing-departs : 64 ≤ f .class
-      → Departs found-in (nothingGoes size before from) (lentLink t size before from b r start held lengths tags)
-  nothing-departs none = record {
-    some = sym (le-ltb (f .class) 64 none) ∙ q .some;
-    sent = ap (λ (l : Link). sentWhere false l) (q .none none);
-  }
+  -- none does, and nothing changes
+  pub nothing-departs : getD packets 0 0 ≡ 0 → Departs withTotals-in (nothingGoes size before from) withTotals-in
+  nothing-departs none = record { some = sym (root-some ∙ lt-leb 1 (getD packets 0 0) (omega (arith, none))); sent = refl }

@@ -1,7 +1,7 @@
 -- A packet goes, over the parts of a link.
 use mathlib.Core.Bool.{true}
 use mathlib.Core.List.{List}
-use mathlib.Core.Path.{_≡_, refl, sym, ap, subst, _∙_}
+use mathlib.Core.Path.{_≡_, refl, sym, ap, ap₂, subst, _∙_}
 use Prim.Native.Nat.{ℕ, _≤_, _<_}
 use native.Mathlib.Omega.{arith}
 use lib.ListN.{length, getD}
@@ -13,28 +13,32 @@ use Rattle.state.specs.declared.Account.{Account}
 use Rattle.state.specs.declared.Link.{Link}
 use Rattle.state.specs.declared.Packet.{Packet}
 use Rattle.state.specs.Account.{balanceOf}
-use Rattle.state.specs.Queue.{packetAt, queued, takenFirst}
+use Rattle.state.specs.declared.Totals.{Totals}
+use Rattle.state.specs.Queue.{packetAt, queued, withTotals, liftedFirst}
+use Rattle.state.specs.WayUp.{recounted, Climbs}
 use Rattle.state.specs.State.{meaning, linkInRound}
 use Rattle.rules.specs.Sending.{Books, firstOf, paidBy, booksAfter, sentState, turnsOff}
 use Rattle.rules.specs.Steps.{Fit}
 use Rattle.rules.specs.After.{sentLink}
+use Rattle.rules.proofs.Counted.{sound-climbs}
 use Rattle.rules.proofs.Fitting.{fit-paid}
 use Rattle.rules.proofs.Meanings.{start-low, sound-fit, link-sender, sender-holds, first-cost, paid-means, books-more, books-last}
 use Rattle.state.specs.Account.{zipAccounts}
-use Rattle.steps.specs.Parts.{lentLink, booksOf, Grown, GoesNext}
+use Rattle.steps.specs.Parts.{lentLink, lentTotals, booksOf, Grown, GoesNext}
 
--- the link after, from the books and the queues after
-sent-by : (l : Link) (i : ℕ) (b : Books) (start held : List ℕ) → b ≡ booksAfter (meaning l) i
-    → ((k : Link) → queued k start held (l .lengths) (l .tags) ≡ takenFirst (queued k (l .start) (l .held) (l .lengths) (l .tags)) i)
-    → queued (linkInRound l (l .size .0) (b .active) i (b .accounts)) start held (l .lengths) (l .tags) ≡ sentLink l i
+-- the link after, from the books, the queues and the totals after
+sent-by : (l : Link) (i : ℕ) (b : Books) (start held : List ℕ) (totals : Totals) → b ≡ booksAfter (meaning l) i
+    → ((k : Link) → queued k start held (l .lengths) (l .tags) ≡ liftedFirst (queued k (l .start) (l .held) (l .lengths) (l .tags)) i)
+    → totals ≡ recounted true (l .tree) i (costOf (packetAt l i 0 .length)) (l .totals)
+    → withTotals (queued (linkInRound l (l .size .0) (b .active) i (b .accounts)) start held (l .lengths) (l .tags)) totals ≡ sentLink l i
 unfolding sentState
-sent-by l i b start held e q = q (linkInRound l (l .size .0) (b .active) i (b .accounts)) ∙ rw e refl
+sent-by l i b start held totals e q n = ap₂ withTotals (q (linkInRound l (l .size .0) (b .active) i (b .accounts))) n ∙ rw e refl
 
 module _
-    {t : Tree} {size : Bytes} {place i active count : ℕ} {parent balance residual start held lengths tags : List ℕ}
-    (s : GoesNext t size place i active count parent balance residual start held lengths tags) where
+    {t : Tree} {size : Bytes} {place i active count : ℕ} {parent balance residual start held lengths tags packets bytes : List ℕ}
+    (s : GoesNext t size place i active count parent balance residual start held lengths tags packets bytes) where
   abbrev whole : Link
-  whole = lentLink t size active place balance residual start held lengths tags
+  whole = lentLink t size active place balance residual start held lengths tags packets bytes
 
   -- what the steps ask
   pub goes-first : (i < 64) × (getD start i 0 < 32)
@@ -42,6 +46,9 @@ module _
 
   pub goes-takes : (i < 64) × (getD start i 0 < 32) × (1 ≤ getD held i 0)
   goes-takes = (s .next .found, goes-first .1, sender-holds whole i (s .next))
+
+  pub goes-climbs : (i < 64) × Climbs parent packets bytes
+  goes-climbs = (s .next .found, subst (λ (ps : List ℕ). Climbs ps packets bytes) (s .parents) (sound-climbs whole (s .next .sound)))
 
   grown : Grown t count parent
   grown = record { rules = s .next .sound .state .fits .tree; many = s .many; parents = s .parents }
@@ -66,20 +73,26 @@ module _
         subst Fit (sym y) (fit-paid (zipAccounts balance residual) i cost (goes-pays .0) (goes-pays .1) (goes-pays .2)),
       )
 
-      module _ {start′ held′ : List ℕ}
-          (q : (l : Link) → queued l start′ held′ lengths tags ≡ takenFirst (queued l start held lengths tags) i) where
+      module _ {start′ held′ packets′ bytes′ : List ℕ}
+          (q : (l : Link) → queued l start′ held′ lengths tags ≡ liftedFirst (queued l start held lengths tags) i)
+          (n : (u : Tree) → u .parent ≡ parent → lentTotals packets′ bytes′ ≡ recounted true u i (costOf (p .length)) (lentTotals packets bytes)) where
+        fewer : lentTotals packets′ bytes′ ≡ recounted true t i (costOf (packetAt whole i 0 .length)) (lentTotals packets bytes)
+        fewer =
+            n t (s .parents)
+            ∙ ap (λ (c : ℕ). recounted true t i c (lentTotals packets bytes)) (ap (λ (x : Packet). costOf (x .length)) (e whole held))
+
         -- the link after a packet that was not the last, and after one that was
-        pub goes-more : 1 < getD held i 0 → lentLink t size active i b r start′ held′ lengths tags ≡ sentLink whole i
+        pub goes-more : 1 < getD held i 0 → lentLink t size active i b r start′ held′ lengths tags packets′ bytes′ ≡ sentLink whole i
         goes-more m =
-            sent-by whole i (booksOf active b r) start′ held′
+            sent-by whole i (booksOf active b r) start′ held′ (lentTotals packets′ bytes′)
             (ap (λ (xs : List Account). record { active = active; accounts = xs }) (y ∙ paid-means whole i cost costs)
-            ∙ sym (books-more whole i (s .next .found) m)) q
+            ∙ sym (books-more whole i (s .next .found) m)) q fewer
 
         pub goes-last : getD held i 0 ≤ 1 → (a : ℕ) (b′ r′ : List ℕ)
             → ((u : Tree) → Grown u count parent → isClass u i ≡ true → booksOf a b′ r′ ≡ turnsOff 63 u i (booksOf active b r))
-            → lentLink t size a i b′ r′ start′ held′ lengths tags ≡ sentLink whole i
+            → lentLink t size a i b′ r′ start′ held′ lengths tags packets′ bytes′ ≡ sentLink whole i
         goes-last m a b′ r′ off =
-            sent-by whole i (booksOf a b′ r′) start′ held′
+            sent-by whole i (booksOf a b′ r′) start′ held′ (lentTotals packets′ bytes′)
             (off t grown class
             ∙ ap (λ (xs : List Account). turnsOff 63 t i (record { active = active; accounts = xs })) (y ∙ paid-means whole i cost costs)
-            ∙ sym (books-last whole i (s .next .found) m)) q
+            ∙ sym (books-last whole i (s .next .found) m)) q fewer

@@ -22,10 +22,10 @@ use Rattle.rules.proofs.Opened.{can-resize, next-wide}
 use Rattle.rules.specs.After.{openedLink}
 use Rattle.rules.specs.Steps.{OnTheWay}
 use Rattle.rules.proofs.OnTheWay.{way-starts, way-on}
-use Rattle.rules.proofs.Meanings.{meaning-wide, opened-means, opened-link-sound}
+use Rattle.rules.proofs.Meanings.{meaning-wide, waits-leaf, opened-means, opened-link-sound}
 use Rattle.state.specs.Account.{zipAccounts}
 use Rattle.opening.specs.Opens.{OpensWith}
-use Rattle.steps.specs.Parts.{lentLink, Searched}
+use Rattle.steps.specs.Parts.{lentLink, lentTotals, Searched}
 use Rattle.state.proofs.Zips.{zip-at}
 pub use Rattle.active.proofs.Raised.{raised-none, raised-round}
 use Rattle.steps.specs.Rounds.{InParts, Unseen, Opens, closedLink, openLink}
@@ -36,13 +36,13 @@ CoversNext l = Covers (meaning l) (nextSize (meaning l))
 
 -- what the search and the sender ask of parts
 module _
-    {t : Tree} {size : Bytes} {active place : ℕ} (balance residual : List ℕ) {start held lengths tags : List ℕ}
-    (s : InParts t size active place balance residual start held lengths tags) where
+    {t : Tree} {size : Bytes} {active place : ℕ} (balance residual : List ℕ) {start held lengths tags packets bytes : List ℕ}
+    (s : InParts t size active place balance residual start held lengths tags packets bytes) where
   pub parts-low : (i : ℕ) → i < 64 → getD start i 0 < 32
   parts-low i u = omega (arith, s .sound .starts i u .start)
 
   pub parts-searched : (leaves : ℕ) → Both active (t .leaves) leaves
-      → Searched (lentLink t size active place balance residual start held lengths tags) leaves place balance start lengths
+      → Searched (lentLink t size active place balance residual start held lengths tags packets bytes) leaves place balance start lengths
   parts-searched leaves b = record {
     sound = s .sound;
     both = b;
@@ -53,33 +53,33 @@ module _
   }
 
   -- where the root can take the difference of the sizes an opening can be worked out
-  pub parts-can : CoversNext (lentLink t size active place balance residual start held lengths tags)
-      → (on : ℕ) → on ≡ roundActive (meaning (lentLink t size active place balance residual start held lengths tags))
+  pub parts-can : CoversNext (lentLink t size active place balance residual start held lengths tags packets bytes)
+      → (on : ℕ) → on ≡ roundActive (meaning (lentLink t size active place balance residual start held lengths tags packets bytes))
       → CanResize t on (size .0) (zipAccounts balance residual)
   parts-can covers on is =
-      let l = lentLink t size active place balance residual start held lengths tags in
+      let l = lentLink t size active place balance residual start held lengths tags packets bytes in
       subst (λ (a : ℕ). CanResize t a (size .0) (zipAccounts balance residual)) (sym is)
       (can-resize (meaning l) (s .sound .state) (meaning-wide l (s .wide)) covers)
 
   -- the size and the accounts of an opening make up the link when it has opened
   pub parts-opened : (on : ℕ) (new : Bytes) (b r : List ℕ)
-      → on ≡ roundActive (meaning (lentLink t size active place balance residual start held lengths tags))
+      → on ≡ roundActive (meaning (lentLink t size active place balance residual start held lengths tags packets bytes))
       → OpensWith t on (size .0) (zipAccounts balance residual) (new .0) (zipAccounts b r)
-      → lentLink t new on 1 b r start held lengths tags
-      ≡ openedLink (lentLink t size active place balance residual start held lengths tags)
+      → lentLink t new on 1 b r start held lengths tags packets bytes
+      ≡ openedLink (lentLink t size active place balance residual start held lengths tags packets bytes)
   unfolding openedWith nextKind nextSize resizedAccounts
   parts-opened on new b r is o =
-      ap₂ (λ (n : ℕ) (xs : List Account). linkOf t (record { 0 = n }) on 1 xs start held lengths tags) (o .size-is) (o .accounts-are)
+      ap₂ (λ (n : ℕ) (xs : List Account). linkOf t (record { 0 = n }) on 1 xs start held lengths tags (lentTotals packets bytes)) (o .size-is) (o .accounts-are)
       ∙ rw is refl
 
   -- which is a sound link in parts
-  pub parts-sound : CoversNext (lentLink t size active place balance residual start held lengths tags)
+  pub parts-sound : CoversNext (lentLink t size active place balance residual start held lengths tags packets bytes)
       → (on : ℕ) (new : Bytes) (b r : List ℕ)
-      → lentLink t new on 1 b r start held lengths tags
-      ≡ openedLink (lentLink t size active place balance residual start held lengths tags)
-      → InParts t new on 1 b r start held lengths tags
+      → lentLink t new on 1 b r start held lengths tags packets bytes
+      ≡ openedLink (lentLink t size active place balance residual start held lengths tags packets bytes)
+      → InParts t new on 1 b r start held lengths tags packets bytes
   parts-sound covers on new b r e =
-      let l = lentLink t size active place balance residual start held lengths tags in
+      let l = lentLink t size active place balance residual start held lengths tags packets bytes in
       let wide = meaning-wide l (s .wide) in
       record {
         sound = subst SoundLink (sym e) (opened-link-sound l wide (s .sound) covers);
@@ -92,8 +92,8 @@ module _
 pub record UnderWay (l₀ : Link) (t : Tree) (size : Bytes) (k : Unseen) (active : ℕ) (balance residual start lengths : List ℕ) (rounds : ℕ) : Type 0 where
   pub on : ℕ
   pub place : ℕ
-  pub way : OnTheWay l₀ 64 (lentLink t size on place balance residual start (k .held) lengths (k .tags)) rounds
-  pub taken : active ≡ roundActive (meaning (lentLink t size on place balance residual start (k .held) lengths (k .tags)))
+  pub way : OnTheWay l₀ 64 (lentLink t size on place balance residual start (k .held) lengths (k .tags) (k .packets) (k .bytes)) rounds
+  pub taken : active ≡ roundActive (meaning (lentLink t size on place balance residual start (k .held) lengths (k .tags) (k .packets) (k .bytes)))
 
 pub under-starts : (t : Tree) (size : Bytes) (k : Unseen) (active : ℕ) (balance residual start lengths : List ℕ)
     → Opens t size k active balance residual start lengths
@@ -102,8 +102,9 @@ under-starts t size k active balance residual start lengths o = record {
   on = k .active;
   place = k .place;
   way =
-      let p = o .shut .parts in
-      way-starts (closedLink t size k balance residual start lengths) 64 (p .wide) (p .sound) (o .waits) (sym (o .shut .closed));
+      let p = o .shut .going .parts in
+      let l = closedLink t size k balance residual start lengths in
+      way-starts l 64 (p .wide) (p .sound) (waits-leaf (meaning l) (o .shut .going .some)) (sym (o .shut .closed));
   taken = o .taken;
 }
 
@@ -111,9 +112,9 @@ module _
     {l₀ : Link} {t : Tree} {size : Bytes} {k : Unseen} {active : ℕ} (balance residual : List ℕ) {start lengths : List ℕ} {rounds : ℕ}
     (w : UnderWay l₀ t size k active balance residual start lengths rounds) where
   abbrev here : Link
-  here = lentLink t size (w .on) (w .place) balance residual start (k .held) lengths (k .tags)
+  here = lentLink t size (w .on) (w .place) balance residual start (k .held) lengths (k .tags) (k .packets) (k .bytes)
 
-  in-parts : InParts t size (w .on) (w .place) balance residual start (k .held) lengths (k .tags)
+  in-parts : InParts t size (w .on) (w .place) balance residual start (k .held) lengths (k .tags) (k .packets) (k .bytes)
   in-parts = record { sound = w .way .sound; wide = w .way .many }
 
   -- its round has closed, so the root can take the difference
@@ -129,7 +130,7 @@ module _
     is-opened : openLink t new k active b r start lengths ≡ openedLink here
     is-opened = parts-opened balance residual in-parts active new b r (w .taken) y
 
-    pub under-parts : InParts t new active 1 b r start (k .held) lengths (k .tags)
+    pub under-parts : InParts t new active 1 b r start (k .held) lengths (k .tags) (k .packets) (k .bytes)
     under-parts = parts-sound balance residual in-parts covered active new b r is-opened
 
     -- a leaf is found in it, or none

@@ -10,6 +10,7 @@ use Rattle.tree.specs.declared.Tree.{Tree}
 use Rattle.tree.specs.Class.{noWeight, weightOf}
 use Rattle.state.specs.declared.Account.{Account}
 use Rattle.state.specs.declared.Link.{Link}
+use Rattle.state.specs.declared.Totals.{Totals}
 use Rattle.state.specs.Account.{balanceOf, residualOf}
 use Rattle.tree.specs.Sum.{table}
 use Rattle.state.specs.State.{meaning, linkOf}
@@ -21,7 +22,7 @@ use Rattle.rules.specs.After.{Sent}
 use Rattle.rules.proofs.Meanings.{meaning-wide, waits-leaf}
 use Rattle.steps.specs.declared.Went.{Went}
 use Rattle.state.specs.Account.{zipAccounts}
-use Rattle.steps.specs.Parts.{lentLink, lentTree}
+use Rattle.steps.specs.Parts.{lentLink, lentTotals, lentTree}
 use Rattle.steps.specs.Rounds.{InParts, sentWhere, Departs, Moves}
 use Rattle.state.proofs.Zips.{zip-parts, list-table}
 
@@ -60,25 +61,26 @@ tree-parts t many weight is =
 
 module _
     {t : Tree} (lent : Tree) (same : lent ≡ t) {size : Bytes} {active place : ℕ} {accounts : List Account}
-    {start held lengths tags : List ℕ}
-    (many : length accounts ≡ 64) (sound : SoundLink (linkOf t size active place accounts start held lengths tags))
+    {start held lengths tags packets bytes : List ℕ}
+    (many : length accounts ≡ 64)
+    (sound : SoundLink (linkOf t size active place accounts start held lengths tags (lentTotals packets bytes)))
     (b r : List ℕ) (x : b ≡ table (balanceOf accounts) 64) (y : r ≡ table (residualOf accounts) 64) where
   apart : zipAccounts b r ≡ accounts
   apart = in-lists accounts many b r x y
 
-  whole-is : lentLink lent size active place b r start held lengths tags ≡ linkOf t size active place accounts start held lengths tags
-  whole-is = ap₂ (λ (x : Tree) (xs : List Account). linkOf x size active place xs start held lengths tags) same apart
+  whole-is : lentLink lent size active place b r start held lengths tags packets bytes ≡ linkOf t size active place accounts start held lengths tags (lentTotals packets bytes)
+  whole-is = ap₂ (λ (x : Tree) (xs : List Account). linkOf x size active place xs start held lengths tags (lentTotals packets bytes)) same apart
 
-  pub values-parts : InParts lent size active place b r start held lengths tags
+  pub values-parts : InParts lent size active place b r start held lengths tags packets bytes
   values-parts = record { sound = subst SoundLink (sym whole-is) sound; wide = ap length apart ∙ many }
 
   -- after the send
-  module _ {w : Went} (after : Link) (d : Departs (lentLink lent size active place b r start held lengths tags) w after) where
+  module _ {w : Went} (after : Link) (d : Departs (lentLink lent size active place b r start held lengths tags packets bytes) w after) where
     pub values-wide : length (after .accounts) ≡ 64
     values-wide = departs-wide after (values-parts .wide) (values-parts .sound) d
 
-    pub values-moves : {xs : List Account} {s h : List ℕ} → after ≡ linkOf lent (w .size) (w .active) (w .place) xs s h lengths tags
-        → Moves (linkOf t size active place accounts start held lengths tags)
+    pub values-moves : {xs : List Account} {s h : List ℕ} {n : Totals} → after ≡ linkOf lent (w .size) (w .active) (w .place) xs s h lengths tags n
+        → Moves (linkOf t size active place accounts start held lengths tags (lentTotals packets bytes))
         (record {
           some = w .some;
           class = w .class;
@@ -90,11 +92,12 @@ module _
           start = s;
           held = h;
           size = w .size;
+          totals = n;
         })
-    values-moves {xs} {s} {h} e = record {
+    values-moves {xs} {s} {h} {n} e = record {
       some = d .some ∙ ap (λ (l : Link). someWaits (meaning l)) whole-is;
       sent =
           ap (λ (l : Link). record { class = w .class; packet = w .packet; rounds = w .rounds; link = l })
-          (sym (e ∙ ap (λ (x : Tree). linkOf x (w .size) (w .active) (w .place) xs s h lengths tags) same))
+          (sym (e ∙ ap (λ (x : Tree). linkOf x (w .size) (w .active) (w .place) xs s h lengths tags n) same))
           ∙ d .sent ∙ ap (sentWhere (w .some)) whole-is;
     }

@@ -8,6 +8,7 @@ use Rattle.sets.specs.Set.{Both}
 use Rattle.units.specs.declared.Bytes.{Bytes}
 use Rattle.tree.specs.declared.Tree.{Tree}
 use Rattle.state.specs.declared.Link.{Link}
+use Rattle.state.specs.declared.Totals.{Totals}
 use Rattle.tree.specs.Rules.{PlanRules}
 use Rattle.state.specs.Account.{balanceOf}
 use Rattle.state.specs.State.{linkOf}
@@ -29,10 +30,14 @@ lentTree count leaves parent weight longest follows = record {
   follows = follows;
 }
 
+-- the totals with these parts
+abbrev pub lentTotals : List ℕ → List ℕ → Totals
+lentTotals packets bytes = record { packets = packets; bytes = bytes }
+
 -- the link with these parts
-abbrev pub lentLink : Tree → Bytes → ℕ → ℕ → List ℕ → List ℕ → List ℕ → List ℕ → List ℕ → List ℕ → Link
-lentLink tree size active place balance residual start held lengths tags =
-    linkOf tree size active place (zipAccounts balance residual) start held lengths tags
+abbrev pub lentLink : Tree → Bytes → ℕ → ℕ → List ℕ → List ℕ → List ℕ → List ℕ → List ℕ → List ℕ → List ℕ → List ℕ → Link
+lentLink tree size active place balance residual start held lengths tags packets bytes =
+    linkOf tree size active place (zipAccounts balance residual) start held lengths tags (lentTotals packets bytes)
 
 -- the books with these parts
 abbrev pub booksOf : ℕ → List ℕ → List ℕ → Books
@@ -55,8 +60,8 @@ pub record Searched (l : Link) (leaves place : ℕ) (balance start lengths : Lis
 
 -- leaf i sends next on the link with these parts, whose tree has so many classes and these parents
 pub record GoesNext (t : Tree) (size : Bytes) (place i active count : ℕ)
-    (parent balance residual start held lengths tags : List ℕ) : Type 0 where
+    (parent balance residual start held lengths tags packets bytes : List ℕ) : Type 0 where
   pub many : t .count ≡ count
   pub parents : t .parent ≡ parent
   pub wide : length (zipAccounts balance residual) ≡ 64
-  pub next : SendsNext (lentLink t size active place balance residual start held lengths tags) i
+  pub next : SendsNext (lentLink t size active place balance residual start held lengths tags packets bytes) i

@@ -3,18 +3,16 @@ use mathlib.Core.Bool.{Bool, true, false}
 use mathlib.Core.List.{List}
 use mathlib.Core.Path.{_≡_}
 use Prim.Native.Nat.{ℕ, _≤_, _<_}
-use lib.Dec.{ltb}
 use lib.ListN.{length}
 use Rattle.units.specs.declared.Bytes.{Bytes}
 use Rattle.tree.specs.declared.Tree.{Tree}
 use Rattle.state.specs.declared.Link.{Link}
-use Rattle.state.specs.Queue.{noPacket, queued}
+use Rattle.state.specs.Queue.{noPacket, queued, withTotals}
 use Rattle.state.specs.State.{meaning, linkInRound}
 use Rattle.sound.specs.Sound.{SoundLink}
 use Rattle.rules.specs.Active.{someWaits, roundActive}
 use Rattle.rules.specs.Sending.{nextLeaf, traceOf}
 use Rattle.rules.specs.Steps.{OnTheWay}
-use Rattle.rules.specs.Waits.{Waits}
 use Rattle.rules.specs.After.{Sent, sentBy}
 use Rattle.state.specs.Account.{zipAccounts}
 pub use Rattle.active.specs.Known.{Raised, Kept}
@@ -25,9 +23,14 @@ use Rattle.steps.specs.declared.Moved.{Moved}
 use Rattle.steps.specs.Parts.{lentLink}
 
 -- a sound link in parts
-pub record InParts (t : Tree) (size : Bytes) (active place : ℕ) (balance residual start held lengths tags : List ℕ) : Type 0 where
-  pub sound : SoundLink (lentLink t size active place balance residual start held lengths tags)
+pub record InParts (t : Tree) (size : Bytes) (active place : ℕ) (balance residual start held lengths tags packets bytes : List ℕ) : Type 0 where
+  pub sound : SoundLink (lentLink t size active place balance residual start held lengths tags packets bytes)
   pub wide : length (zipAccounts balance residual) ≡ 64
+
+-- one in which a packet waits
+pub record Going (t : Tree) (size : Bytes) (active place : ℕ) (balance residual start held lengths tags packets bytes : List ℕ) : Type 0 where
+  pub parts : InParts t size active place balance residual start held lengths tags packets bytes
+  pub some : someWaits (meaning (lentLink t size active place balance residual start held lengths tags packets bytes)) ≡ true
 
 -- what an opening does not see of its link
 pub record Unseen : Type 0 where
@@ -35,33 +38,33 @@ pub record Unseen : Type 0 where
   pub place : ℕ
   pub held : List ℕ
   pub tags : List ℕ
+  pub packets : List ℕ
+  pub bytes : List ℕ
 
 -- the link whose round has closed, and the one in which a round has opened
 abbrev pub closedLink : Tree → Bytes → Unseen → List ℕ → List ℕ → List ℕ → List ℕ → Link
 closedLink t size k balance residual start lengths =
-    lentLink t size (k .active) (k .place) balance residual start (k .held) lengths (k .tags)
+    lentLink t size (k .active) (k .place) balance residual start (k .held) lengths (k .tags) (k .packets) (k .bytes)
 
 abbrev pub openLink : Tree → Bytes → Unseen → ℕ → List ℕ → List ℕ → List ℕ → List ℕ → Link
-openLink t size k active balance residual start lengths = lentLink t size active 1 balance residual start (k .held) lengths (k .tags)
+openLink t size k active balance residual start lengths = lentLink t size active 1 balance residual start (k .held) lengths (k .tags) (k .packets) (k .bytes)
 
--- its round has closed
+-- its round has closed, and a packet waits
 pub record Closed (t : Tree) (size : Bytes) (k : Unseen) (balance residual start lengths : List ℕ) : Type 0 where
-  pub parts : InParts t size (k .active) (k .place) balance residual start (k .held) lengths (k .tags)
+  pub going : Going t size (k .active) (k .place) balance residual start (k .held) lengths (k .tags) (k .packets) (k .bytes)
   pub closed : nextLeaf (meaning (closedLink t size k balance residual start lengths)) ≡ 64
 
--- and a packet waits, and these are active in the next
+-- and these are active in the next
 pub record Opens (t : Tree) (size : Bytes) (k : Unseen) (active : ℕ) (balance residual start lengths : List ℕ) : Type 0 where
   pub shut : Closed t size k balance residual start lengths
-  pub waits : Waits (meaning (closedLink t size k balance residual start lengths))
   pub taken : active ≡ roundActive (meaning (closedLink t size k balance residual start lengths))
 
--- what is found on a link: where a packet waits the leaf that sends, on the way to its turn, and where none does 64 and the link as it was;
--- `turn` is the link after the rounds opened, with any size in force, any active set and any place
+-- what is found on a link in which a packet waits: the leaf that sends, on the way to its turn; `turn` is the link after the rounds opened,
+-- with any size in force, any active set and any place
 pub record Finds (l : Link) (r : Found) (turn : Bytes → ℕ → ℕ → Link) : Type 0 where
-  pub some : ltb (r .class) 64 ≡ someWaits (meaning l)
+  pub here : r .class < 64
   pub place : ℕ
-  pub way : r .class < 64 → OnTheWay l (r .class) (turn (r .size) (r .active) place) (r .rounds)
-  pub none : 64 ≤ r .class → turn (l .size) (l .active) (l .place) ≡ l
+  pub way : OnTheWay l (r .class) (turn (r .size) (r .active) place) (r .rounds)
 
 -- a packet has gone, or none waits
 abbrev pub wentBy : ℕ → ℕ → Bytes → Gone → Went
@@ -83,7 +86,8 @@ pub record Departs (l : Link) (r : Went) (after : Link) : Type 0 where
 
 -- and by value
 abbrev pub movedLink : Link → Moved → Link
-movedLink l r = queued (linkInRound l (r .size .0) (r .active) (r .place) (r .accounts)) (r .start) (r .held) (l .lengths) (l .tags)
+movedLink l r =
+    withTotals (queued (linkInRound l (r .size .0) (r .active) (r .place) (r .accounts)) (r .start) (r .held) (l .lengths) (l .tags)) (r .totals)
 
 pub record Moves (l : Link) (r : Moved) : Type 0 where
   pub some : r .some ≡ someWaits (meaning l)

@@ -1,17 +1,18 @@
-// An arrival: its checks in order, and the packet put where it waits. Named for specs/Arrivals.
+// An arrival: its checks in order, and the packet put where it waits and counted on the way up. Named for specs/Arrivals.
 // Every arrival of the library is this one: by value, lent and in a run. Serves demands 1 and 2: numbers 11 to 14, and a refused arrival
 // changes nothing.
-ghost use mathlib.Core.Bool.{_||_};
+ghost use mathlib.Core.Bool.{true, _||_};
 ghost use mathlib.Core.Path.{_≡_};
 ghost use lib.Dec.{ltb};
 ghost use Rattle.state.specs.declared.Link.{Link};
-ghost use Rattle.state.specs.Queue.{queued};
-ghost use Rattle.steps.specs.Arrivals.{JudgesLeaf, ArrivesOn};
+ghost use Rattle.state.specs.WayUp.{Climbs};
+ghost use Rattle.steps.specs.Arrivals.{JudgesLeaf, ArrivesOn, lentWaiting};
 use calls::Arrival;
 use checks::Verdict;
 use state::Link;
 use state::Packet;
 use state::queue;
+use state::way_up::recount;
 
 // Is the length out of range, 0 or above the longest? 13 reads bare lengths, and no charge.
 fn out_of_range(length: u16, longest: u16) -> bool
@@ -42,15 +43,21 @@ pub fn arrive(
     class: usize,
     packet: Packet,
     leaves: u64,
+    parent: &[u8; 64],
     longest: &[u16; 64],
     start: &[u8; 64],
     held: &mut [u8; 64],
     lengths: &mut [u16; 2048],
     tags: &mut [u32; 2048],
+    packets: &mut [u64; 64],
+    bytes: &mut [u64; 64],
 ) -> Arrival
-    ensures { λ r. ⌜ ((l : Link) → l .tree .leaves ≡ leaves → l .tree .longest ≡ now (longest .entry)
-        → ArrivesOn sound (queued l (now (start .entry)) (now (held .entry)) (now (lengths .entry)) (now (tags .entry))) class packet
-        r (queued l (now (start .entry)) (now (held .exit)) (now (lengths .exit)) (now (tags .exit)))) ⌝ }
+    requires { ⌜ (sound ≡ true → Climbs (now parent) (now packets) (now bytes)) ⌝ }
+    ensures { λ r. ⌜ ((l : Link) → l .tree .leaves ≡ leaves → l .tree .parent ≡ now (parent .entry) → l .tree .longest ≡ now (longest .entry)
+        → ArrivesOn sound (lentWaiting l (now (start .entry)) (now (held .entry)) (now (lengths .entry)) (now (tags .entry))
+        (now (packets .entry)) (now (bytes .entry))) class packet
+        r (lentWaiting l (now (start .entry)) (now (held .exit)) (now (lengths .exit)) (now (tags .exit))
+        (now (packets .exit)) (now (bytes .exit)))) ⌝ }
 {
     if !sound {
         let verdict = Verdict::Refused(checks::NOT_SOUND, 0);
@@ -64,6 +71,7 @@ pub fn arrive(
     let verdict = judge(class, packet.length, longest[class], held[class]);
     if let Verdict::Passed = verdict {
         queue::put(class, packet, start, held, lengths, tags);
+        recount(false, class, packet.length, parent, packets, bytes);
     }
     Arrival { verdict }
 }

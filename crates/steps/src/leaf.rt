@@ -20,6 +20,7 @@ use state::Packet;
 use state::lent_accounts::account_of;
 use state::lent_accounts::keep_balance;
 use state::queue;
+use state::way_up::recount;
 use tree::wide;
 use units::Bytes;
 
@@ -82,22 +83,25 @@ pub(crate) fn goes(
     held: &mut [u8; 64],
     lengths: &[u16; 2048],
     tags: &[u32; 2048],
+    packets: &mut [u64; 64],
+    bytes: &mut [u64; 64],
 ) -> Gone
     requires { ⌜ ((t : Tree) × (size : Bytes) × (place : ℕ)
         × GoesNext t size place i active count (now parent) (now balance) (now residual) (now start) (now held) (now lengths)
-        (now tags)) ⌝ }
+        (now tags) (now packets) (now bytes)) ⌝ }
     ensures { λ r. ⌜ ((t : Tree) (size : Bytes) (place : ℕ)
         → GoesNext t size place i active count (now (parent .entry)) (now (balance .entry)) (now (residual .entry)) (now (start .entry))
-        (now (held .entry)) (now (lengths .entry)) (now (tags .entry))
+        (now (held .entry)) (now (lengths .entry)) (now (tags .entry)) (now (packets .entry)) (now (bytes .entry))
         → (r .packet ≡ packetAt (lentLink t size active place (now (balance .entry)) (now (residual .entry)) (now (start .entry))
-        (now (held .entry)) (now (lengths .entry)) (now (tags .entry))) i 0)
+        (now (held .entry)) (now (lengths .entry)) (now (tags .entry)) (now (packets .entry)) (now (bytes .entry))) i 0)
         × (lentLink t size (r .active) i (now (balance .exit)) (now (residual .exit)) (now (start .exit)) (now (held .exit))
-        (now (lengths .entry)) (now (tags .entry))
+        (now (lengths .entry)) (now (tags .entry)) (now (packets .exit)) (now (bytes .exit))
         ≡ sentLink (lentLink t size active place (now (balance .entry)) (now (residual .entry)) (now (start .entry)) (now (held .entry))
-        (now (lengths .entry)) (now (tags .entry))) i)) ⌝ }
+        (now (lengths .entry)) (now (tags .entry)) (now (packets .entry)) (now (bytes .entry))) i)) ⌝ }
 {
     let packet = queue::first(i, start, lengths, tags);
     pay(i, units::cost(packet.length), balance, residual);
+    recount(true, i, packet.length, parent, packets, bytes);
     let waiting = wide(held[i]);
     queue::take(i, start, held);
     if 1 < waiting {

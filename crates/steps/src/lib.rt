@@ -16,7 +16,7 @@ ghost use mathlib.Core.List.{List};
 ghost use Prim.Native.Nat.{ℕ};
 ghost use Rattle.state.specs.State.{linkOf};
 ghost use Rattle.sound.specs.Sound.{SoundLink};
-ghost use Rattle.steps.specs.Rounds.{InParts, Kept, Finds, Departs, wentBy, nothingGoes, Moves};
+ghost use Rattle.steps.specs.Rounds.{InParts, Going, Kept, Finds, Departs, wentBy, nothingGoes, Moves};
 ghost use Rattle.steps.specs.Parts.{lentLink, lentTree};
 use leaf::Gone;
 use leaf::goes;
@@ -26,6 +26,7 @@ use reopening::reopened;
 use state::Account;
 use state::Link;
 use state::Packet;
+use state::Totals;
 use state::lent_accounts::balances;
 use state::lent_accounts::residuals;
 use state::lent_accounts::zipped;
@@ -75,7 +76,7 @@ pub fn nothing(size: Bytes, active: u64, place: usize) -> Went
     }
 }
 
-// The leaf that sends next: found at once, or in a round that is opened; 64 where no packet waits.
+// The leaf that sends next while a packet waits: found at once, or in a round that is opened.
 fn next_sender(
     count: usize,
     leaves: u64,
@@ -94,17 +95,17 @@ fn next_sender(
     held: &[u8; 64],
     lengths: &[u16; 2048],
 ) -> Found
-    requires { ⌜ ((tags : List ℕ)
-        × InParts (lentTree count leaves (now parent) (now weight) (now longest) follows) size before from
-        (now balance) (now residual) (now start) (now held) (now lengths) tags)
+    requires { ⌜ ((tags : List ℕ) × (packets : List ℕ) × (bytes : List ℕ)
+        × Going (lentTree count leaves (now parent) (now weight) (now longest) follows) size before from
+        (now balance) (now residual) (now start) (now held) (now lengths) tags packets bytes)
         × Kept (lentTree count leaves (now parent) (now weight) (now longest) follows) known (now kept) ⌝ }
-    ensures { λ r. ⌜ ((tags : List ℕ)
-        → InParts (lentTree count leaves (now (parent .entry)) (now (weight .entry)) (now (longest .entry)) follows) size before from
-        (now (balance .entry)) (now (residual .entry)) (now (start .entry)) (now (held .entry)) (now (lengths .entry)) tags
+    ensures { λ r. ⌜ ((tags packets bytes : List ℕ)
+        → Going (lentTree count leaves (now (parent .entry)) (now (weight .entry)) (now (longest .entry)) follows) size before from
+        (now (balance .entry)) (now (residual .entry)) (now (start .entry)) (now (held .entry)) (now (lengths .entry)) tags packets bytes
         → Finds (lentLink (lentTree count leaves (now (parent .entry)) (now (weight .entry)) (now (longest .entry)) follows) size before from
-        (now (balance .entry)) (now (residual .entry)) (now (start .entry)) (now (held .entry)) (now (lengths .entry)) tags) r
+        (now (balance .entry)) (now (residual .entry)) (now (start .entry)) (now (held .entry)) (now (lengths .entry)) tags packets bytes) r
         (λ after active place. lentLink (lentTree count leaves (now (parent .entry)) (now (weight .entry)) (now (longest .entry)) follows) after active
-        place (now (balance .exit)) (now (residual .exit)) (now (start .entry)) (now (held .entry)) (now (lengths .entry)) tags)) ⌝ }
+        place (now (balance .exit)) (now (residual .exit)) (now (start .entry)) (now (held .entry)) (now (lengths .entry)) tags packets bytes)) ⌝ }
 {
     let i = next_leaf(sets::both(before, leaves), from, balance, start, lengths);
     if i < Link::CLASSES {
@@ -133,7 +134,8 @@ fn next_sender(
     )
 }
 
-// A whole send on a sound link: the next leaf sends; where the round has closed rounds are opened until one does, unless no packet waits.
+// A whole send on a sound link, unless the root counts no packet: the next leaf sends; where the round has closed rounds are opened until
+// one does.
 pub fn send(
     count: usize,
     leaves: u64,
@@ -152,17 +154,23 @@ pub fn send(
     held: &mut [u8; 64],
     lengths: &[u16; 2048],
     tags: &[u32; 2048],
+    packets: &mut [u64; 64],
+    bytes: &mut [u64; 64],
 ) -> Went
     requires { ⌜ InParts (lentTree count leaves (now parent) (now weight) (now longest) follows) size before from
-        (now balance) (now residual) (now start) (now held) (now lengths) (now tags)
+        (now balance) (now residual) (now start) (now held) (now lengths) (now tags) (now packets) (now bytes)
         × Kept (lentTree count leaves (now parent) (now weight) (now longest) follows) known (now kept) ⌝ }
     ensures { λ r. ⌜ Departs (lentLink (lentTree count leaves (now (parent .entry)) (now (weight .entry)) (now (longest .entry)) follows) size
         before from
-        (now (balance .entry)) (now (residual .entry)) (now (start .entry)) (now (held .entry)) (now (lengths .entry)) (now (tags .entry)))
+        (now (balance .entry)) (now (residual .entry)) (now (start .entry)) (now (held .entry)) (now (lengths .entry)) (now (tags .entry))
+        (now (packets .entry)) (now (bytes .entry)))
         r (lentLink (lentTree count leaves (now (parent .entry)) (now (weight .entry)) (now (longest .entry)) follows) (r .size) (r .active)
         (r .place) (now (balance .exit)) (now (residual .exit)) (now (start .exit)) (now (held .exit)) (now (lengths .entry))
-        (now (tags .entry))) ⌝ }
+        (now (tags .entry)) (now (packets .exit)) (now (bytes .exit))) ⌝ }
 {
+    if packets[0] == 0 {
+        return nothing(size, before, from);
+    }
     let next = next_sender(
         count,
         leaves,
@@ -181,9 +189,6 @@ pub fn send(
         held,
         lengths,
     );
-    if Link::CLASSES <= next.class {
-        return nothing(size, before, from);
-    }
     let gone = goes(
         next.class,
         next.active,
@@ -195,6 +200,8 @@ pub fn send(
         held,
         lengths,
         tags,
+        packets,
+        bytes,
     );
     has_gone(next.class, next.rounds, next.size, gone)
 }
@@ -212,6 +219,7 @@ pub struct Moved {
     pub start: [u8; Link::CLASSES],
     pub held: [u8; Link::CLASSES],
     pub size: Bytes,
+    pub totals: Totals,
 }
 
 // A whole send on values: the tree and the accounts are taken apart and lent to the steps, the accounts put together again.
@@ -225,9 +233,10 @@ pub fn send_values(
     held: [u8; Link::CLASSES],
     lengths: &[u16; 2048],
     tags: &[u32; 2048],
+    totals: Totals,
 ) -> Moved
-    requires { ⌜ SoundLink (linkOf tree size active place accounts start held (now lengths) (now tags)) ⌝ }
-    ensures { λ r. ⌜ Moves (linkOf tree size active place accounts start held (now (lengths .entry)) (now (tags .entry))) r ⌝ }
+    requires { ⌜ SoundLink (linkOf tree size active place accounts start held (now lengths) (now tags) totals) ⌝ }
+    ensures { λ r. ⌜ Moves (linkOf tree size active place accounts start held (now (lengths .entry)) (now (tags .entry)) totals) r ⌝ }
 {
     let parent = tree.parent;
     let weights = tree.weight;
@@ -237,6 +246,8 @@ pub fn send_values(
     let mut residual = residuals(accounts);
     let mut first = start;
     let mut many = held;
+    let mut packets = totals.packets;
+    let mut bytes = totals.bytes;
     let none = [0u32; 64];
     let went = send(
         tree.count,
@@ -256,6 +267,8 @@ pub fn send_values(
         &mut many,
         lengths,
         tags,
+        &mut packets,
+        &mut bytes,
     );
     let after = zipped(&balance, &residual);
     let packet = went.packet;
@@ -271,5 +284,6 @@ pub fn send_values(
         start: first,
         held: many,
         size: size_after,
+        totals: Totals { packets, bytes },
     }
 }

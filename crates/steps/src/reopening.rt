@@ -16,7 +16,7 @@ use tree::Tree;
 use units::Bytes;
 use units::Weight;
 
-// The leaf that sends, the rounds opened for it, who is active at its turn and the size in force; 64 where no packet waits.
+// The leaf that sends, the rounds opened for it, who is active at its turn and the size in force.
 pub struct Found {
     pub class: usize,
     pub rounds: usize,
@@ -61,7 +61,7 @@ fn open_until_sent(
     }
 }
 
-// The round has closed: the tree is put together, and rounds are opened until a leaf sends, unless no packet waits.
+// The round has closed while a packet waits: the tree is put together, and rounds are opened until a leaf sends.
 pub(crate) fn reopened(
     count: usize,
     leaves: u64,
@@ -87,7 +87,8 @@ pub(crate) fn reopened(
         → Finds (closedLink (lentTree count leaves (now (parent .entry)) (now (weight .entry)) (now (longest .entry)) follows) size k
         (now (balance .entry)) (now (residual .entry)) (now (start .entry)) (now (lengths .entry))) r
         (λ after active place. lentLink (lentTree count leaves (now (parent .entry)) (now (weight .entry)) (now (longest .entry)) follows) after
-        active place (now (balance .exit)) (now (residual .exit)) (now (start .entry)) (k .held) (now (lengths .entry)) (k .tags))) ⌝ }
+        active place (now (balance .exit)) (now (residual .exit)) (now (start .entry)) (k .held) (now (lengths .entry)) (k .tags)
+        (k .packets) (k .bytes))) ⌝ }
 {
     let p = *parent;
     let w = weights_of(weight);
@@ -101,14 +102,6 @@ pub(crate) fn reopened(
         follows,
     };
     let active = round_active(tree, known, held);
-    if !sets::has(active, 0) {
-        return Found {
-            class: Link::CLASSES,
-            rounds: 0,
-            active,
-            size,
-        };
-    }
     let sums = sums_of(tree, active, known, kept);
     open_until_sent(tree, active, sums, size, balance, residual, start, lengths)
 }

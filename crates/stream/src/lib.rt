@@ -16,23 +16,15 @@ use parts::PartRun;
 use plan::EventRead;
 use state::Link;
 
-// The normal end: the packets still waiting.
-fn end_line(link: Link) -> Line
-    ensures { λ r. ⌜ r ≡ lastLine NoMore link ⌝ }
-{
-    let held = link.held;
-    Line::End(run::waiting(&held))
-}
-
 // The last line of a run, at the rest of its input, which stands at a place of the whole and is no call: `end`, or `stop` number place.
 pub fn last_line(link: Link, rest: &[u8], place: usize) -> Line
     ensures { λ r. ⌜ r ≡ lastLine (eventAt (now (rest .entry)) place) link ⌝ }
 {
     let event = plan::read_event(rest, place);
     match event {
-        EventRead::NoMore => end_line(link),
-        EventRead::Arrive(_) => end_line(link),
-        EventRead::SendNext => end_line(link),
+        EventRead::NoMore => run::end_line(link),
+        EventRead::Arrive(_) => run::end_line(link),
+        EventRead::SendNext => run::end_line(link),
         EventRead::Fault(n, p) => Line::Stop(n as u64, p as u64),
     }
 }

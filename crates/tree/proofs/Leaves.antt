@@ -12,7 +12,7 @@ use borrow.Author.Tests.{eq-eqb, ne-eqb, eqb-true}
 use Rattle.checks.proofs.Laws.{not-true-and-false}
 use Rattle.tree.specs.declared.Tree.{Tree}
 use Rattle.tree.specs.Class.{parentOf, isClass, isLeaf, isChild, ofChild, childrenSum}
-use Rattle.tree.specs.Below.{atOrBelow, leafBelow, leavesSum}
+use Rattle.tree.specs.Below.{atOrBelow, leafBelow, leavesSum, AddsBelow}
 use Rattle.tree.specs.Rules.{PlanRules}
 use Rattle.tree.specs.Sum.{sumTo}
 use Rattle.tree.proofs.Classes.{both-true, class-in, class-range, class-past, root-no-class}
@@ -164,6 +164,19 @@ module _ (t : Tree) (rules : PlanRules t) where
                       (λ z. ne (sym z)),
                 ) (omega arith)
 
+  -- no class is at or below a number past the last
+  pub past-sum : (f : ℕ → ℕ) (i : ℕ) → t .count < i → leavesSum t f i ≡ 0
+  unfolding leavesSum leafBelow
+  past-sum f i h = sum-zero (leafBelow t f i) (t .count) (λ j l u. go j u (isLeaf t j && atOrBelow t i j) refl)
+    where
+      go : (j : ℕ) → j ≤ t .count → (b : Bool) → (isLeaf t j && atOrBelow t i j) ≡ b → cond b (f j) 0 ≡ 0
+      go j u true e =
+          absurd (omega (
+            arith,
+            below-least t rules i j (omega (arith, few-classes t rules)) (both-true (isLeaf t j) (atOrBelow t i j) e .1),
+          ))
+      go j u false e = refl
+
   pub leaf-least : (i : ℕ) → isLeaf t i ≡ true → 1 ≤ i
   leaf-least i leaf = go (ℕ-discrete i 0)
     where
@@ -225,3 +238,111 @@ module _ (t : Tree) (rules : PlanRules t) where
       one j l v false leaf =
           rw leaf (sum-zero (λ c. cond (isChild t p c) (cond (false && atOrBelow t c j) (f j) 0) 0) (t .count)
           (λ c a b. no-leaf j (isChild t p c) (atOrBelow t c j)))
+
+  -- ---- the sums told by the children alone
+
+  module _ (f : ℕ → ℕ) where
+    -- sums of the same numbers of children, which come after their parent
+    children-after : (x y : ℕ → ℕ) (p : ℕ) → ((i : ℕ) → p < i → i ≤ t .count → x i ≡ y i) → childrenSum t x p ≡ childrenSum t y p
+    unfolding childrenSum ofChild isChild
+    children-after x y p same =
+        sum-same (ofChild t x p) (ofChild t y p) (t .count) (λ i l u. go i l u (eqb (parentOf t i) p) refl)
+      where
+        go : (i : ℕ) → 1 ≤ i → i ≤ t .count → (b : Bool) → eqb (parentOf t i) p ≡ b → cond b (x i) 0 ≡ cond b (y i) 0
+        go i l u true e =
+            let low = parent-lower t i rules (class-in t i l u) in
+            same i (omega (arith, eqb-true (parentOf t i) p e)) u
+        go i l u false e = refl
+
+    pub sums-local : (x : ℕ → ℕ) → ((i : ℕ) → i < 64 → x i ≡ leavesSum t f i) → (i : ℕ) → i < 64 → AddsBelow t f x i
+    sums-local x same i u = record {
+      leaf = λ e. same i u ∙ leaf-sum f i e;
+      other = λ e. same i u ∙ sums-add f i e ∙ sym (children-after x (leavesSum t f) i (λ j l v. same j (omega (arith, v, few-classes t rules))));
+    }
+
+    -- of a class whose children are right, and so of every class from m on
+    local-sum : (x : ℕ → ℕ) (i : ℕ) → AddsBelow t f x i → ((j : ℕ) → i < j → j ≤ t .count → x j ≡ leavesSum t f j) → x i ≡ leavesSum t f i
+    local-sum x i adds later = go (isLeaf t i) refl
+      where
+        go : (b : Bool) → isLeaf t i ≡ b → x i ≡ leavesSum t f i
+        go true e = adds .leaf e ∙ sym (leaf-sum f i e)
+        go false e = adds .other e ∙ children-after x (leavesSum t f) i later ∙ sym (sums-add f i e)
+
+    pub local-from : (x : ℕ → ℕ) (m : ℕ) → ((i : ℕ) → m ≤ i → i ≤ t .count → AddsBelow t f x i)
+        → (i : ℕ) → m ≤ i → i ≤ t .count → x i ≡ leavesSum t f i
+    local-from x m adds i l u = down (suc (t .count)) i (omega arith) l u
+      where
+        down : (n i : ℕ) → t .count < n + i → m ≤ i → i ≤ t .count → x i ≡ leavesSum t f i
+        down zero i a l u = absurd (omega arith)
+        down (suc n) i a l u = local-sum x i (adds i l u) (λ j b v. down n j (omega arith) (omega arith) v)
+
+-- nothing anywhere adds to nothing
+pub leaves-none : (t : Tree) (f : ℕ → ℕ) (i : ℕ) → ((j : ℕ) → f j ≡ 0) → leavesSum t f i ≡ 0
+unfolding leavesSum leafBelow
+leaves-none t f i none = sum-zero (leafBelow t f i) (t .count) (λ j l u. rw (none j) (go (isLeaf t j && atOrBelow t i j)))
+  where
+    go : (b : Bool) → _≡_ {A = ℕ} (cond b 0 0) 0
+    go true = refl
+    go false = refl
+
+-- every leaf is at or below the root
+module _ (t : Tree) (rules : PlanRules t) where
+  pub below-the-root : (j : ℕ) → j < 64 → atOrBelow t 0 j ≡ true
+  below-the-root j u = climb j j (omega arith) u
+    where
+      climb : (n j : ℕ) → j ≤ n → j < 64 → atOrBelow t 0 j ≡ true
+      climb zero j a u =
+          let z : j ≡ 0 = omega arith in
+          rw z (below-self t rules 0 (omega arith))
+      climb (suc n) j a u = go (ℕ-discrete j 0) (λ k x y. climb n k x y)
+        where
+          go : Dec (j ≡ 0) → ((k : ℕ) → k ≤ n → k < 64 → atOrBelow t 0 k ≡ true) → atOrBelow t 0 j ≡ true
+          go (yes z) ih = rw z (below-self t rules 0 (omega arith))
+          go (no z) ih =
+              let low = parent-below t j rules (omega arith) u in
+              below-parent t rules 0 j (omega arith) u (λ e. z (sym e)) ∙ ih (parentOf t j) (omega arith) (omega arith)
+
+  -- sums over leaves that have the same
+  pub leaves-same : (f g : ℕ → ℕ) (i : ℕ) → ((j : ℕ) → j < 64 → f j ≡ g j) → leavesSum t f i ≡ leavesSum t g i
+  unfolding leavesSum leafBelow
+  leaves-same f g i same =
+      sum-same (leafBelow t f i) (leafBelow t g i) (t .count)
+      (λ j l u. ap (λ (n : ℕ). cond (isLeaf t j && atOrBelow t i j) n 0) (same j (omega (arith, u, few-classes t rules))))
+
+  -- so the root's sum is at least 1 exactly when f is, at some leaf
+  pub root-some : (f : ℕ → ℕ) (j : ℕ) → isLeaf t j ≡ true → f j ≤ leavesSum t f 0
+  unfolding leavesSum leafBelow
+  root-some f j leaf =
+      let part = sum-part (leafBelow t f 0) (t .count) j (leaf-least t rules j leaf) (leaf-known t rules j leaf) in
+      rw (leaf, below-the-root j (leaf-number t j rules leaf)) at part
+
+  pub root-none : (f : ℕ → ℕ) → ((j : ℕ) → isLeaf t j ≡ true → f j ≡ 0) → leavesSum t f 0 ≡ 0
+  unfolding leavesSum leafBelow
+  root-none f none = sum-zero (leafBelow t f 0) (t .count) (λ j l u. go j (isLeaf t j) refl (atOrBelow t 0 j))
+    where
+      go : (j : ℕ) (a : Bool) → isLeaf t j ≡ a → (b : Bool) → cond (isLeaf t j && b) (f j) 0 ≡ 0
+      go j true leaf true = rw leaf (none j leaf)
+      go j true leaf false = rw leaf refl
+      go j false leaf b = rw leaf refl
+
+  -- the root's sum is that of all numbers, where only leaves have any
+  pub root-all : (f : ℕ → ℕ) → ((i : ℕ) → i < 64 → isLeaf t i ≡ false → f i ≡ 0) → leavesSum t f 0 ≡ sumTo f 63
+  unfolding leavesSum leafBelow
+  root-all f none =
+      sum-same (leafBelow t f 0) f (t .count) (λ j l u. go j (omega (arith, u, few-classes t rules)) (isLeaf t j) refl)
+      ∙ sym (sum-longer f (t .count) 63 (few-classes t rules)
+      (λ k a b. none k (omega arith) (rules .unset .at k (omega arith) .past (class-past t k a) .leaf)))
+    where
+      go : (j : ℕ) → j < 64 → (b : Bool) → isLeaf t j ≡ b → cond (isLeaf t j && atOrBelow t 0 j) (f j) 0 ≡ f j
+      go j u true leaf = rw (leaf, below-the-root j u) refl
+      go j u false leaf = rw leaf (sym (none j u leaf))
+
+  -- a sum over leaves of which none is above m
+  pub sum-most : (f : ℕ → ℕ) (m i : ℕ) → ((j : ℕ) → isLeaf t j ≡ true → f j ≤ m) → leavesSum t f i ≤ t .count * m
+  unfolding leavesSum leafBelow
+  sum-most f m i most = sum-bound (leafBelow t f i) m (t .count) (λ j l u. go j (isLeaf t j) refl (atOrBelow t i j))
+    where
+      go : (j : ℕ) (a : Bool) → isLeaf t j ≡ a → (b : Bool) → cond (isLeaf t j && b) (f j) 0 ≤ m
+      go j true leaf true = rw leaf (most j leaf)
+      go j true leaf false = rw leaf zero-le
+      go j false leaf b = rw leaf zero-le

@@ -5,6 +5,7 @@ pub mod Classes
 pub mod Rules
 pub mod Below
 pub mod Leaves
+pub mod Changes
 pub mod ByParent
 pub mod Children
 pub mod AfterEnd

@@ -71,4 +71,5 @@ pub send-in-order : (s : State) (i k : ℕ) → Holds s i k → SendsFirst s (tr
 unfolding traceOf
 send-in-order s i k h =
     let goes = two-rounds s (h .sound) (h .wide) (holds-some s i k h) in
-    subst (SendsFirst s) (sym (goes .gives 62 [])) (found-first s (goes .after) ([] ++ goes .more) (goes .wide) (goes .queues) (goes .leaf))
+    subst (SendsFirst s) (sym (goes .gives 62 [])) (found-first s (goes .after) ([] ++ goes .more) (goes .wide)
+    (ap (λ (x : State). x .queues) (goes .same)) (goes .leaf))

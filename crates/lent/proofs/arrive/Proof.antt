@@ -105,7 +105,7 @@ module _ {M : Type 1} (𝓤 : URA M) (H : Heap 𝓤) (A : Atoms 𝓤) (W : Given
 
   -- the record after it: the packets held that the call gives, and the waiting places' last values
   abbrev after : Placed → List ℕ × List ℕ → Link
-  after r w = linkOf (h .tree) (h .size) (h .active) (h .place) (h .accounts) (h .start) (r .held) (w .0) (w .1)
+  after r w = linkOf (h .tree) (h .size) (h .active) (h .place) (h .accounts) (h .start) (r .held) (w .0) (w .1) (r .totals)
 
   exits : (r : Placed) (w : List ℕ × List ℕ) → Arrives h i p (arrivalLeaves (r .answer) (after r w))
       → Is N.the-row (r .answer) (nval (r .answer) ∷ [])
@@ -123,7 +123,8 @@ module _ {M : Type 1} (𝓤 : URA M) (H : Heap 𝓤) (A : Atoms 𝓤) (W : Given
   -- what the call over parts says of its result and of the last values, of a link with other words for its lists
   abbrev SaidOf : Link → Placed → List ℕ × List ℕ → Type 0
   SaidOf l r w =
-      ArrivesIn l i p (r .answer) (linkOf (l .tree) (l .size) (l .active) (l .place) (l .accounts) (l .start) (r .held) (w .0) (w .1))
+      ArrivesIn l i p (r .answer)
+      (linkOf (l .tree) (l .size) (l .active) (l .place) (l .accounts) (l .start) (r .held) (w .0) (w .1) (r .totals))
 
   abbrev Said : Placed → List ℕ × List ℕ → Type 0
   Said = SaidOf (handed h)
@@ -135,9 +136,9 @@ module _ {M : Type 1} (𝓤 : URA M) (H : Heap 𝓤) (A : Atoms 𝓤) (W : Given
       → Fits 8 (w .1) → Known (after r w)
   known-after is r w isr isx isy =
       let ps = parts-of h is in
-      let held = placed-of r isr .0 in
+      let ws = placed-of r isr in
       LL.owes L.the-type L′.the-laws (after r w)
-      (ps .0, (ps .1 .0, (ps .1 .1 .0, (ps .1 .1 .1 .0, (ps .1 .1 .1 .1 .0, (ps .1 .1 .1 .1 .1 .0, (held, (isx, (isy, tt)))))))))
+      (ps .0, (ps .1 .0, (ps .1 .1 .0, (ps .1 .1 .1 .0, (ps .1 .1 .1 .1 .0, (ps .1 .1 .1 .1 .1 .0, (ws .0, (isx, (isy, (ws .1 .0, tt))))))))))
 
   abbrev to-core : ℕ → GName → GName → Core 𝓤 H A W at-mem run .Ghost
   to-core α γ₇ γ₈ = (
@@ -171,13 +172,13 @@ module _ {M : Type 1} (𝓤 : URA M) (H : Heap 𝓤) (A : Atoms 𝓤) (W : Given
   told : (α : ℕ) (γ₇ γ₈ : GName) (r : Placed)
       → ent 𝓤 (ensured 𝓤 H A core.ended (core.clauses 𝓤 H A at-mem run) (α ∷ [], tt) (to-core α γ₇ γ₈ .0 .3) tt r) (ex 𝓤 (Left γ₇ γ₈ r))
   told α γ₇ γ₈ r = exE 𝓤 _ (λ ws.
-      let w : List ℕ × List ℕ = (ws .1 .1 .1 .1 .1 .1 .1 .0, ws .1 .1 .1 .1 .1 .1 .1 .1 .0) in
+      let w : List ℕ × List ℕ = (ws .1 .1 .1 .1 .1 .1 .1 .1 .0, ws .1 .1 .1 .1 .1 .1 .1 .1 .1 .0) in
       let Q : SProp 𝓤 = sem 𝓤 H A (lasts core.ended (α ∷ [], tt) (to-core α γ₇ γ₈ .0 .3) ws) in
       let E : SProp 𝓤 = fact 𝓤 (Said r w) in
       fact-use 𝓤 (Said r w) (snd∗ 𝓤 Q E) (λ e.
       qed W ((‵ (lasts core.ended (α ∷ [], tt) (to-core α γ₇ γ₈ .0 .3) ws) ⊛ raw E) ∷ []) ∵ show ! (Left γ₇ γ₈ r) w $ check ! e $ split ! $
       keep ! (0 ∷ []) $
-      fsplit ! $ move ! (1 ∷ []) $ fsplit ! $ move ! (1 ∷ []) $ fsplit ! $ move ! (1 ∷ []) $ fsplit ! $ move ! (1 ∷ []) $ fsplit ! $
+      fsplit ! $ move ! (1 ∷ []) $ fsplit ! $ move ! (1 ∷ []) $ fsplit ! $ move ! (1 ∷ []) $ fsplit ! $ move ! (1 ∷ []) $ fsplit ! $ move ! (1 ∷ []) $ fsplit ! $
       move ! (1 ∷ []) $ fsplit ! $ move ! (1 ∷ []) $ fsplit ! $ move ! (1 ∷ []) $ fsplit ! $ move ! (1 ∷ []) $ fsplit ! $
       keep ! (2 ∷ 0 ∷ []) $ done !))
 
@@ -190,46 +191,50 @@ module _ {M : Type 1} (𝓤 : URA M) (H : Heap 𝓤) (A : Atoms 𝓤) (W : Given
         -- [obs; the borrow; the token]
         enter ! C Λ code.function args _ $ alloc1 ! (λ l₀. alloc1 ! (λ l₁. alloc1 ! (λ l₂. alloc1 ! (λ l₃. alloc1 ! (λ l₄. alloc1 ! (λ l₅.
         alloc1 ! (λ l₆. alloc1 ! (λ l₇. alloc1 ! (λ l₈. alloc1 ! (λ l₉. alloc1 ! (λ l₁₀. alloc1 ! (λ l₁₁. alloc1 ! (λ l₁₂. alloc1 ! (λ l₁₃.
-        alloc0 ! $ params1 ! $
-        pass1 ! (init ! 24 refl (tt, tt)) $ pass1 ! (init ! 22 refl (tt, record { fits = fits })) $ pass1 ! (init ! 20 refl wt) $ pass0 ! $
-        move ! (28 ∷ 29 ∷ 30 ∷ []) $ opened ! tt h b o (λ is. let ps = parts-of h is in apart ! h b o $
-        -- [the nine cells; the way back; the open borrow; obs; auth; _13; …; _12; …; _0; …]
-        assigns ! (of-opd ! (load ! (from ! (hop ! (look ! 37 refl) (fld ! {τ = type-at 0} {d = 0} refl (stop !))))
-        (look-raw ! 0 {τ = type-at 0} refl))) (from ! (stop !)) (init ! 29 refl (typed 𝓤 H A W 0 (h .tree) (ps .0) .0)) $
-        assigns ! (of-opd ! (load ! (from ! (hop ! (look ! 37 refl) (fld ! {τ = type-at 1} {d = 472} refl (stop !))))
-        (look-raw ! 1 {τ = type-at 1} refl))) (from ! (stop !)) (init ! 27 refl (typed 𝓤 H A W 1 (h .size) (ps .1 .0) .0)) $
-        assigns ! (of-opd ! (load ! (from ! (hop ! (look ! 37 refl) (fld ! {τ = type-at 2} {d = 480} refl (stop !))))
-        (look-raw ! 2 {τ = type-at 2} refl))) (from ! (stop !)) (init ! 25 refl (typed 𝓤 H A W 2 (h .active) (ps .1 .1 .0) .0)) $
-        assigns ! (of-opd ! (load ! (from ! (hop ! (look ! 37 refl) (fld ! {τ = type-at 3} {d = 488} refl (stop !))))
-        (look-raw ! 3 {τ = type-at 3} refl))) (from ! (stop !)) (init ! 23 refl (typed 𝓤 H A W 3 (h .place) (ps .1 .1 .1 .0) .0)) $
-        assigns ! (of-opd ! (load ! (from ! (hop ! (look ! 37 refl) (fld ! {τ = type-at 4} {d = 496} refl (stop !))))
+        alloc1 ! (λ l₁₄. alloc0 ! $ params1 ! $
+        pass1 ! (init ! 26 refl (tt, tt)) $ pass1 ! (init ! 24 refl (tt, record { fits = fits })) $ pass1 ! (init ! 22 refl wt) $ pass0 ! $
+        move ! (30 ∷ 31 ∷ 32 ∷ []) $ opened ! tt h b o (λ is. let ps = parts-of h is in apart ! h b o $
+        -- [the ten cells; the way back; the open borrow; obs; auth; _14; …; _13; …; _0; …]
+        assigns ! (of-opd ! (load ! (from ! (hop ! (look ! 40 refl) (fld ! {τ = type-at 0} {d = 0} refl (stop !))))
+        (look-raw ! 0 {τ = type-at 0} refl))) (from ! (stop !)) (init ! 32 refl (typed 𝓤 H A W 0 (h .tree) (ps .0) .0)) $
+        assigns ! (of-opd ! (load ! (from ! (hop ! (look ! 40 refl) (fld ! {τ = type-at 1} {d = 472} refl (stop !))))
+        (look-raw ! 1 {τ = type-at 1} refl))) (from ! (stop !)) (init ! 30 refl (typed 𝓤 H A W 1 (h .size) (ps .1 .0) .0)) $
+        assigns ! (of-opd ! (load ! (from ! (hop ! (look ! 40 refl) (fld ! {τ = type-at 2} {d = 480} refl (stop !))))
+        (look-raw ! 2 {τ = type-at 2} refl))) (from ! (stop !)) (init ! 28 refl (typed 𝓤 H A W 2 (h .active) (ps .1 .1 .0) .0)) $
+        assigns ! (of-opd ! (load ! (from ! (hop ! (look ! 40 refl) (fld ! {τ = type-at 3} {d = 488} refl (stop !))))
+        (look-raw ! 3 {τ = type-at 3} refl))) (from ! (stop !)) (init ! 26 refl (typed 𝓤 H A W 3 (h .place) (ps .1 .1 .1 .0) .0)) $
+        assigns ! (of-opd ! (load ! (from ! (hop ! (look ! 40 refl) (fld ! {τ = type-at 4} {d = 496} refl (stop !))))
         (look-raw ! 4 {τ = type-at 4} refl))) (from ! (stop !))
-        (init ! 21 refl (typed 𝓤 H A W 4 (h .accounts) (ps .1 .1 .1 .1 .0) .0)) $
-        assigns ! (of-opd ! (load ! (from ! (hop ! (look ! 37 refl) (fld ! {τ = type-at 5} {d = 1_520} refl (stop !))))
+        (init ! 24 refl (typed 𝓤 H A W 4 (h .accounts) (ps .1 .1 .1 .1 .0) .0)) $
+        assigns ! (of-opd ! (load ! (from ! (hop ! (look ! 40 refl) (fld ! {τ = type-at 5} {d = 1_520} refl (stop !))))
         (look-raw ! 5 {τ = type-at 5} refl))) (from ! (stop !))
-        (init ! 19 refl (typed 𝓤 H A W 5 (h .start) (ps .1 .1 .1 .1 .1 .0) .0)) $
-        assigns ! (of-opd ! (load ! (from ! (hop ! (look ! 37 refl) (fld ! {τ = type-at 6} {d = 1_584} refl (stop !))))
+        (init ! 22 refl (typed 𝓤 H A W 5 (h .start) (ps .1 .1 .1 .1 .1 .0) .0)) $
+        assigns ! (of-opd ! (load ! (from ! (hop ! (look ! 40 refl) (fld ! {τ = type-at 6} {d = 1_584} refl (stop !))))
         (look-raw ! 6 {τ = type-at 6} refl))) (from ! (stop !))
-        (init ! 17 refl (typed 𝓤 H A W 6 (h .held) (ps .1 .1 .1 .1 .1 .1 .0) .0)) $
-        assigns ! (addr ! (from ! (hop ! (look ! 37 refl) (fld ! {τ = type-at 7} {d = 1_648} refl (stop !))))) (from ! (stop !))
-        (init ! 15 refl (tt, tt)) $
-        assigns ! (addr ! (from ! (hop ! (look ! 37 refl) (fld ! {τ = type-at 8} {d = 5_744} refl (stop !))))) (from ! (stop !))
-        (init ! 13 refl (tt, tt)) $
+        (init ! 20 refl (typed 𝓤 H A W 6 (h .held) (ps .1 .1 .1 .1 .1 .1 .0) .0)) $
+        assigns ! (of-opd ! (load ! (from ! (hop ! (look ! 40 refl) (fld ! {τ = type-at 9} {d = 13_936} refl (stop !))))
+        (look-raw ! 9 {τ = type-at 9} refl))) (from ! (stop !))
+        (init ! 18 refl (typed 𝓤 H A W 9 (h .totals) (ps .1 .1 .1 .1 .1 .1 .1 .1 .1 .0) .0)) $
+        assigns ! (addr ! (from ! (hop ! (look ! 40 refl) (fld ! {τ = type-at 7} {d = 1_648} refl (stop !))))) (from ! (stop !))
+        (init ! 16 refl (tt, tt)) $
+        assigns ! (addr ! (from ! (hop ! (look ! 40 refl) (fld ! {τ = type-at 8} {d = 5_744} refl (stop !))))) (from ! (stop !))
+        (init ! 14 refl (tt, tt)) $
         move ! (7 ∷ 8 ∷ []) $
         lent-out ! tt (h .lengths) (h .tags) b o (ps .1 .1 .1 .1 .1 .1 .1 .0) (ps .1 .1 .1 .1 .1 .1 .1 .1 .0) (λ α γ₇ γ₈.
         use3 W (raw (Core 𝓤 H A W at-mem run .pre (to-core α γ₇ γ₈))) (goes-core is α γ₇ γ₈) $
         calls-at ! fm (Core 𝓤 H A W at-mem run) known (to-core α γ₇ γ₈)
-        (and-then ! (load ! (from ! (stop !)) (look ! 30 refl))
-        (and-then ! (load ! (from ! (stop !)) (look ! 28 refl))
-        (and-then ! (load ! (from ! (stop !)) (look ! 26 refl))
-        (and-then ! (load ! (from ! (stop !)) (look ! 24 refl))
-        (and-then ! (load ! (from ! (stop !)) (look ! 22 refl))
-        (and-then ! (load ! (from ! (stop !)) (look ! 20 refl))
-        (and-then ! (load ! (from ! (stop !)) (look ! 18 refl))
-        (and-then ! (load ! (from ! (stop !)) (look ! 16 refl))
-        (and-then ! (load ! (from ! (stop !)) (look ! 14 refl))
-        (and-then ! (load ! (from ! (stop !)) (look ! 36 refl))
-        (and-then ! (load ! (from ! (stop !)) (look ! 34 refl)) (no-more !)))))))))))) (λ v.
+        (and-then ! (load ! (from ! (stop !)) (look ! 33 refl))
+        (and-then ! (load ! (from ! (stop !)) (look ! 31 refl))
+        (and-then ! (load ! (from ! (stop !)) (look ! 29 refl))
+        (and-then ! (load ! (from ! (stop !)) (look ! 27 refl))
+        (and-then ! (load ! (from ! (stop !)) (look ! 25 refl))
+        (and-then ! (load ! (from ! (stop !)) (look ! 23 refl))
+        (and-then ! (load ! (from ! (stop !)) (look ! 21 refl))
+        (and-then ! (load ! (from ! (stop !)) (look ! 19 refl))
+        (and-then ! (load ! (from ! (stop !)) (look ! 17 refl))
+        (and-then ! (load ! (from ! (stop !)) (look ! 15 refl))
+        (and-then ! (load ! (from ! (stop !)) (look ! 39 refl))
+        (and-then ! (load ! (from ! (stop !)) (look ! 37 refl)) (no-more !))))))))))))) (λ v.
         returned-with ! tt S.the-row (λ r w. Said r w) (λ w. ‵ (fres γ₇ (Lengths .coded .code (w .0)))
         ⊛ ‵ (fres γ₈ (Tags .coded .code (w .1)))) (‵ (flft (α ∷ []) fullShare) ⊛ ‵ ftrue) v _
         (ensured 𝓤 H A core.ended (core.clauses 𝓤 H A at-mem run) (α ∷ [], tt) (to-core α γ₇ γ₈ .0 .3) tt) (id⊢ 𝓤 _) (told α γ₇ γ₈)
@@ -237,26 +242,25 @@ module _ {M : Type 1} (𝓤 : URA M) (H : Heap 𝓤) (A : Atoms 𝓤) (W : Given
         let isr = subst (Is S.the-row r) (LL.tells S.the-type S′.the-laws r (v ∷ []) is₁) is₁ in
         let ws = placed-of r isr in
         split ! $ move ! (1 ∷ []) $ drop ! $ move ! (1 ∷ []) $ split ! $ move ! (2 ∷ []) $
-        -- [the token; the last values; the lender's two parts; the seven cells; …]
-        land ! (from ! (stop !)) (init ! 34 refl (LL.lawful S.the-type S′.the-laws 𝓤 H A W .typed r _ is₁ .0)) $
-        rewrite ! 34 (λ (us : List Val). ‵ (fat fullShare S′.mir l₄ zero (only us))) (LL.tells S.the-type S′.the-laws r (v ∷ []) is₁) refl $
+        -- [the token; the last values; the lender's two parts; the eight cells; …]
+        land ! (from ! (stop !)) (init ! 37 refl (LL.lawful S.the-type S′.the-laws 𝓤 H A W .typed r _ is₁ .0)) $
+        rewrite ! 37 (λ (us : List Val). ‵ (fat fullShare S′.mir l₄ zero (only us))) (LL.tells S.the-type S′.the-laws r (v ∷ []) is₁) refl $
         come-back ! tt (w .0) (w .1) b o (λ isx isy. move ! (2 ∷ 3 ∷ 4 ∷ 5 ∷ 6 ∷ 7 ∷ 8 ∷ 0 ∷ 1 ∷ []) $
         assigns ! (of-opd ! (load ! (from ! (fld ! {τ = type-at 6} {d = 0} refl (stop !)))
-        (look-in ! 31 {τ = type-at 6} (sub ! 0 {τ = type-at 6} {d = 0} refl (whole !)))))
-        (from ! (hop ! (look ! 37 refl) (fld ! {τ = type-at 6} {d = 1_584} refl (stop !))))
+        (look-in ! 34 {τ = type-at 6} (sub ! 0 {τ = type-at 6} {d = 0} refl (whole !)))))
+        (from ! (hop ! (look ! 40 refl) (fld ! {τ = type-at 6} {d = 1_584} refl (stop !))))
         (store-raw ! 6 {τ = type-at 6} refl (typed 𝓤 H A W 6 (r .held) (ws .0) .0)) $
-        assigns ! (of-opd ! (load ! (from ! (fld ! {d = 64} refl (stop !))) (look-in ! 31 (sub ! 1 {d = 64} refl (whole !)))))
-        (from ! (stop !)) (init ! 39 refl (LL.lawful N.the-type N′.the-laws 𝓤 H A W .typed (r .answer) _ (ws .1 .0) .0)) $
+        assigns ! (of-opd ! (load ! (from ! (fld ! {τ = type-at 9} {d = 64} refl (stop !)))
+        (look-in ! 34 {τ = type-at 9} (sub ! 1 {τ = type-at 9} {d = 64} refl (whole !)))))
+        (from ! (hop ! (look ! 40 refl) (fld ! {τ = type-at 9} {d = 13_936} refl (stop !))))
+        (store-raw ! 9 {τ = type-at 9} refl (typed 𝓤 H A W 9 (r .totals) (ws .1 .0) .0)) $
+        assigns ! (of-opd ! (load ! (from ! (fld ! {d = 1_088} refl (stop !))) (look-in ! 34 (sub ! 2 {d = 1_088} refl (whole !)))))
+        (from ! (stop !)) (init ! 42 refl (LL.lawful N.the-type N′.the-laws 𝓤 H A W .typed (r .answer) _ (ws .1 .1 .0) .0)) $
         together ! (after r w) b o $ closed ! tt (after r w) (known-after is r w isr isx isy) b o $
-        -- [obs; the borrow; the token; _13; …; _0; …]
-        returns ! (look ! 29 refl) $ forget ! 3 refl $ forget ! 5 refl $ forget ! 7 refl $ forget ! 9 refl $ forget ! 11 refl $
-        forget ! 13 refl $ forget ! 15 refl $ forget ! 17 refl $ forget ! 19 refl $ forget ! 21 refl $ forget ! 23 refl $ forget ! 25 refl $
-        forget ! 27 refl $ forget ! 29 refl $
-        move ! (29 ∷ 30 ∷ []) $ free1 ! $ move ! (27 ∷ 28 ∷ []) $ free1 ! $ move ! (25 ∷ 26 ∷ []) $ free1 ! $ move ! (23 ∷ 24 ∷ []) $
-        free1 ! $ move ! (21 ∷ 22 ∷ []) $ free1 ! $ move ! (19 ∷ 20 ∷ []) $ free1 ! $ move ! (17 ∷ 18 ∷ []) $ free1 ! $
-        move ! (15 ∷ 16 ∷ []) $ free1 ! $ move ! (13 ∷ 14 ∷ []) $ free1 ! $ move ! (11 ∷ 12 ∷ []) $ free1 ! $ move ! (9 ∷ 10 ∷ []) $
-        free1 ! $ move ! (7 ∷ 8 ∷ []) $ free1 ! $ move ! (5 ∷ 6 ∷ []) $ free1 ! $ move ! (3 ∷ 4 ∷ []) $ free1 ! $ free0 ! $
-        keep ! (0 ∷ 1 ∷ 2 ∷ []) $ by ! (exits r w (arrived is r w e) (ws .1 .0)))))))))))))))))))))
+        -- [obs; the borrow; the token; _14; …; _0; …]
+        returns ! (look ! 31 refl) $ forget ! 3 refl $ forget ! 5 refl $ forget ! 7 refl $ forget ! 9 refl $ forget ! 11 refl $ forget ! 13 refl $ forget ! 15 refl $ forget ! 17 refl $ forget ! 19 refl $ forget ! 21 refl $ forget ! 23 refl $ forget ! 25 refl $ forget ! 27 refl $ forget ! 29 refl $ forget ! 31 refl $
+        move ! (31 ∷ 32 ∷ []) $ free1 ! $ move ! (29 ∷ 30 ∷ []) $ free1 ! $ move ! (27 ∷ 28 ∷ []) $ free1 ! $ move ! (25 ∷ 26 ∷ []) $ free1 ! $ move ! (23 ∷ 24 ∷ []) $ free1 ! $ move ! (21 ∷ 22 ∷ []) $ free1 ! $ move ! (19 ∷ 20 ∷ []) $ free1 ! $ move ! (17 ∷ 18 ∷ []) $ free1 ! $ move ! (15 ∷ 16 ∷ []) $ free1 ! $ move ! (13 ∷ 14 ∷ []) $ free1 ! $ move ! (11 ∷ 12 ∷ []) $ free1 ! $ move ! (9 ∷ 10 ∷ []) $ free1 ! $ move ! (7 ∷ 8 ∷ []) $ free1 ! $ move ! (5 ∷ 6 ∷ []) $ free1 ! $ move ! (3 ∷ 4 ∷ []) $ free1 ! $ free0 ! $
+        keep ! (0 ∷ 1 ∷ 2 ∷ []) $ by ! (exits r w (arrived is r w e) (ws .1 .1 .0))))))))))))))))))))))
 
 module _ {M : Type 1} (𝓤 : URA M) (H : Heap 𝓤) (A : Atoms 𝓤) (W : Given 𝓤 H A) (at-mem : Memory → SProp 𝓤) (run : Routine → Fun 𝓤) where
   lent-walks : (C : Calls 𝓤 H) (Λ : Loops 𝓤 H) → FmC 𝓤 H (W .laws) C → Triple 𝓤 (C #core) (Core 𝓤 H A W at-mem run)

@@ -143,8 +143,28 @@ module _ {M : Type 1} (𝓤 : URA M) (H : Heap 𝓤) (A : Atoms 𝓤) (W : Given
   after is r isr =
       let ps = parts-of h is in
       let ws = changed-of r isr in
-      LL.owes L.the-type L′.the-laws (changedLink h r)
-      (ps .0, (ws .1 .1 .1 .1 .1 .0, (ws .0, (ws .1 .0, (ws .1 .1 .0, (ws .1 .1 .1 .0, (ws .1 .1 .1 .1 .0, ps .1 .1 .1 .1 .1 .1 .1)))))))
+      LL.owes L.the-type L′.the-laws (changedLink h r) (
+        ps .0,
+        (
+          ws .1 .1 .1 .1 .1 .0,
+          (
+            ws .0,
+            (
+              ws .1 .0,
+              (
+                ws .1 .1 .0,
+                (
+                  ws .1 .1 .1 .0,
+                  (
+                    ws .1 .1 .1 .1 .0,
+                    (ps .1 .1 .1 .1 .1 .1 .1 .0, (ps .1 .1 .1 .1 .1 .1 .1 .1 .0, (ws .1 .1 .1 .1 .1 .1 .0, ps .1 .1 .1 .1 .1 .1 .1 .1 .1 .1))),
+                  ),
+                ),
+              ),
+            ),
+          ),
+        ),
+      )
 
   module _ (C : Calls 𝓤 H) (Λ : Loops 𝓤 H) (fm : FmC 𝓤 H (W .laws) C) (known : Triple 𝓤 (C #core) (Core 𝓤 H A W at-mem run)) where
     walk : ent 𝓤 (onEntry 𝓤 H A lent.signature (κ, tt) (q, tt) x at) (WpFn 𝓤 H C Λ code.function args Post)
@@ -153,43 +173,48 @@ module _ {M : Type 1} (𝓤 : URA M) (H : Heap 𝓤) (A : Atoms 𝓤) (W : Given
         keep ! (0 ∷ 2 ∷ []) $ fsplit3 ! $ drop ! $
         -- [obs; the borrow; the token]
         enter ! C Λ code.function args _ $ alloc1 ! (λ l₀. alloc1 ! (λ l₁. alloc1 ! (λ l₂. alloc1 ! (λ l₃. alloc1 ! (λ l₄. alloc1 ! (λ l₅.
-        alloc1 ! (λ l₆. alloc1 ! (λ l₇. alloc1 ! (λ l₈. alloc1 ! (λ l₉. alloc1 ! (λ l₁₀. alloc1 ! (λ l₁₁. alloc0 ! $ params1 ! $
-        pass1 ! (init ! 20 refl (tt, tt)) $ pass0 ! $
-        move ! (24 ∷ 25 ∷ 26 ∷ []) $ opened ! tt h b o (λ is. let ps = parts-of h is in apart ! h b o $
-        -- [the nine cells; the way back; the open borrow; obs; auth; _11; …; _10; …; _0; …]
-        assigns ! (of-opd ! (load ! (from ! (hop ! (look ! 33 refl) (fld ! {τ = type-at 0} {d = 0} refl (stop !))))
-        (look-raw ! 0 {τ = type-at 0} refl))) (from ! (stop !)) (init ! 29 refl (typed 𝓤 H A W 0 (h .tree) (ps .0) .0)) $
-        assigns ! (of-opd ! (load ! (from ! (hop ! (look ! 33 refl) (fld ! {τ = type-at 1} {d = 472} refl (stop !))))
-        (look-raw ! 1 {τ = type-at 1} refl))) (from ! (stop !)) (init ! 27 refl (typed 𝓤 H A W 1 (h .size) (ps .1 .0) .0)) $
-        assigns ! (of-opd ! (load ! (from ! (hop ! (look ! 33 refl) (fld ! {τ = type-at 2} {d = 480} refl (stop !))))
-        (look-raw ! 2 {τ = type-at 2} refl))) (from ! (stop !)) (init ! 25 refl (typed 𝓤 H A W 2 (h .active) (ps .1 .1 .0) .0)) $
-        assigns ! (of-opd ! (load ! (from ! (hop ! (look ! 33 refl) (fld ! {τ = type-at 3} {d = 488} refl (stop !))))
-        (look-raw ! 3 {τ = type-at 3} refl))) (from ! (stop !)) (init ! 23 refl (typed 𝓤 H A W 3 (h .place) (ps .1 .1 .1 .0) .0)) $
-        assigns ! (of-opd ! (load ! (from ! (hop ! (look ! 33 refl) (fld ! {τ = type-at 4} {d = 496} refl (stop !))))
+        alloc1 ! (λ l₆. alloc1 ! (λ l₇. alloc1 ! (λ l₈. alloc1 ! (λ l₉. alloc1 ! (λ l₁₀. alloc1 ! (λ l₁₁. alloc1 ! (λ l₁₂. alloc0 ! $ params1 ! $
+        pass1 ! (init ! 22 refl (tt, tt)) $ pass0 ! $
+        move ! (26 ∷ 27 ∷ 28 ∷ []) $ opened ! tt h b o (λ is. let ps = parts-of h is in apart ! h b o $
+        -- [the ten cells; the way back; the open borrow; obs; auth; _12; …; _11; …; _0; …]
+        assigns ! (of-opd ! (load ! (from ! (hop ! (look ! 36 refl) (fld ! {τ = type-at 0} {d = 0} refl (stop !))))
+        (look-raw ! 0 {τ = type-at 0} refl))) (from ! (stop !)) (init ! 32 refl (typed 𝓤 H A W 0 (h .tree) (ps .0) .0)) $
+        assigns ! (of-opd ! (load ! (from ! (hop ! (look ! 36 refl) (fld ! {τ = type-at 1} {d = 472} refl (stop !))))
+        (look-raw ! 1 {τ = type-at 1} refl))) (from ! (stop !)) (init ! 30 refl (typed 𝓤 H A W 1 (h .size) (ps .1 .0) .0)) $
+        assigns ! (of-opd ! (load ! (from ! (hop ! (look ! 36 refl) (fld ! {τ = type-at 2} {d = 480} refl (stop !))))
+        (look-raw ! 2 {τ = type-at 2} refl))) (from ! (stop !)) (init ! 28 refl (typed 𝓤 H A W 2 (h .active) (ps .1 .1 .0) .0)) $
+        assigns ! (of-opd ! (load ! (from ! (hop ! (look ! 36 refl) (fld ! {τ = type-at 3} {d = 488} refl (stop !))))
+        (look-raw ! 3 {τ = type-at 3} refl))) (from ! (stop !)) (init ! 26 refl (typed 𝓤 H A W 3 (h .place) (ps .1 .1 .1 .0) .0)) $
+        assigns ! (of-opd ! (load ! (from ! (hop ! (look ! 36 refl) (fld ! {τ = type-at 4} {d = 496} refl (stop !))))
         (look-raw ! 4 {τ = type-at 4} refl))) (from ! (stop !))
-        (init ! 21 refl (typed 𝓤 H A W 4 (h .accounts) (ps .1 .1 .1 .1 .0) .0)) $
-        assigns ! (of-opd ! (load ! (from ! (hop ! (look ! 33 refl) (fld ! {τ = type-at 5} {d = 1_520} refl (stop !))))
+        (init ! 24 refl (typed 𝓤 H A W 4 (h .accounts) (ps .1 .1 .1 .1 .0) .0)) $
+        assigns ! (of-opd ! (load ! (from ! (hop ! (look ! 36 refl) (fld ! {τ = type-at 5} {d = 1_520} refl (stop !))))
         (look-raw ! 5 {τ = type-at 5} refl))) (from ! (stop !))
-        (init ! 19 refl (typed 𝓤 H A W 5 (h .start) (ps .1 .1 .1 .1 .1 .0) .0)) $
-        assigns ! (of-opd ! (load ! (from ! (hop ! (look ! 33 refl) (fld ! {τ = type-at 6} {d = 1_584} refl (stop !))))
+        (init ! 22 refl (typed 𝓤 H A W 5 (h .start) (ps .1 .1 .1 .1 .1 .0) .0)) $
+        assigns ! (of-opd ! (load ! (from ! (hop ! (look ! 36 refl) (fld ! {τ = type-at 6} {d = 1_584} refl (stop !))))
         (look-raw ! 6 {τ = type-at 6} refl))) (from ! (stop !))
-        (init ! 17 refl (typed 𝓤 H A W 6 (h .held) (ps .1 .1 .1 .1 .1 .1 .0) .0)) $
-        assigns ! (addr ! (from ! (hop ! (look ! 33 refl) (fld ! {τ = type-at 7} {d = 1_648} refl (stop !))))) (from ! (stop !))
-        (init ! 15 refl (tt, tt)) $
-        assigns ! (addr ! (from ! (hop ! (look ! 33 refl) (fld ! {τ = type-at 8} {d = 5_744} refl (stop !))))) (from ! (stop !))
-        (init ! 13 refl (tt, tt)) $
+        (init ! 20 refl (typed 𝓤 H A W 6 (h .held) (ps .1 .1 .1 .1 .1 .1 .0) .0)) $
+        assigns ! (of-opd ! (load ! (from ! (hop ! (look ! 36 refl) (fld ! {τ = type-at 9} {d = 13_936} refl (stop !))))
+        (look-raw ! 9 {τ = type-at 9} refl))) (from ! (stop !))
+        (init ! 18 refl (typed 𝓤 H A W 9 (h .totals) (ps .1 .1 .1 .1 .1 .1 .1 .1 .1 .0) .0)) $
+        assigns ! (addr ! (from ! (hop ! (look ! 36 refl) (fld ! {τ = type-at 7} {d = 1_648} refl (stop !))))) (from ! (stop !))
+        (init ! 16 refl (tt, tt)) $
+        assigns ! (addr ! (from ! (hop ! (look ! 36 refl) (fld ! {τ = type-at 8} {d = 5_744} refl (stop !))))) (from ! (stop !))
+        (init ! 14 refl (tt, tt)) $
         move ! (7 ∷ 8 ∷ []) $
         shared ! tt (h .lengths) (h .tags) b o (ps .1 .1 .1 .1 .1 .1 .1 .0) (ps .1 .1 .1 .1 .1 .1 .1 .1 .0) (λ α γ₇ γ₈.
         use3 W (raw (Core 𝓤 H A W at-mem run .pre (to-core α γ₇ γ₈))) (goes-core is α γ₇ γ₈) $
         calls-at ! fm (Core 𝓤 H A W at-mem run) known (to-core α γ₇ γ₈)
-        (and-then ! (load ! (from ! (stop !)) (look ! 30 refl))
-        (and-then ! (load ! (from ! (stop !)) (look ! 28 refl))
-        (and-then ! (load ! (from ! (stop !)) (look ! 26 refl))
-        (and-then ! (load ! (from ! (stop !)) (look ! 24 refl))
-        (and-then ! (load ! (from ! (stop !)) (look ! 22 refl))
-        (and-then ! (load ! (from ! (stop !)) (look ! 20 refl))
-        (and-then ! (load ! (from ! (stop !)) (look ! 18 refl))
-        (and-then ! (load ! (from ! (stop !)) (look ! 16 refl)) (and-then ! (load ! (from ! (stop !)) (look ! 14 refl)) (no-more !))))))))))
+        (and-then ! (load ! (from ! (stop !)) (look ! 33 refl))
+        (and-then ! (load ! (from ! (stop !)) (look ! 31 refl))
+        (and-then ! (load ! (from ! (stop !)) (look ! 29 refl))
+        (and-then ! (load ! (from ! (stop !)) (look ! 27 refl))
+        (and-then ! (load ! (from ! (stop !)) (look ! 25 refl))
+        (and-then ! (load ! (from ! (stop !)) (look ! 23 refl))
+        (and-then ! (load ! (from ! (stop !)) (look ! 21 refl))
+        (and-then ! (load ! (from ! (stop !)) (look ! 19 refl))
+        (and-then ! (load ! (from ! (stop !)) (look ! 17 refl))
+        (and-then ! (load ! (from ! (stop !)) (look ! 15 refl)) (no-more !)))))))))))
         (λ v.
         returned ! tt S.the-row Said (‵ (flft (α ∷ []) fullShare) ⊛ ‵ ftrue) v _
         (ensured 𝓤 H A core.ended (core.clauses 𝓤 H A at-mem run) (α ∷ [], tt) (to-core α γ₇ γ₈ .0 .3) tt) (id⊢ 𝓤 _) (said-of α γ₇ γ₈)
@@ -197,45 +222,45 @@ module _ {M : Type 1} (𝓤 : URA M) (H : Heap 𝓤) (A : Atoms 𝓤) (W : Given
         let isr = subst (Is S.the-row r) (LL.tells S.the-type S′.the-laws r (v ∷ []) is₁) is₁ in
         let ws = changed-of r isr in
         split ! $ move ! (1 ∷ []) $ drop ! $
-        -- [the token; the lender's two parts; the seven cells; …]
-        land ! (from ! (stop !)) (init ! 32 refl (LL.lawful S.the-type S′.the-laws 𝓤 H A W .typed r _ is₁ .0)) $
-        rewrite ! 32 (λ (us : List Val). ‵ (fat fullShare S′.mir l₂ zero (only us))) (LL.tells S.the-type S′.the-laws r (v ∷ []) is₁) refl $
+        -- [the token; the lender's two parts; the eight cells; …]
+        land ! (from ! (stop !)) (init ! 35 refl (LL.lawful S.the-type S′.the-laws 𝓤 H A W .typed r _ is₁ .0)) $
+        rewrite ! 35 (λ (us : List Val). ‵ (fat fullShare S′.mir l₂ zero (only us))) (LL.tells S.the-type S′.the-laws r (v ∷ []) is₁) refl $
         unshared ! tt (h .lengths) (h .tags) b o $ move ! (2 ∷ 3 ∷ 4 ∷ 5 ∷ 6 ∷ 7 ∷ 8 ∷ 0 ∷ 1 ∷ []) $
         assigns ! (of-opd ! (load ! (from ! (fld ! {τ = type-at 2} {d = 0} refl (stop !)))
-        (look-in ! 31 {τ = type-at 2} (sub ! 0 {τ = type-at 2} {d = 0} refl (whole !)))))
-        (from ! (hop ! (look ! 33 refl) (fld ! {τ = type-at 2} {d = 480} refl (stop !))))
+        (look-in ! 34 {τ = type-at 2} (sub ! 0 {τ = type-at 2} {d = 0} refl (whole !)))))
+        (from ! (hop ! (look ! 36 refl) (fld ! {τ = type-at 2} {d = 480} refl (stop !))))
         (store-raw ! 2 {τ = type-at 2} refl (typed 𝓤 H A W 2 (r .active) (ws .0) .0)) $
         assigns ! (of-opd ! (load ! (from ! (fld ! {τ = type-at 3} {d = 8} refl (stop !)))
-        (look-in ! 31 {τ = type-at 3} (sub ! 1 {τ = type-at 3} {d = 8} refl (whole !)))))
-        (from ! (hop ! (look ! 33 refl) (fld ! {τ = type-at 3} {d = 488} refl (stop !))))
+        (look-in ! 34 {τ = type-at 3} (sub ! 1 {τ = type-at 3} {d = 8} refl (whole !)))))
+        (from ! (hop ! (look ! 36 refl) (fld ! {τ = type-at 3} {d = 488} refl (stop !))))
         (store-raw ! 3 {τ = type-at 3} refl (typed 𝓤 H A W 3 (r .place) (ws .1 .0) .0)) $
         assigns ! (of-opd ! (load ! (from ! (fld ! {τ = type-at 4} {d = 16} refl (stop !)))
-        (look-in ! 31 {τ = type-at 4} (sub ! 2 {τ = type-at 4} {d = 16} refl (whole !)))))
-        (from ! (hop ! (look ! 33 refl) (fld ! {τ = type-at 4} {d = 496} refl (stop !))))
+        (look-in ! 34 {τ = type-at 4} (sub ! 2 {τ = type-at 4} {d = 16} refl (whole !)))))
+        (from ! (hop ! (look ! 36 refl) (fld ! {τ = type-at 4} {d = 496} refl (stop !))))
         (store-raw ! 4 {τ = type-at 4} refl (typed 𝓤 H A W 4 (r .accounts) (ws .1 .1 .0) .0)) $
         assigns ! (of-opd ! (load ! (from ! (fld ! {τ = type-at 5} {d = 1_040} refl (stop !)))
-        (look-in ! 31 {τ = type-at 5} (sub ! 3 {τ = type-at 5} {d = 1_040} refl (whole !)))))
-        (from ! (hop ! (look ! 33 refl) (fld ! {τ = type-at 5} {d = 1_520} refl (stop !))))
+        (look-in ! 34 {τ = type-at 5} (sub ! 3 {τ = type-at 5} {d = 1_040} refl (whole !)))))
+        (from ! (hop ! (look ! 36 refl) (fld ! {τ = type-at 5} {d = 1_520} refl (stop !))))
         (store-raw ! 5 {τ = type-at 5} refl (typed 𝓤 H A W 5 (r .start) (ws .1 .1 .1 .0) .0)) $
         assigns ! (of-opd ! (load ! (from ! (fld ! {τ = type-at 6} {d = 1_104} refl (stop !)))
-        (look-in ! 31 {τ = type-at 6} (sub ! 4 {τ = type-at 6} {d = 1_104} refl (whole !)))))
-        (from ! (hop ! (look ! 33 refl) (fld ! {τ = type-at 6} {d = 1_584} refl (stop !))))
+        (look-in ! 34 {τ = type-at 6} (sub ! 4 {τ = type-at 6} {d = 1_104} refl (whole !)))))
+        (from ! (hop ! (look ! 36 refl) (fld ! {τ = type-at 6} {d = 1_584} refl (stop !))))
         (store-raw ! 6 {τ = type-at 6} refl (typed 𝓤 H A W 6 (r .held) (ws .1 .1 .1 .1 .0) .0)) $
         assigns ! (of-opd ! (load ! (from ! (fld ! {τ = type-at 1} {d = 1_168} refl (stop !)))
-        (look-in ! 31 {τ = type-at 1} (sub ! 5 {τ = type-at 1} {d = 1_168} refl (whole !)))))
-        (from ! (hop ! (look ! 33 refl) (fld ! {τ = type-at 1} {d = 472} refl (stop !))))
+        (look-in ! 34 {τ = type-at 1} (sub ! 5 {τ = type-at 1} {d = 1_168} refl (whole !)))))
+        (from ! (hop ! (look ! 36 refl) (fld ! {τ = type-at 1} {d = 472} refl (stop !))))
         (store-raw ! 1 {τ = type-at 1} refl (typed 𝓤 H A W 1 (r .size) (ws .1 .1 .1 .1 .1 .0) .0)) $
-        assigns ! (of-opd ! (load ! (from ! (fld ! {d = 1_176} refl (stop !))) (look-in ! 31 (sub ! 6 {d = 1_176} refl (whole !)))))
-        (from ! (stop !)) (init ! 35 refl (LL.lawful N.the-type N′.the-laws 𝓤 H A W .typed (r .answer) _ (ws .1 .1 .1 .1 .1 .1 .0) .0)) $
+        assigns ! (of-opd ! (load ! (from ! (fld ! {τ = type-at 9} {d = 1_176} refl (stop !)))
+        (look-in ! 34 {τ = type-at 9} (sub ! 6 {τ = type-at 9} {d = 1_176} refl (whole !)))))
+        (from ! (hop ! (look ! 36 refl) (fld ! {τ = type-at 9} {d = 13_936} refl (stop !))))
+        (store-raw ! 9 {τ = type-at 9} refl (typed 𝓤 H A W 9 (r .totals) (ws .1 .1 .1 .1 .1 .1 .0) .0)) $
+        assigns ! (of-opd ! (load ! (from ! (fld ! {d = 2_200} refl (stop !))) (look-in ! 34 (sub ! 7 {d = 2_200} refl (whole !)))))
+        (from ! (stop !)) (init ! 38 refl (LL.lawful N.the-type N′.the-laws 𝓤 H A W .typed (r .answer) _ (ws .1 .1 .1 .1 .1 .1 .1 .0) .0)) $
         together ! (changedLink h r) b o $ closed ! tt (changedLink h r) (after is r isr) b o $
-        -- [obs; the borrow; the token; _11; …; _0; …]
-        returns ! (look ! 25 refl) $ forget ! 3 refl $ forget ! 5 refl $ forget ! 7 refl $ forget ! 9 refl $ forget ! 11 refl $
-        forget ! 13 refl $ forget ! 15 refl $ forget ! 17 refl $ forget ! 19 refl $ forget ! 21 refl $ forget ! 23 refl $ forget ! 25 refl $
-        move ! (25 ∷ 26 ∷ []) $ free1 ! $ move ! (23 ∷ 24 ∷ []) $ free1 ! $ move ! (21 ∷ 22 ∷ []) $ free1 ! $ move ! (19 ∷ 20 ∷ []) $
-        free1 ! $ move ! (17 ∷ 18 ∷ []) $ free1 ! $ move ! (15 ∷ 16 ∷ []) $ free1 ! $ move ! (13 ∷ 14 ∷ []) $ free1 ! $
-        move ! (11 ∷ 12 ∷ []) $ free1 ! $ move ! (9 ∷ 10 ∷ []) $ free1 ! $ move ! (7 ∷ 8 ∷ []) $ free1 ! $ move ! (5 ∷ 6 ∷ []) $ free1 ! $
-        move ! (3 ∷ 4 ∷ []) $ free1 ! $ free0 ! $
-        keep ! (0 ∷ 1 ∷ 2 ∷ []) $ by ! (exits r (sent is r e) (ws .1 .1 .1 .1 .1 .1 .0))))))))))))))))))
+        -- [obs; the borrow; the token; _12; …; _0; …]
+        returns ! (look ! 27 refl) $ forget ! 3 refl $ forget ! 5 refl $ forget ! 7 refl $ forget ! 9 refl $ forget ! 11 refl $ forget ! 13 refl $ forget ! 15 refl $ forget ! 17 refl $ forget ! 19 refl $ forget ! 21 refl $ forget ! 23 refl $ forget ! 25 refl $ forget ! 27 refl $
+        move ! (27 ∷ 28 ∷ []) $ free1 ! $ move ! (25 ∷ 26 ∷ []) $ free1 ! $ move ! (23 ∷ 24 ∷ []) $ free1 ! $ move ! (21 ∷ 22 ∷ []) $ free1 ! $ move ! (19 ∷ 20 ∷ []) $ free1 ! $ move ! (17 ∷ 18 ∷ []) $ free1 ! $ move ! (15 ∷ 16 ∷ []) $ free1 ! $ move ! (13 ∷ 14 ∷ []) $ free1 ! $ move ! (11 ∷ 12 ∷ []) $ free1 ! $ move ! (9 ∷ 10 ∷ []) $ free1 ! $ move ! (7 ∷ 8 ∷ []) $ free1 ! $ move ! (5 ∷ 6 ∷ []) $ free1 ! $ move ! (3 ∷ 4 ∷ []) $ free1 ! $ free0 ! $
+        keep ! (0 ∷ 1 ∷ 2 ∷ []) $ by ! (exits r (sent is r e) (ws .1 .1 .1 .1 .1 .1 .1 .0)))))))))))))))))))
 
 module _ {M : Type 1} (𝓤 : URA M) (H : Heap 𝓤) (A : Atoms 𝓤) (W : Given 𝓤 H A) (at-mem : Memory → SProp 𝓤) (run : Routine → Fun 𝓤) where
   lent-walks : (C : Calls 𝓤 H) (Λ : Loops 𝓤 H) → FmC 𝓤 H (W .laws) C → Triple 𝓤 (C #core) (Core 𝓤 H A W at-mem run)

@@ -1,6 +1,8 @@
 -- `link::arrive_in` meets its contract: the step of an arrival, told whether the link that the parts make up is sound.
 use mathlib.Core.Path.{refl}
+use Rattle.state.specs.declared.Link.{Link}
 use Rattle.state.specs.State.{linkOf}
+use Rattle.rules.proofs.Counted.{sound-climbs}
 use borrow.Author.Needs.{needs}
 use Rattle.link.proofs.arrive_in.Statement.{statement}
 use Rattle.link.proofs.arrive_in.Tie as tie
@@ -8,18 +10,26 @@ use Rattle.link.proofs.arrive_in.Tie as tie
 is-sound-of-requires : tie.Need-is-sound-of-requires
 is-sound-of-requires c κs = search needs
 
+-- the link that the parts make up
+abbrev whole : tie.Start → Link
+whole st =
+    let a = st .args in
+    linkOf (a .tree) (a .size) (a .active) (a .place) (a .accounts) (a .t6) (a .held) (a .lengths .now) (a .tags .now) (a .totals)
+
 arrive-requires : tie.Need-arrive-requires
-arrive-requires c κs = search needs
+arrive-requires c κs =
+    let s = c .before .before .before .before .before .before .before .before .before .before .before .before in
+    let l = whole (s .before .before) in
+    λ yes′. sound-climbs l (s .is-sound-of .ensures (l .tags) .sound yes′)
 
 returns : tie.Need-returns
 returns c =
-    let s = c .before .before .before .before .before .before .before in
-    let a = s .before .before .args in
-    let l = linkOf (a .tree) (a .size) (a .active) (a .place) (a .accounts) (a .t6) (a .held) (a .lengths .now) (a .tags .now) in
+    let s = c .before .before .before .before .before .before .before .before .before .before .before .before .before in
+    let l = whole (s .before .before) in
     record {
       sound = s .is-sound-of .result;
-      exactly = s .is-sound-of .ensures (a .tags .now);
-      gives = c .arrive .ensures l refl refl;
+      exactly = s .is-sound-of .ensures (l .tags);
+      gives = c .arrive .ensures l refl refl refl;
     }
 
 pub arrive-in-spec : {M : Type 1} → statement M

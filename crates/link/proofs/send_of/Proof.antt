@@ -16,7 +16,7 @@ use Rattle.link.proofs.send_of.Tie as tie
 abbrev whole : tie.Start → Link
 whole s =
     let a = s .args in
-    linkOf (a .tree) (a .size) (a .active) (a .place) (a .accounts) (a .start) (a .held) (a .lengths .now) (a .tags .now)
+    linkOf (a .tree) (a .size) (a .active) (a .place) (a .accounts) (a .start) (a .held) (a .lengths .now) (a .tags .now) (a .totals)
 
 is-sound-of-requires : tie.Need-is-sound-of-requires
 is-sound-of-requires c κs = search needs

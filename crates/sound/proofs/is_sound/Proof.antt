@@ -7,7 +7,7 @@ is-sound-of-requires : tie.Need-is-sound-of-requires
 is-sound-of-requires c κs = search needs
 
 returns : tie.Need-returns
-returns c = c .is-sound-of .ensures (c .before .before .before .before .before .before .before .before .args .link .tags)
+returns c = c .is-sound-of .ensures (c .before .before .before .before .before .before .before .before .before .args .link .tags)
 
 pub is-sound-spec : {M : Type 1} → statement M
 is-sound-spec = tie.close (tie.spec is-sound-of-requires returns)

@@ -67,21 +67,27 @@ returns-5 : tie.Need-returns-5
 returns-5 c = λ tags.
     let e4 = c .before in
     let e3 = e4 .before in
-    let e2 = e3 .before in
-    let e1 = e2 .before .before .before in
+    let e1 = e3 .before .before .before .before in
     let st = e1 .before .before .before in
     let a = st .args in
-    let l = linkOf (a .tree) (a .size) (a .active) (a .place) (a .accounts) (a .start) (a .held) (a .lengths .now) tags in
-    let said = c .classes-right .ensures tags in
+    let l = linkOf (a .tree) (a .size) (a .active) (a .place) (a .accounts) (a .start) (a .held) (a .lengths .now) tags (a .totals) in
     record {
       sound =
           λ e.
-          right-to-sound l (rules e1) (right e4) (record { low = e3 .if3 .left; high = e4 .if4 .left })
-          (st .fits .active .fits) (said .sound e);
-      complete = λ p. said .complete (sound-to-right l (rules e1) p);
+          right-to-sound l (rules e1) (right e4) (record { low = e3 .if3 .left; high = e4 .if4 .left }) (st .fits .active .fits)
+          (c .classes-right .ensures tags .sound e);
+      complete = λ p. c .classes-right .ensures tags .complete (sound-to-right l (rules e1) p);
     }
 
 pub is-sound-of-spec : {M : Type 1} → statement M
 is-sound-of-spec =
     tie.close
-    (tie.spec plan-size-requires returns size-right-requires returns-2 returns-3 returns-4 classes-right-requires returns-5)
+    (tie.spec
+    plan-size-requires
+    returns
+    size-right-requires
+    returns-2
+    returns-3
+    returns-4
+    classes-right-requires
+    returns-5)

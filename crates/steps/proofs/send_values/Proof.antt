@@ -46,7 +46,7 @@ residuals-requires c κs = search needs
 
 send-requires : tie.Need-send-requires
 send-requires c κs =
-    let z = c .before .before .before .before .before .before .before .before in
+    let z = c .before .before .before .before .before .before .before .before .before .before .before .before in
     let y = z .before in
     let w = y .before .before in
     let st = w .before .before .before in
@@ -56,7 +56,7 @@ send-requires c κs =
 zipped-requires : tie.Need-zipped-requires
 zipped-requires c κs =
     let g = c .before .before in
-    let z = g .before .before .before .before .before .before .before .before .before in
+    let z = g .before .before .before .before .before .before .before .before .before .before .before .before .before in
     let y = z .before in
     let w = y .before .before in
     let st = w .before .before .before in
@@ -66,7 +66,7 @@ returns : tie.Need-returns
 returns c =
     let k = c .before .before in
     let g = k .before .before .before in
-    let z = g .before .before .before .before .before .before .before .before .before in
+    let z = g .before .before .before .before .before .before .before .before .before .before .before .before .before in
     let y = z .before in
     let w = y .before .before in
     let st = w .before .before .before in

@@ -9,13 +9,13 @@ use Rattle.parts.proofs.in_place.arrives.Tie as tie
 
 -- where the arrival that was judged began
 abbrev begun : tie.After-arrive → tie.Start
-begun v = v .before .before .before .before .before .before
+begun v = v .before .before .before .before .before .before .before .before
 
 cast-class : tie.Need-cast-class
 cast-class c = search needs
 
 arrive-requires : tie.Need-arrive-requires
-arrive-requires c κs = search needs
+arrive-requires c κs = let st = c .before .before .before .before .before .before .before in st .pre .0
 
 enum-told : tie.Need-enum-told
 enum-told c = search needs
@@ -30,7 +30,7 @@ cast-lay-in-3 : tie.Need-cast-lay-in-3
 cast-lay-in-3 c = search needs
 
 lay-in-requires : tie.Need-lay-in-requires
-lay-in-requires c κs = search needs
+lay-in-requires c κs = let st = c .before .before .before .before .before .before .before .before .before .before .before .before in st .pre .1
 
 same-length : tie.Need-same-length
 same-length c = search needs
@@ -42,8 +42,8 @@ returns c =
     let v = t .before .before in
     let a = begun v .args in
     let line = sym (ap (λ (w : Verdict). arrivalSays w (a .a .class) (packetIn (a .a))) (t .enum-told .given .1)) in
-    λ l leaves longest.
-    arrives-in-place (a .sound) _ (a .a) (v .arrive .result) _ (a .at) _ _ _ _ (v .arrive .ensures l leaves longest) line
+    λ l leaves parents longest.
+    arrives-in-place (a .sound) _ (a .a) (v .arrive .result) _ (a .at) _ _ _ _ (v .arrive .ensures l leaves parents longest) line
     (lay .lay-in .ensures)
 
 enum-told-2 : tie.Need-enum-told-2
@@ -53,7 +53,7 @@ arrival-line-requires : tie.Need-arrival-line-requires
 arrival-line-requires c κs = search needs
 
 lay-at-requires : tie.Need-lay-at-requires
-lay-at-requires c κs = search needs
+lay-at-requires c κs = let st = c .before .before .before .before .before .before .before .before .before .before .before .before in st .pre .1
 
 same-length-2 : tie.Need-same-length-2
 same-length-2 c = search needs
@@ -64,9 +64,9 @@ returns-2 c =
     let n = lay .before .before in
     let v = n .before .before .before in
     let a = begun v .args in
-    λ l leaves longest.
+    λ l leaves parents longest.
     arrives-in-place (a .sound) _ (a .a) (v .arrive .result) (n .arrival-line .result) (a .at) _ _ _ _
-    (v .arrive .ensures l leaves longest) (n .arrival-line .ensures) (lay .lay-at .ensures)
+    (v .arrive .ensures l leaves parents longest) (n .arrival-line .ensures) (lay .lay-at .ensures)
 
 pub arrives-spec : {M : Type 1} → statement M
 arrives-spec =

@@ -19,14 +19,14 @@ returns c =
 
 send-requires : tie.Need-send-requires
 send-requires c κs =
-    let i = c .before .before .before .before in
+    let i = c .before .before .before .before .before .before in
     let st = i .before in
     let on = not-false (st .args .sound) (i .if1 .left) in
     (record { sound = st .pre .0 .sound on; wide = st .pre .1 .accounts }, st .pre .2 on)
 
 returns-2 : tie.Need-returns-2
 returns-2 c =
-    let i = c .before .before .before .before .before in
+    let i = c .before .before .before .before .before .before .before in
     let on = not-false (i .before .args .sound) (i .if1 .left) in
     rw on (departs-in-place _ _ _ (c .send .ensures))
 

@@ -7,6 +7,7 @@ use denote.Ref.{now}
 use lib.ListN.{length, drop}
 use Rattle.state.specs.declared.Link.{Link}
 use Rattle.steps.specs.Parts.{lentLink, lentTree}
+use Rattle.rules.proofs.Counted.{sound-climbs}
 use Rattle.plan.specs.declared.EventRead.{EventRead}
 use Rattle.plan.specs.declared.EventRead.the-variants.{Arrive, SendNext}
 use Rattle.plan.specs.Event.{usedOf, eventAt}
@@ -22,6 +23,7 @@ whole st =
     let a = st .args in
     lentLink (lentTree (a .count) (a .leaves) (now (a .parent)) (now (a .weight)) (now (a .longest)) (a .follows)) (a .size) (a .active)
     (a .visit) (now (a .balance)) (now (a .residual)) (now (a .start)) (now (a .held)) (now (a .lengths)) (now (a .tags))
+    (now (a .packets)) (now (a .bytes))
 
 -- where the event began
 abbrev begun : tie.After-read-event → tie.Start
@@ -29,11 +31,11 @@ begun g = g .before .before .before .before
 
 -- where it was told that an arrival was read
 abbrev arriving : tie.After-arrives → tie.After-read
-arriving k = k .before .before .before .before .before .before .before
+arriving k = k .before .before .before .before .before .before .before .before .before
 
 -- where it was told that a send was read
 abbrev sending : tie.After-departs → tie.After-enum-told2
-sending d = d .before .before .before .before .before .before .before
+sending d = d .before .before .before .before .before .before .before .before .before
 
 -- the event that was read stands at the place
 read-at : (g : tie.After-read-event) {e : EventRead} → g .read-event .result ≡ e
@@ -69,8 +71,8 @@ moves-on u told = u .used .ensures .0 ∙ ap usedOf told
 enum-told : tie.Need-enum-told
 enum-told c = search needs
 
-waiting-requires : tie.Need-waiting-requires
-waiting-requires c κs = search needs
+element-copy-out-t40 : tie.Need-element-copy-out-t40
+element-copy-out-t40 c = search needs
 
 lay-at-requires : tie.Need-lay-at-requires
 lay-at-requires c κs = search needs
@@ -82,7 +84,9 @@ enum-known-read : tie.Need-enum-known-read
 enum-known-read c = search needs
 
 arrives-requires : tie.Need-arrives-requires
-arrives-requires c κs = search needs
+arrives-requires c κs =
+    let st = c .before .before .before .before .before .before .before .before .before .before .before .before .before .before .before in
+    (λ on. sound-climbs (whole st) (st .pre .0 .sound on), st .pre .3)
 
 outcome-requires-2 : tie.Need-outcome-requires-2
 outcome-requires-2 c κs = search needs
@@ -92,7 +96,7 @@ enum-told-2 c = search needs
 
 departs-requires : tie.Need-departs-requires
 departs-requires c κs =
-    let st = c .before .before .before .before .before .before .before .before .before .before .before .before .before in
+    let st = c .before .before .before .before .before .before .before .before .before .before .before .before .before .before .before in
     (st .pre .0, st .pre .1, st .pre .2)
 
 lay-went-requires : tie.Need-lay-went-requires
@@ -104,8 +108,8 @@ outcome-requires-3 c κs = search needs
 enum-known-read-2 : tie.Need-enum-known-read-2
 enum-known-read-2 c = search needs
 
-cast-t55 : tie.Need-cast-t55
-cast-t55 c = search needs
+cast-t62 : tie.Need-cast-t62
+cast-t62 c = search needs
 
 lay-at-requires-2 : tie.Need-lay-at-requires-2
 lay-at-requires-2 c κs = search needs
@@ -119,15 +123,14 @@ same-length c = search needs
 returns : tie.Need-returns
 returns c =
     let lay = c .before .before .before in
-    let w = lay .before .before in
-    let v = w .before .before in
+    let v = lay .before .before .before in
     let u = v .before .before in
     let g = u .before in
     let st = begun g in
     let a = st .args in
     rw (c .outcome .ensures)
-    (end-in-place (whole st) (now (a .input)) (a .place) (st .pre .1) (a .at) (now (a .out)) (lay .lay-at .result) _ (w .waiting .result)
-    (a .active) (a .visit) (a .size) (read-at g (v .enum-told .given .1)) (w .waiting .ensures) (lay .lay-at .ensures))
+    (end-in-place (whole st) (now (a .input)) (a .place) (st .pre .1) (a .at) (now (a .out)) (lay .lay-at .result) _ _
+    (a .active) (a .visit) (a .size) (read-at g (v .enum-told .given .1)) refl (lay .lay-at .ensures))
 
 same-length-2 : tie.Need-same-length-2
 same-length-2 c = search needs
@@ -143,7 +146,7 @@ returns-2 c =
     rw (c .outcome2 .ensures)
     (arrival-in-place (whole st) (now (a .input)) (a .place) (st .pre .1) (a .at) (now (a .out)) (lay .arrives .result) _ (a .sound) (st .pre .0)
     _ (v .read .given .0 .0) (a .active) (a .visit) (u .used .result) (a .size) (read-at g (v .read .given .1)) (moves-on u (v .read .given .1))
-    (lay .arrives .ensures (whole st) refl refl))
+    (lay .arrives .ensures (whole st) refl refl refl))
 
 same-length-3 : tie.Need-same-length-3
 same-length-3 c = search needs
@@ -186,7 +189,7 @@ event-spec =
     used-requires
     add-after
     enum-told
-    waiting-requires
+    element-copy-out-t40
     lay-at-requires
     outcome-requires
     enum-known-read
@@ -197,7 +200,7 @@ event-spec =
     lay-went-requires
     outcome-requires-3
     enum-known-read-2
-    cast-t55
+    cast-t62
     lay-at-requires-2
     outcome-requires-4
     same-length

@@ -15,12 +15,15 @@ none-requires c κs = search needs
 array-set-from-accounts : tie.Need-array-set-from-accounts
 array-set-from-accounts c = search needs
 
+none-requires-2 : tie.Need-none-requires-2
+none-requires-2 c κs = search needs
+
 returns : tie.Need-returns
 returns c =
-    let z = c .before in
+    let z = c .before .before in
     let q : z .round-size .result
     ≡ record { 0 = roundSize (z .before .args .tree) } = ap (λ (n : ℕ). record { 0 = n }) (z .round-size .ensures) in
-    rw (c .none .ensures, q)
+    rw (c .before .none .ensures, c .none2 .ensures, q)
 
 pub fresh-spec : {M : Type 1} → statement M
-fresh-spec = tie.close (tie.spec round-size-requires none-requires array-set-from-accounts returns)
+fresh-spec = tie.close (tie.spec round-size-requires none-requires array-set-from-accounts none-requires-2 returns)

@@ -11,12 +11,12 @@ use Rattle.checks.specs.Check.{firstBroken}
 use Rattle.tree.specs.Class.{longestOf, isLeaf}
 use Rattle.state.specs.declared.Link.{Link}
 use Rattle.state.specs.declared.Packet.{Packet}
-use Rattle.state.specs.Queue.{queued}
+use Rattle.state.specs.Queue.{withTotals}
 use Rattle.state.specs.State.{meaning}
 use Rattle.state.proofs.Meaning.{meaning-held}
 use Rattle.calls.specs.Arrival.{arrivalChecks, arrivalAnswer, arrivalLeaves}
 use Rattle.calls.proofs.Arrivals.{unsound-number, no-leaf-number, arrival-refused, arrival-taken, taken}
-use Rattle.steps.specs.Arrivals.{ArrivesOn}
+use Rattle.steps.specs.Arrivals.{lentWaiting, ArrivesOn}
 use borrow.Author.Needs.{needs}
 use Rattle.steps.proofs.arrival.arrive.Statement.{statement}
 use Rattle.steps.proofs.arrival.arrive.Tie as tie
@@ -29,8 +29,8 @@ refuses sound l i p v said e = rw e (sym (arrival-refused sound l i p (sym said 
 returns : tie.Need-returns
 returns c =
     let a = c .before .args in
-    λ l leaves longest.
-    let now = queued l (a .start .now) (a .held .now) (a .lengths .now) (a .tags .now) in
+    λ l leaves parents longest.
+    let now = lentWaiting l (a .start .now) (a .held .now) (a .lengths .now) (a .tags .now) (a .packets .now) (a .bytes .now) in
     rw (not-true (a .sound) (c .if1 .taken)) (refuses false now (a .class) (a .packet) _ (sym (unsound-number (meaning now) _ _)) refl)
 
 holds-requires : tie.Need-holds-requires
@@ -41,8 +41,8 @@ unfolding isLeaf
 returns-2 c =
     let h = c .before in
     let a = h .before .before .args in
-    λ l leaves longest.
-    let now = queued l (a .start .now) (a .held .now) (a .lengths .now) (a .tags .now) in
+    λ l leaves parents longest.
+    let now = lentWaiting l (a .start .now) (a .held .now) (a .lengths .now) (a .tags .now) (a .packets .now) (a .bytes .now) in
     let off : isLeaf (l .tree) (a .class) ≡ false =
     rw leaves (sym (h .holds .ensures .0) ∙ not-true (h .holds .result) (c .if2 .taken)) in
     rw (not-false (a .sound) (h .before .if1 .left))
@@ -73,7 +73,7 @@ inside j =
 
 -- the link at entry
 abbrev here : tie.After-judge → Link → Link
-here j l = let a = begun j .args in queued l (a .start .now) (a .held .now) (a .lengths .now) (a .tags .now)
+here j l = let a = begun j .args in lentWaiting l (a .start .now) (a .held .now) (a .lengths .now) (a .tags .now) (a .packets .now) (a .bytes .now)
 
 -- the verdict is that of the checks on a link that is sound
 said : (j : tie.After-judge) (l : Link) → l .tree .leaves ≡ begun j .args .leaves → l .tree .longest ≡ begun j .args .longest .now
@@ -99,25 +99,33 @@ put-requires c κs =
     let j = e .before .before in
     (inside j, j .judge .ensures .room (e .enum-told .given .1))
 
+recount-requires : tie.Need-recount-requires
+recount-requires c κs =
+    let p = c .before .before in
+    let e = p .before .before .before .before in
+    let j = e .before .before in
+    (inside j, begun j .pre (sounds j))
+
 enum-told-2 : tie.Need-enum-told-2
 enum-told-2 c = search needs
 
 returns-3 : tie.Need-returns-3
 returns-3 c =
-    let e = c .before .before .before .before in
+    let p = c .before .before .before in
+    let e = p .before .before .before .before in
     let j = e .before .before in
     let a = begun j .args in
-    λ l leaves longest.
+    λ l leaves parents longest.
     let passed = e .enum-told .given .1 in
     rw (sounds j)
-    (ap₂ arrivalLeaves (ap arrivalAnswer passed) (c .put .ensures l)
+    (ap₂ arrivalLeaves (ap arrivalAnswer passed) (ap₂ withTotals (p .put .ensures l) (c .recount .ensures (l .tree) parents))
     ∙ sym (arrival-taken true (here j l) (a .class) (a .packet) (sym (said j l leaves longest) ∙ passed)))
 
 returns-4 : tie.Need-returns-4
 returns-4 c =
     let j = c .before .before in
     let a = begun j .args in
-    λ l leaves longest.
+    λ l leaves parents longest.
     rw (sounds j) (refuses true (here j l) (a .class) (a .packet) (j .judge .result) (said j l leaves longest) (c .enum-told2 .given .1))
 
 pub arrive-spec : {M : Type 1} → statement M
@@ -133,6 +141,7 @@ arrive-spec =
     judge-requires
     enum-told
     put-requires
+    recount-requires
     enum-told-2
     returns-3
     returns-4)

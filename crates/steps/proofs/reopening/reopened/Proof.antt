@@ -1,10 +1,7 @@
 -- `reopening::reopened` meets its contract.
-use mathlib.Core.Bool.{true}
 use mathlib.Core.List.{List}
 use mathlib.Core.Path.{_≡_, sym, ap, subst, _∙_}
 use Prim.Native.Nat.{ℕ}
-use borrow.Author.Tests.{not-true, not-false}
-use Rattle.sets.specs.Set.{has}
 use Rattle.units.specs.declared.Bytes.{Bytes}
 use Rattle.units.specs.declared.Weight.{Weight}
 use Rattle.tree.specs.declared.Tree.{Tree}
@@ -14,7 +11,7 @@ use Rattle.rules.specs.Steps.{holdsSome}
 use Rattle.steps.specs.declared.reopening.Found.{Found}
 use Rattle.steps.specs.Parts.{lentLink, lentTree}
 use Rattle.steps.specs.Rounds.{Unseen, Closed, Kept, Finds, closedLink}
-use Rattle.steps.proofs.Departures.{nothing-finds, round-opens, then-finds}
+use Rattle.steps.proofs.Departures.{root-on, round-opens, then-finds}
 use borrow.Author.Needs.{needs}
 use Rattle.steps.proofs.reopening.reopened.Statement.{statement}
 use Rattle.steps.proofs.reopening.reopened.Tie as tie
@@ -40,7 +37,7 @@ closed : (c : tie.After-weights-of) (size : Bytes) (k : Unseen) (b r s l : List 
 closed c size k b r s l = subst (λ (t : Tree). Closed t size k b r s l) (sym (same c))
 
 rules : (c : tie.After-weights-of) → PlanRules (made c)
-rules c = subst PlanRules (sym (same c)) (c .before .before .pre .0 .2 .parts .sound .state .fits .tree)
+rules c = subst PlanRules (sym (same c)) (c .before .before .pre .0 .2 .going .parts .sound .state .fits .tree)
 
 kept : (c : tie.After-weights-of) → Kept (made c) (c .before .before .args .known) (c .before .before .args .kept .now)
 kept c =
@@ -63,52 +60,38 @@ active-is c k e =
 -- what is found on the one is found on the other
 finds : (c : tie.After-weights-of) (size : Bytes) (k : Unseen) (b r s l b′ r′ : List ℕ) (f : Found)
     → Finds (closedLink (made c) size k b r s l) f
-    (λ after active place. lentLink (made c) after active place b′ r′ s (k .held) l (k .tags))
+    (λ after active place. lentLink (made c) after active place b′ r′ s (k .held) l (k .tags) (k .packets) (k .bytes))
     → Finds (closedLink (lent (c .before .before)) size k b r s l) f
-    (λ after active place. lentLink (lent (c .before .before)) after active place b′ r′ s (k .held) l (k .tags))
+    (λ after active place. lentLink (lent (c .before .before)) after active place b′ r′ s (k .held) l (k .tags) (k .packets) (k .bytes))
 finds c size k b r s l b′ r′ f =
     subst (λ (t : Tree). Finds (closedLink t size k b r s l) f
-    (λ after active place. lentLink t after active place b′ r′ s (k .held) l (k .tags))) (same c)
-
-has-requires : tie.Need-has-requires
-has-requires c κs = search needs
-
-returns : tie.Need-returns
-returns c =
-    let h = c .before in
-    let w = h .before .before .before in
-    let off = sym (h .has .ensures) ∙ not-true (h .has .result) (c .if1 .taken) in
-    λ k e q. finds w _ k _ _ _ _ _ _ _ (nothing-finds _ _ (closed w _ k _ _ _ _ q) _ (active-is (h .before) k e) off)
-
--- a packet waits (R119)
-root-on : (c : tie.Else1) → has (c .before .before .round-active .result) 0 ≡ true
-root-on c = let h = c .before in sym (h .has .ensures) ∙ not-false (h .has .result) (c .if1 .left)
+    (λ after active place. lentLink t after active place b′ r′ s (k .held) l (k .tags) (k .packets) (k .bytes))) (same c)
 
 sums-of-requires : tie.Need-sums-of-requires
 sums-of-requires c κs =
-    let w = c .before .before .before .before in
-    (rules w, kept w, root-on c)
+    let w = c .before .before in
+    let st = w .before .before in
+    (rules w, kept w, root-on _ _ (closed w _ _ _ _ _ _ (st .pre .0 .2)) _ (active-is c (st .pre .0 .0) (st .pre .0 .1)))
 
 open-until-sent-requires : tie.Need-open-until-sent-requires
 open-until-sent-requires c κs =
     let s = c .before .before in
-    let i = s .before in
-    let w = i .before .before .before .before in
+    let a = s .before in
+    let w = a .before .before in
     let st = w .before .before in
-    let is = active-is (i .before .before) (st .pre .0 .0) (st .pre .0 .1) in
-    ((_, round-opens _ _ (closed w _ _ _ _ _ _ (st .pre .0 .2)) _ is (root-on i)), s .sums-of .ensures)
+    ((_, round-opens _ _ (closed w _ _ _ _ _ _ (st .pre .0 .2)) _ (active-is a (st .pre .0 .0) (st .pre .0 .1))), s .sums-of .ensures)
 
-returns-2 : tie.Need-returns-2
-returns-2 c =
-    let i = c .before .before .before .before in
-    let w = i .before .before .before .before in
+returns : tie.Need-returns
+returns c =
+    let a = c .before .before .before .before in
+    let w = a .before .before in
     let o = c .open-until-sent .ensures in
     λ k e q.
-    let is = active-is (i .before .before) k e in
+    let is = active-is a k e in
     let shut = closed w _ k _ _ _ _ q in
     finds w _ k _ _ _ _ _ _ _
-    (then-finds _ _ shut _ is (root-on i) _ _ (c .open-until-sent .result) (o .1 .0) (o .1 .1)
-    (o .0 k (round-opens _ _ shut _ is (root-on i))))
+    (then-finds _ _ shut _ is _ _ (c .open-until-sent .result) (o .1 .0) (o .1 .1)
+    (o .0 k (round-opens _ _ shut _ is)))
 
 pub reopened-spec : {M : Type 1} → statement M
 reopened-spec =
@@ -116,8 +99,6 @@ reopened-spec =
     (tie.spec
     weights-of-requires
     round-active-requires
-    has-requires
-    returns
     sums-of-requires
     open-until-sent-requires
-    returns-2)
+    returns)

@@ -1,0 +1,48 @@
+// The totals of a link in lent number arrays: one packet counted more or less, at a class and at every class above it. Named for specs/WayUp.
+// Serves demand 2.
+ghost use mathlib.Core.Path.{_≡_};
+ghost use Prim.Native.Nat.{_+_, _^_, _<_};
+ghost use Rattle.tree.specs.declared.Tree.{Tree};
+ghost use Rattle.units.specs.Cost.{costOf};
+ghost use Rattle.state.specs.WayUp.{changed, recounted, Climbs};
+use tree::wide;
+
+// A number more by another, or less by it and never below 0.
+fn changed(fewer: bool, by: u64, n: u64) -> u64
+    requires { ⌜ n + by < 2 ^ 64 ⌝ }
+    ensures { λ r. ⌜ r ≡ changed fewer by n ⌝ }
+{
+    if !fewer {
+        return n + by;
+    }
+    if n < by {
+        return 0;
+    }
+    n - by
+}
+
+// One packet of a length is counted more, or less, at a class and at every class above it: in bytes what it costs.
+pub fn recount(
+    fewer: bool,
+    class: usize,
+    length: u16,
+    parent: &[u8; 64],
+    packets: &mut [u64; 64],
+    bytes: &mut [u64; 64],
+)
+    requires { ⌜ (class < 64) × Climbs (now parent) (now packets) (now bytes) ⌝ }
+    ensures { λ _. ⌜ ((t : Tree) → t .parent ≡ now (parent .entry)
+        → record { packets = now (packets .exit); bytes = now (bytes .exit) }
+        ≡ recounted fewer t class (costOf length) (record { packets = now (packets .entry); bytes = now (bytes .entry) })) ⌝ }
+{
+    let cost = units::cost(length);
+    let mut i = class;
+    loop {
+        packets[i] = changed(fewer, 1, packets[i]);
+        bytes[i] = changed(fewer, cost.0, bytes[i]);
+        if i == 0 {
+            return;
+        }
+        i = wide(parent[i]);
+    }
+}
