@@ -274,7 +274,8 @@ def arrive(before, i, length, tag):
     if number == 0:
         link.put_last(i, length, tag)
     held = link.held[i] if i < NUMBERS else 0
-    return link, "in %d %d held %d %s" % (number, place, held, same(before, link))
+    waiting = 0 if number else sum(charge(length) for length in link.queued_lengths(i))
+    return link, "in %d %d bytes %d held %d %s" % (number, place, waiting, held, same(before, link))
 
 
 def same(before, after):

@@ -362,7 +362,7 @@ pub fn worked(tree: &Tree, events: &[Event], from: usize, to: usize, table: usiz
             Event::Arrival { class, length, tag } => {
                 let taken = arrival(&mut link, class, length, tag);
                 let line = match taken {
-                    Ok(()) => format!("`in {class} {length} {tag}`"),
+                    Ok(waiting) => format!("`in {class} {length} {tag} {waiting}`"),
                     Err(refusal) => format!("`no {class} {length} {tag} {}`", refusal.number),
                 };
                 if position + 1 >= from {
@@ -413,9 +413,11 @@ pub fn waits(input: &[u8], from: usize) -> Vec<String> {
     for (position, event) in events.iter().enumerate() {
         match *event {
             Event::Arrival { class, length, tag } => {
-                if arrival(&mut link, class, length, tag).is_ok() && position + 1 >= from {
+                let Ok(all) = arrival(&mut link, class, length, tag) else { continue };
+                if position + 1 >= from {
                     let charges: Vec<u64> = link.queues[class].iter().map(Packet::charge).collect();
-                    let (all, weight) = (charges.iter().sum::<u64>(), link.tree.classes[class].weight);
+                    assert_eq!(all, charges.iter().sum::<u64>(), "D, as the arrival answered it");
+                    let weight = link.tree.classes[class].weight;
                     let (mains, size) = (all.div_ceil(weight), link.size);
                     let bound = mul(add(mains, 1), size);
                     let row = format!("| {tag} | {class} | {} | {weight} | ({mains} + 1) × {size} = {bound} |", sum(&charges));

@@ -132,7 +132,7 @@ fn link_after(tree: &Tree, events: &[Event]) -> (Link, String) {
     for event in events {
         line = match *event {
             Event::Arrival { class, length, tag } => match arrival(&mut link, class, length, tag) {
-                Ok(()) => format!("in {class} {length} {tag}"),
+                Ok(waiting) => format!("in {class} {length} {tag} {waiting}"),
                 Err(refusal) => format!("no {class} {length} {tag} {}", refusal.number),
             },
             Event::Send => match siblings.send(&mut link) {

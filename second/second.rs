@@ -279,8 +279,9 @@ impl Link {
 // ---------------------------------------------------------------------------------------------
 // The two calls.
 
-/// An arrival: "Arrival: 11, 12, 13, 14"; a taken packet joins the end of its leaf's queue, and nothing else changes but the totals.
-fn arrival(link: &mut Link, class: usize, length: u64, tag: u64) -> Result<(), Refusal> {
+/// An arrival: "Arrival: 11, 12, 13, 14"; a taken packet joins the end of its leaf's queue, and nothing else changes but the totals. It
+/// answers what adding to the queue does.
+fn arrival(link: &mut Link, class: usize, length: u64, tag: u64) -> Result<u64, Refusal> {
     // 11: "the state is not sound"
     if link.broken_rule().is_some() {
         return refuse(11, 0);
@@ -297,12 +298,22 @@ fn arrival(link: &mut Link, class: usize, length: u64, tag: u64) -> Result<(), R
     if link.queues[class].len() >= MOST_WAITING {
         return refuse(14, class);
     }
-    // "first in first out"; the leaf isn't made active here: "A new arrival to such a leaf waits for the next round."
-    let packet = Packet { length, tag };
-    link.queues[class].push(packet);
-    totals::joined(link, class, packet.charge());
+    // the leaf isn't made active here: "A new arrival to such a leaf waits for the next round."
+    let waiting = add_to_queue(link, class, Packet { length, tag });
     link.assert_sound("an arrival");
-    Ok(())
+    Ok(waiting)
+}
+
+/// "Adding to a queue, and so an arrival, shall answer the bytes now waiting in that leaf, the new packet included, in charges": the queue,
+/// "first in first out", is walked from its first packet to the new one.
+fn add_to_queue(link: &mut Link, leaf: usize, packet: Packet) -> u64 {
+    link.queues[leaf].push(packet);
+    totals::joined(link, leaf, packet.charge());
+    let mut waiting = 0;
+    for packet in &link.queues[leaf] {
+        waiting = add(waiting, packet.charge());
+    }
+    waiting
 }
 
 /// A send: "Send: 11, 15", then steps 1 to 4 of "Sending" until a packet goes.
@@ -549,16 +560,16 @@ impl Run {
         self
     }
 
-    /// Runs one arrival and prints `in` or, "for a refused arrival", `no`.
+    /// Runs one arrival and prints `in`, with the queue's bytes "as a last field", or, "for a refused arrival", `no`: "`no` lines stay".
     fn arrive(&mut self, link: &mut Link, body: &[u8]) {
         let class = big_endian(&body[0..1]) as usize;
         let length = big_endian(&body[1..3]);
         let tag = big_endian(&body[3..7]);
         self.counts.events += 1;
         match arrival(link, class, length, tag) {
-            Ok(()) => {
-                self.watch(link, class);
-                self.lines.push(format!("in {class} {length} {tag}"));
+            Ok(waiting) => {
+                self.watch(link, class, waiting);
+                self.lines.push(format!("in {class} {length} {tag} {waiting}"));
             }
             Err(refusal) => {
                 assert!((12..=14).contains(&refusal.number), "an arrival was refused with {refusal:?}");
@@ -588,10 +599,10 @@ impl Run {
     }
 
     /// Demand 3: the link sends at most "(D/w rounded up, plus 1) times Q bytes" until the accepted packet has gone; D and
-    /// those bytes are charges, and "Demand 3 keeps the whole-tree Q under both rules".
-    fn watch(&mut self, link: &Link, class: usize) {
-        let waiting: u64 = link.queues[class].iter().map(|packet| packet.charge()).sum();
-        let bound = mul(add(waiting.div_ceil(link.tree.classes[class].weight), 1), link.size);
+    /// those bytes are charges, and "Demand 3 keeps the whole-tree Q under both rules". D is what the arrival answered: "The front panel
+    /// computes the bound of demand 3 and needs D."
+    fn watch(&mut self, link: &Link, class: usize, d: u64) {
+        let bound = mul(add(d.div_ceil(link.tree.classes[class].weight), 1), link.size);
         self.watched.entry(class).or_default().push_back(Watched { bound, sent_before: self.sent });
     }
 
@@ -825,7 +836,7 @@ mod tests {
     /// These packets arrive and are taken.
     fn arrivals(mut link: Link, packets: &[(usize, u64, u64)]) -> Link {
         for &(class, length, tag) in packets {
-            assert_eq!(arrival(&mut link, class, length, tag), Ok(()));
+            arrival(&mut link, class, length, tag).unwrap();
         }
         link
     }
@@ -1060,7 +1071,7 @@ mod tests {
             for (mut link, sound) in [(link_p(), under_1), (link_p_rule_2(), under_2)] {
                 change(&mut link);
                 assert_eq!(link.broken_rule().is_none(), sound);
-                assert_eq!(arrival(&mut link, 2, 2, 1), if sound { Ok(()) } else { refuse(11, 0) });
+                assert_eq!(arrival(&mut link, 2, 2, 1), if sound { Ok(84) } else { refuse(11, 0) });
                 // a sound state's next main round sets the size, whatever it was
                 assert_eq!(send(&mut link).map(|sent| sent.tag), if sound { Ok(1) } else { refuse(11, 0) });
                 assert!(!sound || link.in_force == 3 + 1 + 84);
@@ -1135,20 +1146,40 @@ mod tests {
         assert_eq!(arrival(&mut link, 5, 10, 1), refuse(12, 5));
         assert_eq!(arrival(&mut link, 255, 0, 1), refuse(12, 255));
         assert_eq!(link, before);
-        assert_eq!(arrival(&mut link, 4, 10, 1), Ok(()));
+        assert_eq!(arrival(&mut link, 4, 10, 1), Ok(84));
     }
 
     #[test]
     fn m12_full_queue() {
         let mut link = link_p();
         for tag in 0..32 {
-            assert_eq!(arrival(&mut link, 4, 10, tag), Ok(()));
+            assert_eq!(arrival(&mut link, 4, 10, tag), Ok((tag + 1) * 84));
         }
         let before = link.clone();
         assert_eq!(arrival(&mut link, 4, 10, 32), refuse(14, 4));
         assert_eq!(link, before);
         assert_eq!(send(&mut link).unwrap().tag, 0);
-        assert_eq!(arrival(&mut link, 4, 10, 33), Ok(()));
+        assert_eq!(arrival(&mut link, 4, 10, 33), Ok(32 * 84));
+    }
+
+    #[test]
+    fn bytes_of_the_queue() {
+        // 60 bytes are charged 84, 61 are 85, 1,500 are 1,524; two leaves, of which each is answered its own
+        let (tree, _) = read_plan(&[leaf(0, 1, 1_500), leaf(0, 1, 61), vec![0]].concat()).unwrap();
+        let (mut link, _) = fresh_link(&tree);
+        let mut answers = |packets: &[(usize, u64)]| -> Vec<u64> {
+            packets.iter().map(|&(class, length)| arrival(&mut link, class, length, 7).unwrap()).collect()
+        };
+        assert_eq!(answers(&[(1, 60), (1, 61), (2, 61), (1, 1_500), (2, 1)]), [84, 169, 85, 1_693, 169]);
+        // leaf 1 has half of 2 + 1,524 + 85 and sends the 84 and the 85: then only the longest waits, and the new one
+        assert_eq!([send(&mut link).unwrap().class, send(&mut link).unwrap().class], [1, 1]);
+        assert_eq!(arrival(&mut link, 1, 100, 8), Ok(1_524 + 124));
+        // the lines, and none of it in a `no` line
+        let to_4 = [16, 4, 0, 10, 0, 0, 0, 9];
+        let lines = run(&[plan_p(3), to_4.repeat(33), vec![17], to_4.to_vec()].concat()).lines;
+        assert_eq!(lines[1..3], ["in 4 10 9 84", "in 4 10 9 168"]);
+        assert_eq!(lines[32..34], ["in 4 10 9 2688", "no 4 10 9 14"]);
+        assert_eq!(lines[35..], ["in 4 10 9 2688", "end 32"]);
     }
 
     #[test]

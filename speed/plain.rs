@@ -166,9 +166,9 @@ impl Plain {
         }
     }
 
-    // An arrival: taken, or the number of its refusal.
+    // An arrival: the charged bytes then in its queue, or the number of its refusal.
     #[inline(always)]
-    pub fn arrive(&mut self, class: usize, length: u16, tag: u32) -> Result<(), u32> {
+    pub fn arrive(&mut self, class: usize, length: u16, tag: u32) -> Result<u64, u32> {
         if class >= CLASSES || self.leaves >> class & 1 == 0 {
             return Err(12);
         }
@@ -188,7 +188,7 @@ impl Plain {
             total.packets += 1;
             total.bytes += cost;
         });
-        Ok(())
+        Ok(self.totals[class].bytes)
     }
 
     // Where the first packet of a class lies.
@@ -443,7 +443,7 @@ pub fn text(input: &[u8], out: &mut [u8]) -> usize {
         at = next;
         laid += match event {
             Event::Arrival { class, length, tag } => match link.arrive(class, length, tag) {
-                Ok(()) => line(room, b"in", [class as u32, length as u32, tag]),
+                Ok(bytes) => line(room, b"in", [class as u32, length as u32, tag, bytes as u32]),
                 Err(number) => line(room, b"no", [class as u32, length as u32, tag, number]),
             },
             Event::Send => match link.send() {

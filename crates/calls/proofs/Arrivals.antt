@@ -18,10 +18,15 @@ use Rattle.units.specs.Cost.{costOf}
 use Rattle.tree.specs.Class.{longestOf, isLeaf}
 use Rattle.tree.proofs.Classes.{neither-true}
 use Rattle.tree.proofs.Rules.{leaf-number}
+use Rattle.tree.proofs.Below.{below-self}
+use Rattle.tree.proofs.Changes.{changed-up}
+use Rattle.tree.proofs.Leaves.{leaf-sum}
+use Rattle.state.specs.WayUp.{changed}
+use Rattle.state.proofs.Bytes.{bytes-more}
 use Rattle.state.specs.declared.Link.{Link}
 use Rattle.state.specs.declared.Packet.{Packet}
 use Rattle.state.specs.Account.{balanceOf}
-use Rattle.state.specs.Queue.{Shaped, noPacket, heldOf, queueOf, putLast}
+use Rattle.state.specs.Queue.{Shaped, noPacket, heldOf, queueOf, bytesIn, putLast}
 use Rattle.state.specs.State.{State, meaning, queueAt}
 use Rattle.tree.proofs.Tables.{table-length}
 use Rattle.state.proofs.Queues.{shaped-put}
@@ -29,7 +34,8 @@ use Rattle.state.proofs.Counting.{queues-totals}
 use Rattle.state.proofs.Meaning.{meaning-held, meaning-put}
 use Rattle.sound.specs.Sound.{InRange, HoldsRight, Sound, SoundLink}
 use Rattle.calls.specs.declared.AfterArrival.{AfterArrival}
-use Rattle.calls.specs.Arrival.{noLeaf, badLength, full, arrivalChecks, arrived, arrivalAnswer, arrivalLeaves, arrivalGives}
+use Rattle.calls.specs.Arrival.{noLeaf, badLength, full, arrivalChecks, arrived, bytesAfter, arrivalAnswer, arrivalLeaves}
+use Rattle.calls.specs.Arrival.{arrivalGives}
 use Rattle.calls.specs.Arrival.{arrivalOf, Arrives}
 
 -- ---- what an arrival gives, by its checks
@@ -60,12 +66,12 @@ module _ (s : State) (i : ℕ) (p : Packet) (leaf : isLeaf (s .tree) i ≡ true)
 -- what an arrival gives, by its verdict
 pub arrival-refused : (sound : Bool) (l : Link) (i : ℕ) (p : Packet) {n q : ℕ}
     → firstBroken (arrivalChecks sound (meaning l) i p) ≡ Refused n q
-    → arrivalOf sound l i p ≡ arrivalLeaves (arrivalAnswer (Refused n q)) l
+    → arrivalOf sound l i p ≡ arrivalLeaves (arrivalAnswer (Refused n q) 0) l
 unfolding arrivalOf
 arrival-refused sound l i p e = ap (λ (v : Verdict). arrivalGives v l i p) e
 
 pub arrival-taken : (sound : Bool) (l : Link) (i : ℕ) (p : Packet) → firstBroken (arrivalChecks sound (meaning l) i p) ≡ Passed
-    → arrivalOf sound l i p ≡ arrivalLeaves (arrivalAnswer Passed) (putLast l i p)
+    → arrivalOf sound l i p ≡ arrivalLeaves (arrivalAnswer Passed (bytesAfter (meaning l) i p)) (putLast l i p)
 unfolding arrivalOf
 arrival-taken sound l i p e = ap (λ (v : Verdict). arrivalGives v l i p) e
 
@@ -105,14 +111,14 @@ taken sound s i p e =
 
 -- a number that is no leaf is refused
 pub no-leaf-refused : (sound : Bool) (l : Link) (i : ℕ) (p : Packet) → isLeaf (l .tree) i ≡ false
-    → arrivalOf sound l i p ≡ arrivalLeaves (arrivalAnswer (firstBroken (arrivalChecks sound (meaning l) i p))) l
+    → arrivalOf sound l i p ≡ arrivalLeaves (arrivalAnswer (firstBroken (arrivalChecks sound (meaning l) i p)) 0) l
 unfolding arrivalOf noLeaf
 no-leaf-refused sound l i p f = go (refused-or-passed (firstBroken (arrivalChecks sound (meaning l) i p)))
   where
     go : (firstBroken (arrivalChecks sound (meaning l) i p) ≡ Passed)
         ⊎ ((n : ℕ) × (q : ℕ) × (firstBroken (arrivalChecks sound (meaning l) i p) ≡ Refused n q))
         → arrivalGives (firstBroken (arrivalChecks sound (meaning l) i p)) l i p
-        ≡ arrivalLeaves (arrivalAnswer (firstBroken (arrivalChecks sound (meaning l) i p))) l
+        ≡ arrivalLeaves (arrivalAnswer (firstBroken (arrivalChecks sound (meaning l) i p)) 0) l
     go (inl e) = absurd (not-true-and-false (taken sound (meaning l) i p e .leaf) f)
     go (inr r) = rw (r .2)
 
@@ -219,7 +225,8 @@ arrival-sound l i p shape sound e =
     let u = taken-number (meaning l) i p (sound .state) e in
     let room : heldOf l i < 32 = rw (meaning-held l i u) at (t .room) in
     record {
-      state = rw (arrival-means l i p shape sound (t .leaf) room) (arrival-keeps (meaning l) i p u (table-length (queueOf l) 64) (sound .state) t);
+      state = rw (arrival-means l i p shape sound (t .leaf) room)
+          (arrival-keeps (meaning l) i p u (table-length (queueOf l) 64) (sound .state) t);
       starts = λ k v. record { start = sound .starts k v .start };
     }
 
@@ -254,12 +261,44 @@ accepted-sound l i p r x accepted = x .exactly .sound (go (x .sound) refl)
         (ap (λ (a : AfterArrival). a .answer .verdict) (x .answer ∙ ap (λ (b : Bool). arrivalOf b l i p) e
         ∙ arrival-refused false l i p (unsound-number (meaning l) i p))))
 
+-- ---- the bytes that it answers (R283)
+
+-- those that an accepted one answers are what the link after it counts at its leaf: one read
+pub bytes-read : (l : Link) (i : ℕ) (p : Packet) → length (l .totals .bytes) ≡ 64 → SoundLink l
+    → firstBroken (arrivalChecks true (meaning l) i p) ≡ Passed
+    → getD (putLast l i p .totals .bytes) i 0 ≡ bytesAfter (meaning l) i p
+bytes-read l i p long sound passes =
+    let t = taken true (meaning l) i p passes in
+    let u = taken-number (meaning l) i p (sound .state) passes in
+    let rules = sound .state .fits .tree in
+    let cost = costOf (p .length) in
+    let more = changed-up (l .tree) rules (changed false cost) i (l .totals .bytes) i u long in
+    let here : getD (putLast l i p .totals .bytes) i 0 ≡ getD (l .totals .bytes) i 0 + cost = rw (below-self (l .tree) rules i u) at more in
+    let before = sound .state .totals i u .bytes ∙ leaf-sum (l .tree) rules (λ j. bytesIn (queueAt (meaning l) j)) i (t .leaf) in
+    let inside : i < length (meaning l .queues) = omega (arith, u, table-length (queueOf l) 64) in
+    let after = ap bytesIn (queue-arrived (meaning l) i p inside) ∙ bytes-more (queueAt (meaning l) i) p in
+    omega (arith, here, before, after)
+
+-- an accepted one answers those of its leaf's queue then
+module _ (l : Link) (i : ℕ) (p : Packet) (r : AfterArrival) (x : Arrives l i p r) (accepted : r .answer .verdict ≡ Passed) where
+  on-sound : SoundLink l
+  on-sound = accepted-sound l i p r x accepted
+
+  passes : firstBroken (arrivalChecks true (meaning l) i p) ≡ Passed
+  passes =
+      sym (arrival-verdict true l i p)
+      ∙ ap (λ (a : AfterArrival). a .answer .verdict) (sym (arrives-as l i p r on-sound x))
+      ∙ accepted
+
+  pub answered-after : r .answer .bytes .0 ≡ bytesAfter (meaning l) i p
+  answered-after = ap (λ (a : AfterArrival). a .answer .bytes .0) (arrives-as l i p r on-sound x ∙ arrival-taken true l i p passes)
+
 -- on a record that is not sound every arrival gives 11 at 0, and the very record
 pub unsound-refused : (l : Link) (i : ℕ) (p : Packet) (r : AfterArrival) → (SoundLink l → ⊥) → Arrives l i p r
-    → r ≡ arrivalLeaves (arrivalAnswer (Refused 11 0)) l
+    → r ≡ arrivalLeaves (arrivalAnswer (Refused 11 0) 0) l
 unsound-refused l i p r not-sound x = x .answer ∙ go (x .sound) refl
   where
-    go : (b : Bool) → x .sound ≡ b → arrivalOf (x .sound) l i p ≡ arrivalLeaves (arrivalAnswer (Refused 11 0)) l
+    go : (b : Bool) → x .sound ≡ b → arrivalOf (x .sound) l i p ≡ arrivalLeaves (arrivalAnswer (Refused 11 0) 0) l
     go true e = absurd (not-sound (x .exactly .sound e))
     go false e = rw e (arrival-refused false l i p (unsound-number (meaning l) i p))
 

@@ -116,5 +116,6 @@ fresh-one-answer t a b x y =
     x .answer ∙ ap (λ (o : Bool). freshOf o t) (exactly-unique (x .exactly) (y .exactly)) ∙ sym (y .answer)
 
 -- so every arrival on it gives 11 at 0
-pub none-refuses : (i : ℕ) (p : Packet) (r : AfterArrival) → Arrives noLink i p r → r ≡ arrivalLeaves (arrivalAnswer (Refused 11 0)) noLink
+pub none-refuses : (i : ℕ) (p : Packet) (r : AfterArrival) → Arrives noLink i p r → r
+    ≡ arrivalLeaves (arrivalAnswer (Refused 11 0) 0) noLink
 none-refuses i p r = unsound-refused noLink i p r none-not-sound

@@ -11,7 +11,7 @@ use Rattle.checks.specs.Check.{Check, check, firstBroken, Exactly}
 use Rattle.tree.specs.Class.{longestOf, isLeaf}
 use Rattle.state.specs.declared.Link.{Link}
 use Rattle.state.specs.declared.Packet.{Packet}
-use Rattle.state.specs.Queue.{Shaped, putLast}
+use Rattle.state.specs.Queue.{Shaped, bytesIn, putLast}
 use Rattle.state.specs.State.{State, meaning, queueAt, withQueue}
 use Rattle.sound.specs.Sound.{SoundLink}
 use Rattle.calls.specs.declared.Arrival.{Arrival}
@@ -38,19 +38,23 @@ arrivalChecks sound s class p =
 abbrev pub arrived : State → ℕ → Packet → State
 arrived s class p = withQueue s class (queueAt s class ++ (p ∷ []))
 
--- the answer: the verdict
-abbrev pub arrivalAnswer : Verdict → Arrival
-arrivalAnswer verdict = record { verdict = verdict }
+-- the charged bytes that wait in that leaf then, the new packet included: demand 3's D (R201, R283)
+abbrev pub bytesAfter : State → ℕ → Packet → ℕ
+bytesAfter s class p = bytesIn (queueAt (arrived s class p) class)
+
+-- the answer: the verdict and those bytes (R283)
+abbrev pub arrivalAnswer : Verdict → ℕ → Arrival
+arrivalAnswer verdict bytes = record { verdict = verdict; bytes = record { 0 = bytes } }
 
 -- an answer and the link after it (R164)
 abbrev pub arrivalLeaves : Arrival → Link → AfterArrival
 arrivalLeaves answer link = record { answer = answer; link = link }
 
--- a refused arrival gives the very same record; an accepted one puts the packet last (R158, R162, R197; `putLast` means `arrived`:
--- proofs/Arrivals)
+-- a refused arrival gives the very same record, and 0 bytes; an accepted one puts the packet last (R158, R162, R163, R197, R283; `putLast`
+-- means `arrived`: proofs/Arrivals)
 abbrev pub arrivalGives : Verdict → Link → ℕ → Packet → AfterArrival
-arrivalGives Passed l class p = arrivalLeaves (arrivalAnswer Passed) (putLast l class p)
-arrivalGives (Refused n q) l class p = arrivalLeaves (arrivalAnswer (Refused n q)) l
+arrivalGives Passed l class p = arrivalLeaves (arrivalAnswer Passed (bytesAfter (meaning l) class p)) (putLast l class p)
+arrivalGives (Refused n q) l class p = arrivalLeaves (arrivalAnswer (Refused n q) 0) l
 
 unfoldable pub arrivalOf : Bool → Link → ℕ → Packet → AfterArrival
 arrivalOf sound l class p = arrivalGives (firstBroken (arrivalChecks sound (meaning l) class p)) l class p

@@ -11,9 +11,10 @@ pub struct AfterFresh {
     pub link: Link,
 }
 
-// What an arrival answers: its verdict.
+// What an arrival answers: its verdict, and the charged bytes that wait in its leaf then, the new packet included; 0 where it is refused.
 pub struct Arrival {
     pub verdict: Verdict,
+    pub bytes: Bytes,
 }
 
 // What an arrival gives: its answer and the link after it.

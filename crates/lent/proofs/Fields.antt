@@ -130,7 +130,8 @@ small-vals h rest = (
 abbrev field-types : Tys
 field-types =
     tcons (rawTy (type-at 0)) (tcons (rawTy (type-at 1)) (tcons (rawTy (type-at 2)) (tcons (rawTy (type-at 3)) (tcons (rawTy (type-at 4))
-    (tcons (rawTy (type-at 5)) (tcons (rawTy (type-at 6)) (tcons (rawTy (type-at 7)) (tcons (rawTy (type-at 8)) (tcons (rawTy (type-at 9)) tnil)))))))))
+    (tcons (rawTy (type-at 5))
+    (tcons (rawTy (type-at 6)) (tcons (rawTy (type-at 7)) (tcons (rawTy (type-at 8)) (tcons (rawTy (type-at 9)) tnil)))))))))
 
 abbrev values : Link → Vals
 values h =
@@ -181,7 +182,8 @@ module _ {M : Type 1} {𝓤 : URA M} {H : Heap 𝓤} {A : Atoms 𝓤} {K : Type 
       (W .laws .at-fields fullShare [] field-types b o (values h)) $
       split t $ split t $ move t (1 ∷ []) $ split t $ move t (1 ∷ []) $ split t $ move t (1 ∷ []) $ split t $ move t (1 ∷ []) $ split t $
       move t (1 ∷ []) $
-      split t $ move t (1 ∷ []) $ split t $ move t (1 ∷ []) $ split t $ move t (1 ∷ []) $ split t $ move t (1 ∷ []) $ split t $ move t (1 ∷ []) $ drop t $
+      split t $ move t (1 ∷ []) $ split t $ move t (1 ∷ []) $ split t $ move t (1 ∷ []) $ split t $ move t (1 ∷ []) $ split t $
+      move t (1 ∷ []) $ drop t $
       move t (9 ∷ 8 ∷ 7 ∷ 6 ∷ 5 ∷ 4 ∷ 3 ∷ 2 ∷ 1 ∷ 0 ∷ []) $ s)
 
   pub together : K → (m : Link) (b o : ℕ)
@@ -191,7 +193,8 @@ module _ {M : Type 1} {𝓤 : URA M} {H : Heap 𝓤} {A : Atoms 𝓤} {K : Type 
       ∷ ‵ (cell 6 1_584 b o (val-at 6 (m .held))) ∷ ‵ (cell 7 1_648 b o (val-at 7 (m .lengths))) ∷ ‵ (cell 8 5_744 b o (val-at 8 (m .tags)))
       ∷ ‵ (cell 9 13_936 b o (val-at 9 (m .totals))) ∷ raw (Way 𝓤 H b o) ∷ Γ) G
   together t m b o = step (λ s.
-      nothing t $ move t (10 ∷ 0 ∷ []) $ join t $ move t (9 ∷ 0 ∷ []) $ join t $ move t (8 ∷ 0 ∷ []) $ join t $ move t (7 ∷ 0 ∷ []) $ join t $ move t (6 ∷ 0 ∷ []) $
+      nothing t $ move t (10 ∷ 0 ∷ []) $ join t $ move t (9 ∷ 0 ∷ []) $ join t $ move t (8 ∷ 0 ∷ []) $ join t $
+      move t (7 ∷ 0 ∷ []) $ join t $ move t (6 ∷ 0 ∷ []) $
       join t $ move t (5 ∷ 0 ∷ []) $ join t $
       move t (4 ∷ 0 ∷ []) $ join t $ move t (3 ∷ 0 ∷ []) $ join t $ move t (2 ∷ 0 ∷ []) $ join t $ move t (1 ∷ 0 ∷ []) $ join t $
       use2 W (‵ (cellAt fullShare (L.the-row .mir) (lval m ∷ []) b o)) (way-back 𝓤 H b o (values m)) $ s)

@@ -34,7 +34,7 @@ unfoldable pub bytesOf : Line → List ℕ
 -- `link` (R167)
 bytesOf (Link classes size) = textOf (108 ∷ 105 ∷ 110 ∷ 107 ∷ []) (classes ∷ size ∷ [])
 -- `in` (R168)
-bytesOf (In class len tag) = textOf (105 ∷ 110 ∷ []) (class ∷ len ∷ tag ∷ [])
+bytesOf (In class len tag bytes) = textOf (105 ∷ 110 ∷ []) (class ∷ len ∷ tag ∷ bytes ∷ [])
 -- `no` (R169)
 bytesOf (No class len tag number) = textOf (110 ∷ 111 ∷ []) (class ∷ len ∷ tag ∷ number ∷ [])
 -- `out` (R170)

@@ -21,8 +21,8 @@ pub enum Why {
 pub enum Line {
     // classes, Q
     Link(u64, u64),
-    // class, length, tag
-    In(u64, u64, u64),
+    // class, length, tag, the charged bytes then in its queue
+    In(u64, u64, u64, u64),
     // class, length, tag, number: a refused arrival
     No(u64, u64, u64, u64),
     // class, length, tag, rounds
@@ -114,13 +114,13 @@ fn put_last_four(a: u64, b: u64, c: u64, d: u64, at: usize, out: &mut [u8]) -> u
 
 // Lays the line of an accepted arrival from a place on where the longest line has room, and answers the place after it. A run lays the
 // lines of most of its events so, and by `lay_out`: a `Line` made for `lay_at` would cost two stores and loads for each number.
-pub fn lay_in(class: u64, len: u64, tag: u64, at: usize, out: &mut [u8]) -> usize
+pub fn lay_in(class: u64, len: u64, tag: u64, bytes: u64, at: usize, out: &mut [u8]) -> usize
     requires { ⌜ at + lineRoom ≤ length (now out) ⌝ }
-    ensures { λ r. ⌜ LaidAt at (bytesOf (In class len tag)) (now (out .entry)) r (now (out .exit)) ⌝ }
+    ensures { λ r. ⌜ LaidAt at (bytesOf (In class len tag bytes)) (now (out .entry)) r (now (out .exit)) ⌝ }
     ensures { λ r. ⌜ r ≤ at + lineRoom ⌝ }
 {
     let next = digits::put(b"in", at, out);
-    put_last_three(class, len, tag, next, out)
+    put_last_four(class, len, tag, bytes, next, out)
 }
 
 // Lays the line of a packet that was sent.
@@ -187,7 +187,7 @@ pub fn lay_at(line: Line, at: usize, out: &mut [u8]) -> usize
 {
     match line {
         Line::Link(classes, size) => lay_two(b"link", classes, size, at, out),
-        Line::In(class, len, tag) => lay_in(class, len, tag, at, out),
+        Line::In(class, len, tag, bytes) => lay_in(class, len, tag, bytes, at, out),
         Line::No(class, len, tag, number) => lay_four(b"no", class, len, tag, number, at, out),
         Line::Out(class, len, tag, rounds) => lay_out(class, len, tag, rounds, at, out),
         Line::Nothing => digits::put(b"none\n", at, out),

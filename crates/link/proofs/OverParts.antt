@@ -46,7 +46,8 @@ sends-whole l r shape x = sends-by l (x .sound) (sendLeaves (r .answer) (changed
 pub send-parts-one-answer : (l : Link) (r s : Changed) → SendsIn l r → SendsIn l s → r ≡ s
 send-parts-one-answer l r s x y =
     ap
-    (λ (a : AfterSend). changedTo (a .answer) (a .link .active) (a .link .place) (a .link .accounts) (a .link .start) (a .link .held) (a .link .size)
+    (λ (a : AfterSend). changedTo (a .answer) (a .link .active) (a .link .place) (a .link .accounts) (a .link .start)
+    (a .link .held) (a .link .size)
     (a .link .totals))
     (x .gives ∙ ap (λ (b : Bool). sendOf b l) (exactly-unique (x .exactly) (y .exactly)) ∙ sym (y .gives))
 

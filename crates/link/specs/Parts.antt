@@ -49,7 +49,8 @@ goesBy m =
 -- the link with the parts that a send may change
 abbrev pub changedLink : Link → Changed → Link
 changedLink l r =
-    withTotals (queued (linkInRound l (r .size .0) (r .active) (r .place) (r .accounts)) (r .start) (r .held) (l .lengths) (l .tags)) (r .totals)
+    withTotals (queued (linkInRound l (r .size .0) (r .active) (r .place) (r .accounts)) (r .start) (r .held) (l .lengths)
+    (l .tags)) (r .totals)
 
 -- a send over the parts of a link
 pub record SendsIn (l : Link) (r : Changed) : Type 0 where

@@ -29,7 +29,8 @@ use steps::Moved;
 use tree::Tree;
 use units::Bytes;
 
-// An arrival over the parts of a link: the packets held and the totals after it, and its answer. The answer stands last, here and below: the
+// An arrival over the parts of a link: the packets held and the totals after it, and its answer. The answer stands last, here and
+// below: the
 // walks of the lent entries count bytes, and no other place moves when it gets a field.
 pub struct Placed {
     pub held: [u8; Link::CLASSES],
@@ -78,7 +79,8 @@ pub fn arrive_in<'a>(
     class: usize,
     packet: Packet,
 ) -> Placed
-    ensures { λ r. ⌜ ArrivesIn (linkOf tree size active place accounts start held (now (lengths .entry)) (now (tags .entry)) totals) class packet
+    ensures { λ r. ⌜ ArrivesIn
+        (linkOf tree size active place accounts start held (now (lengths .entry)) (now (tags .entry)) totals) class packet
         (r .answer) (linkOf tree size active place accounts start (r .held) (now (lengths .exit)) (now (tags .exit)) (r .totals)) ⌝ }
 {
     let sound = sound::is_sound_of(

@@ -121,6 +121,7 @@ fn arrive(before: Link, command: &[u8]) -> Link {
     let verdict = answer.verdict;
     let after = got.link;
     print_verdict(b"in ", verdict);
+    number(b" bytes ", answer.bytes.0);
     number(b" held ", held(after, class));
     compared(before, after)
 }

@@ -12,7 +12,7 @@ use Rattle.rules.specs.Sizes.{ifActive, activeWeights, activeLongest, activeSiz
 use Rattle.plan.specs.Kind.{recordKind}
 use Rattle.plan.specs.Record.{kindAt, missing, unknown, cut, bodyOf, ruleOf, lateRule, badRule, classAt}
 use Rattle.plan.specs.Reader.{recordChecks, ruleFirst, after, followsOf, treeOf, passes, inRow, passedOver, decidingChecks, planOf}
-use Rattle.state.specs.Queue.{queueOf}
+use Rattle.state.specs.Queue.{bytesIn, queueOf}
 use Rattle.tree.specs.Below.{wayUp, changedUp, climbs, atOrBelow}
 use Rattle.rules.specs.Active.{waits, someWaits, someBelow, setOf, upward, roundActive, activeChild, activeWeight, weightSum}
 use Rattle.rules.specs.Opening.{surplusAt, hasSurplus, kindOf, quotaIn, quota, due, handsDown, openedLeaf, openedInner, openedAccount}
@@ -33,7 +33,8 @@ unfolding markedCases found expected readOf accountsOf openingOf classesIn calls
     tooMany badParent badWeight badLongest tooHeavy childless noClass
     recordKind kindAt missing unknown cut bodyOf ruleOf lateRule badRule classAt recordChecks ruleFirst after followsOf treeOf passes
     inRow passedOver decidingChecks planOf
-    table queueOf wayUp changedUp climbs atOrBelow waits someWaits someBelow setOf upward roundActive activeChild activeWeight weightSum
+    table queueOf bytesIn wayUp changedUp climbs atOrBelow waits someWaits someBelow setOf upward roundActive
+    activeChild activeWeight weightSum
     surplusAt hasSurplus kindOf quotaIn quota due handsDown openedLeaf openedInner openedAccount openedAccounts nextKind nextSize
     ifActive activeWeights activeLongest activeSize mainSize resizedAccounts openedWith
     ready firstFrom nextLeaf givenUp turnsOff paid booksAfter sentState turnOf sends traceOf

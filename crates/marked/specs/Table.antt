@@ -2,7 +2,7 @@
 -- inactive, a surplus round that sends, the listing under each rule of the round size (R222). The input, the calls, and what each of them
 -- is to give. Demands 1 and 2.
 use mathlib.Core.List.{List, [], _∷_, _++_}
-use Prim.Native.Nat.{ℕ}
+use Prim.Native.Nat.{ℕ, suc, _*_}
 use lib.ListN.{replicate}
 use Rattle.checks.specs.declared.Verdict.the-variants.{Passed, Refused}
 use Rattle.tree.specs.Sum.{table}
@@ -24,7 +24,8 @@ arrival class length tag = call (arrives class (record { length = length; tag = 
 abbrev send : Ask
 send = call sends
 
--- answers by short names: a plan's classes, Q and bytes used, or its refusal; a packet taken or refused; a packet out with its rounds, or
+-- answers by short names: a plan's classes, Q and bytes used, or its refusal; a packet taken with the bytes then in its queue, or
+-- refused; a packet out with its rounds, or
 -- none
 abbrev accepted : ℕ → ℕ → ℕ → Read
 accepted classes size used = record { verdict = Passed; used = used; classes = classes; size = size }
@@ -32,11 +33,11 @@ accepted classes size used = record { verdict = Passed; used = used; classes = c
 abbrev stop : ℕ → ℕ → Read
 stop number place = record { verdict = Refused number place; used = 0; classes = 0; size = 0 }
 
-abbrev taken : Arrival
-taken = record { verdict = Passed }
+abbrev taken : ℕ → Arrival
+taken bytes = record { verdict = Passed; bytes = record { 0 = bytes } }
 
 abbrev refused : ℕ → ℕ → Arrival
-refused number place = record { verdict = Refused number place }
+refused number place = record { verdict = Refused number place; bytes = record { 0 = 0 } }
 
 abbrev out : ℕ → ℕ → ℕ → ℕ → Departure
 out class length tag rounds = record { verdict = Passed; class = class; length = length; tag = tag; rounds = rounds }
@@ -71,7 +72,7 @@ m1 = record { input = treeWith 3; read = accepted 4 262 31; exchanges = [] }
 
 -- The listing: four arrivals, five sends, and no packet left.
 abbrev arrivals : List Exchange
-arrivals = arrival 2 2 1 ⟶ taken ∷ arrival 3 10 2 ⟶ taken ∷ arrival 3 10 3 ⟶ taken ∷ arrival 4 10 4 ⟶ taken ∷ []
+arrivals = arrival 2 2 1 ⟶ taken 84 ∷ arrival 3 10 2 ⟶ taken 84 ∷ arrival 3 10 3 ⟶ taken 168 ∷ arrival 4 10 4 ⟶ taken 84 ∷ []
 
 abbrev firstSend : List Exchange
 firstSend = send ⟶ out 4 10 4 1 ∷ []
@@ -138,7 +139,7 @@ secondOpening = record {
 
 abbrev m7 : Entry
 m7 = m1 then arrivals then firstSend then
-    (arrival 2 1 5 ⟶ taken ∷ look show ⟶ afterFirst ∷ look (opening 0) ⟶ (secondOpening ∷ []) ∷ [])
+    (arrival 2 1 5 ⟶ taken 168 ∷ look show ⟶ afterFirst ∷ look (opening 0) ⟶ (secondOpening ∷ []) ∷ [])
     then twoMore then fourthSend
 
 -- Two rounds in a send: M7's run one send longer gives tag 5. Its surplus round sends nothing: class 1 quota 6, class 2 B 9; the main
@@ -177,7 +178,7 @@ rejoins = record {
 
 abbrev nextRound : Entry
 nextRound = m1 then arrivals then firstSend then
-    (arrival 4 10 5 ⟶ taken
+    (arrival 4 10 5 ⟶ taken 84
     ∷ look show ⟶ afterFirst
     ∷ look (opening 0) ⟶ (rejoins ∷ [])
     ∷ send ⟶ out 3 10 2 1
@@ -196,9 +197,9 @@ surplusSends = record {
 
 abbrev surplusRound : Entry
 surplusRound = m1 then
-    (arrival 2 10 1 ⟶ taken
-    ∷ arrival 3 10 2 ⟶ taken
-    ∷ arrival 2 10 3 ⟶ taken
+    (arrival 2 10 1 ⟶ taken 84
+    ∷ arrival 3 10 2 ⟶ taken 84
+    ∷ arrival 2 10 3 ⟶ taken 168
     ∷ send ⟶ out 2 10 1 1
     ∷ send ⟶ out 3 10 2 0
     ∷ look (opening 0) ⟶ (surplusSends ∷ [])
@@ -222,16 +223,16 @@ abbrev m11 : Entry
 m11 = m1 then
     (arrival 4 0 1 ⟶ refused 13 4
     ∷ arrival 4 11 2 ⟶ refused 13 4
-    ∷ arrival 4 10 3 ⟶ taken
+    ∷ arrival 4 10 3 ⟶ taken 84
     ∷ arrival 1 10 4 ⟶ refused 12 1
     ∷ [])
 
 -- M12 the 33rd packet in class 4: 14; after one has left, taken. The first 32 have the tags 0 to 31, and nothing waits in another class.
 abbrev m12 : Entry
-m12 = m1 then table (λ tag. arrival 4 10 tag ⟶ taken) 32 then
+m12 = m1 then table (λ tag. arrival 4 10 tag ⟶ taken (84 * suc tag)) 32 then
     (arrival 4 10 32 ⟶ refused 14 4
     ∷ send ⟶ out 4 10 0 1
-    ∷ arrival 4 10 33 ⟶ taken
+    ∷ arrival 4 10 33 ⟶ taken 2_688
     ∷ [])
 
 -- Rule 1 written out, tree P with the record 3 1 before it: the listing, with 33 bytes used.

@@ -11,7 +11,7 @@ ghost use Rattle.state.specs.declared.Link.{Link};
 ghost use Rattle.state.specs.Queue.{Shaped};
 ghost use Rattle.state.specs.WayUp.{Climbs};
 ghost use Rattle.sound.specs.Sound.{SoundLink};
-ghost use Rattle.steps.specs.Arrivals.{lentWaiting};
+ghost use Rattle.steps.specs.Arrivals.{lentWaiting, TakesOn};
 ghost use Rattle.steps.specs.Parts.{lentLink, lentTree};
 ghost use Rattle.steps.specs.Rounds.{Kept};
 ghost use Rattle.parts.specs.Steps.{LaysLine, wentSays, Taken, ArrivesAs, DepartsAs, Happens};
@@ -55,7 +55,10 @@ fn arrives(
     out: &mut [u8],
 ) -> usize
     requires { ⌜ (sound ≡ true → Climbs (now parent) (now packets) (now bytes)) × (at + lineRoom ≤ length (now out)) ⌝ }
-    ensures { λ r. ⌜ ((l : Link) → l .tree .leaves ≡ leaves → l .tree .parent ≡ now (parent .entry) → l .tree .longest ≡ now (longest .entry)
+    ensures { λ r. ⌜ ((l : Link) → l .tree .leaves ≡ leaves → l .tree .parent ≡ now (parent .entry) → l .tree .longest
+        ≡ now (longest .entry)
+        → (sound ≡ true → TakesOn (lentWaiting l (now (start .entry)) (now (held .entry)) (now (lengths .entry)) (now (tags .entry))
+        (now (packets .entry)) (now (bytes .entry))))
         → ArrivesAs sound (lentWaiting l (now (start .entry)) (now (held .entry)) (now (lengths .entry)) (now (tags .entry))
         (now (packets .entry)) (now (bytes .entry))) a at (now (out .entry)) r (now (out .exit))
         (lentWaiting l (now (start .entry)) (now (held .exit)) (now (lengths .exit)) (now (tags .exit))
@@ -80,7 +83,14 @@ fn arrives(
     );
     let verdict = answer.verdict;
     if let Verdict::Passed = verdict {
-        return lines::lay_in(a.class as u64, len as u64, tag as u64, at, out);
+        return lines::lay_in(
+            a.class as u64,
+            len as u64,
+            tag as u64,
+            answer.bytes.0,
+            at,
+            out,
+        );
     }
     let line = run::arrival_line(answer, a);
     lines::lay_at(line, at, out)

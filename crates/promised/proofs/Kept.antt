@@ -18,7 +18,7 @@ use Rattle.tree.specs.Class.{weightOf, longestOf, isLeaf}
 use Rattle.tree.specs.Rules.{PlanRules}
 use Rattle.state.specs.declared.Link.{Link}
 use Rattle.state.specs.declared.Packet.{Packet}
-use Rattle.state.specs.Queue.{heldOf, queueOf, noPacket, bytesIn}
+use Rattle.state.specs.Queue.{heldOf, noPacket, bytesIn}
 use Rattle.state.specs.State.{State, meaning, queueAt}
 use Rattle.state.proofs.Bytes.{bytes-most}
 use Rattle.state.proofs.Meaning.{meaning-queue}
@@ -28,7 +28,7 @@ use Rattle.calls.specs.Arrival.{Arrives}
 use Rattle.calls.specs.Run.{Made, Run}
 use Rattle.calls.proofs.Arrivals.{taken}
 use Rattle.wait.specs.Wait.{followed}
-use Rattle.wait.proofs.BoundedWait.{sound, passes, low, means, bounded-wait}
+use Rattle.wait.proofs.BoundedWait.{sound, passes, low, means, answered-bytes, bounded-wait}
 use Rattle.promised.specs.declared.Promised.{Promised}
 use Rattle.promised.specs.Promise.{mostHeld, waitChecks, promisedBy, Promises}
 
@@ -71,23 +71,24 @@ held-most s i sound u leaf =
 
 -- an arrival of packet p to class i with the answer a, that is accepted
 module _ (l : Link) (i : ℕ) (p : Packet) (a : AfterArrival) (arrives : Arrives l i p a) (accepted : a .answer .verdict ≡ Passed) where
-  leaf : isLeaf (l .tree) i ≡ true
+  pub leaf : isLeaf (l .tree) i ≡ true
   leaf = taken true (meaning l) i p (passes l i p a arrives accepted) .leaf
 
-  -- its class's queue holds what its places can hold
-  fits : bytesIn (queueOf (a .link) i) ≤ mostHeld (l .tree) i
+  -- the bytes that it answered are what its places can hold
+  pub fits : a .answer .bytes .0 ≤ mostHeld (l .tree) i
   fits =
       let m = means l i p a arrives accepted in
       let u = low l i p a arrives accepted in
       let after = arrives .keeps (sound l i p a arrives accepted) .state in
       let same : meaning (a .link) .tree ≡ l .tree = ap (λ (s : State). s .tree) m in
-      rw (← meaning-queue (a .link) i u, ← same) (held-most (meaning (a .link)) i after u (rw same leaf))
+      rw (answered-bytes l i p a arrives accepted, ← meaning-queue (a .link) i u, ← same)
+      (held-most (meaning (a .link)) i after u (rw same leaf))
 
   -- what is promised of its wait is not refused, and the whole link sends no more bytes until it has gone, in whatever order later arrivals
   -- and sends come (R241)
-  pub promise-kept : (r : Promised) → Promises (l .tree) i (bytesIn (queueOf (a .link) i)) r → (run : List Made) → Run (a .link) run
+  pub promise-kept : (r : Promised) → Promises (l .tree) i (a .answer .bytes .0) r → (run : List Made) → Run (a .link) run
       → (r .verdict ≡ Passed) × (followed i (heldOf l i) run .sent ≤ r .bytes .0)
   promise-kept r x run is =
       let rules = sound l i p a arrives accepted .state .fits .tree in
-      let e = promise-passes (l .tree) i (bytesIn (queueOf (a .link) i)) r rules leaf fits x in
+      let e = promise-passes (l .tree) i (a .answer .bytes .0) r rules leaf fits x in
       rw e (refl, bounded-wait l i p a arrives accepted run is)

@@ -20,17 +20,17 @@ use Rattle.lines.specs.declared.Line.{Line}
 use Rattle.lines.specs.declared.Line.the-variants.{In, No, Out, Nothing, End, Stop}
 use Rattle.run.specs.declared.Step.{Step}
 
--- `in` class length tag; `no` class length tag number, for a refused arrival (R17, R189, R190)
-abbrev pub arrivalSays : Verdict → ℕ → Packet → Line
-arrivalSays Passed class p = In class (p .length) (p .tag)
-arrivalSays (Refused n q) class p = No class (p .length) (p .tag) n
+-- `in` class length tag bytes, those that the arrival answers; `no` class length tag number, for a refused one (R17, R189, R190)
+abbrev pub arrivalSays : Verdict → ℕ → Packet → ℕ → Line
+arrivalSays Passed class p bytes = In class (p .length) (p .tag) bytes
+arrivalSays (Refused n q) class p bytes = No class (p .length) (p .tag) n
 
 -- the packet of an arrival (R17, R189, R190)
 abbrev pub packetIn : Arrived → Packet
 packetIn a = record { length = a .length; tag = a .tag }
 
 abbrev pub arrivalLine : Arrival → Arrived → Line
-arrivalLine answer a = arrivalSays (answer .verdict) (a .class) (packetIn a)
+arrivalLine answer a = arrivalSays (answer .verdict) (a .class) (packetIn a) (answer .bytes .0)
 
 -- `out` class length tag rounds; `none` for refusal 15, the only one of a send on a run's link (R17, R191, R192)
 abbrev pub sendSays : Verdict → Departure → Line
@@ -42,7 +42,7 @@ sendLine d = sendSays (d .verdict) d
 
 -- the line of a call that was made
 abbrev pub callLine : Made → Line
-callLine (made (arrival class p) answer after) = arrivalSays (answer .verdict) class p
+callLine (made (arrival class p) answer after) = arrivalSays (answer .verdict) class p (answer .bytes .0)
 callLine (made send answer after) = sendLine answer
 
 -- the last line, of an event that is no call: `end` with the packets still waiting where the input ends, `stop` number place for a refused

@@ -35,7 +35,7 @@ pub fn arrival_line(answer: Arrival, a: Arrived) -> Line
     let tag = a.tag as u64;
     let verdict = answer.verdict;
     match verdict {
-        Verdict::Passed => Line::In(class, length, tag),
+        Verdict::Passed => Line::In(class, length, tag, answer.bytes.0),
         Verdict::Refused(n, _) => Line::No(class, length, tag, n as u64),
     }
 }

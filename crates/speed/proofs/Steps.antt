@@ -52,15 +52,19 @@ pub record Opened (l₀ : Link) (n : ℕ) (l : Link) : Type 0 where
 -- its accounts taken apart
 pub opened-apart : (l : Link) → SoundLink l → length (l .accounts) ≡ 64 → (b r : List ℕ) → b ≡ table (balanceOf (l .accounts)) 64
     → r ≡ table (residualOf (l .accounts)) 64
-    → Opened l 0 (lentLink (l .tree) (l .size) (l .active) (l .place) b r (l .start) (l .held) (l .lengths) (l .tags) (l .totals .packets) (l .totals .bytes))
+    → Opened l 0 (lentLink (l .tree) (l .size) (l .active) (l .place) b r (l .start) (l .held) (l .lengths) (l .tags)
+    (l .totals .packets) (l .totals .bytes))
 unfolding openedTimes
 opened-apart l sound many b r x y =
-    let same = ap (λ (xs : List Account). linkOf (l .tree) (l .size) (l .active) (l .place) xs (l .start) (l .held) (l .lengths) (l .tags) (l .totals))
+    let same = ap (λ (xs : List Account). linkOf (l .tree) (l .size) (l .active) (l .place) xs (l .start) (l .held) (l .lengths)
+    (l .tags) (l .totals))
     (in-lists (l .accounts) many b r x y) in
     record { sound = subst SoundLink (sym same) sound; many = ap (λ (k : Link). length (k .accounts)) same ∙ many; same = same }
 
-pub opened-parts : (l₀ : Link) (b r : List ℕ) {n : ℕ} {t : Tree} {size : Bytes} {active place : ℕ} {start held lengths tags packets bytes : List ℕ}
-    → Opened l₀ n (lentLink t size active place b r start held lengths tags packets bytes) → InParts t size active place b r start held lengths tags packets bytes
+pub opened-parts : (l₀ : Link) (b r : List ℕ) {n : ℕ} {t : Tree} {size : Bytes} {active place : ℕ}
+    {start held lengths tags packets bytes : List ℕ}
+    → Opened l₀ n (lentLink t size active place b r start held lengths tags packets bytes)
+    → InParts t size active place b r start held lengths tags packets bytes
 opened-parts l₀ b r o = record { sound = o .sound; wide = o .many }
 
 -- under rule 1 a round may open at any moment, and the size stays
@@ -69,8 +73,10 @@ opened-covers l sound many rule = rule-1-covers (meaning l) (sound .state) (mean
 
 pub same-size : {t : Tree} {size new : Bytes} {active place on : ℕ} {start held lengths tags packets bytes : List ℕ} (b r b′ r′ : List ℕ)
     → InParts t size active place b r start held lengths tags packets bytes → t .follows ≡ false
-    → lentLink t new on 1 b′ r′ start held lengths tags packets bytes ≡ openedLink (lentLink t size active place b r start held lengths tags packets bytes)
-    → lentLink t size on 1 b′ r′ start held lengths tags packets bytes ≡ openedLink (lentLink t size active place b r start held lengths tags packets bytes)
+    → lentLink t new on 1 b′ r′ start held lengths tags packets bytes
+    ≡ openedLink (lentLink t size active place b r start held lengths tags packets bytes)
+    → lentLink t size on 1 b′ r′ start held lengths tags packets bytes
+    ≡ openedLink (lentLink t size active place b r start held lengths tags packets bytes)
 unfolding openedWith
 same-size {t} {size} {new} {active} {place} {on} {start} {held} {lengths} {tags} {packets} {bytes} b r b′ r′ s rule e =
     let l = lentLink t size active place b r start held lengths tags packets bytes in

@@ -40,7 +40,8 @@ fn open_next(
     ensures { λ r. ⌜ ((k : Rest)
         → InParts tree size (k .active) (k .place) (now (balance .entry)) (now (residual .entry)) (k .start) (now (held .entry))
         (k .lengths) (k .tags) (k .packets) (k .bytes)
-        → lentLink tree size r 1 (now (balance .exit)) (now (residual .exit)) (k .start) (now (held .entry)) (k .lengths) (k .tags) (k .packets) (k .bytes)
+        → lentLink tree size r 1 (now (balance .exit)) (now (residual .exit)) (k .start) (now (held .entry)) (k .lengths) (k .tags)
+        (k .packets) (k .bytes)
         ≡ openedLink (lentLink tree size (k .active) (k .place) (now (balance .entry)) (now (residual .entry)) (k .start)
         (now (held .entry)) (k .lengths) (k .tags) (k .packets) (k .bytes))) ⌝ }
 {

@@ -59,7 +59,8 @@ pub record Counts (l : Link) (i : ℕ) : Type 0 where
 
 -- the link's queues and totals changed, its meaning is with those queues
 with-queues : (l l′ : Link) (queues : List (List Packet)) → linkInRound l′ (l .size .0) (l .active) (l .place) (l .accounts) ≡ l′
-    → l′ .tree ≡ l .tree → table (queueOf l′) 64 ≡ queues → l′ .totals ≡ totalsOf (l .tree) queues → meaning l′ ≡ withQueues (meaning l) queues
+    → l′ .tree ≡ l .tree → table (queueOf l′) 64 ≡ queues → l′ .totals ≡ totalsOf (l .tree) queues → meaning l′
+    ≡ withQueues (meaning l) queues
 with-queues l l′ queues same tree waits totals = λ k. record {
   tree = tree k;
   size = sym same k .size .0;

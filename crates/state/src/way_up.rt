@@ -1,4 +1,5 @@
-// The totals of a link in lent number arrays: one packet counted more or less, at a class and at every class above it. Named for specs/WayUp.
+// The totals of a link in lent number arrays: one packet counted more or less, at a class and at every class above it. Named for
+// specs/WayUp.
 // Serves demand 2.
 ghost use mathlib.Core.Path.{_≡_};
 ghost use Prim.Native.Nat.{_+_, _^_, _<_};

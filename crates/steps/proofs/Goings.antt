@@ -75,7 +75,8 @@ module _
 
       module _ {start′ held′ packets′ bytes′ : List ℕ}
           (q : (l : Link) → queued l start′ held′ lengths tags ≡ liftedFirst (queued l start held lengths tags) i)
-          (n : (u : Tree) → u .parent ≡ parent → lentTotals packets′ bytes′ ≡ recounted true u i (costOf (p .length)) (lentTotals packets bytes)) where
+          (n : (u : Tree) → u .parent ≡ parent → lentTotals packets′ bytes′
+          ≡ recounted true u i (costOf (p .length)) (lentTotals packets bytes)) where
         fewer : lentTotals packets′ bytes′ ≡ recounted true t i (costOf (packetAt whole i 0 .length)) (lentTotals packets bytes)
         fewer =
             n t (s .parents)

@@ -69,7 +69,8 @@ module _
       ≡ openedLink (lentLink t size active place balance residual start held lengths tags packets bytes)
   unfolding openedWith nextKind nextSize resizedAccounts
   parts-opened on new b r is o =
-      ap₂ (λ (n : ℕ) (xs : List Account). linkOf t (record { 0 = n }) on 1 xs start held lengths tags (lentTotals packets bytes)) (o .size-is) (o .accounts-are)
+      ap₂ (λ (n : ℕ) (xs : List Account). linkOf t (record { 0 = n }) on 1 xs start held lengths tags (lentTotals packets bytes))
+      (o .size-is) (o .accounts-are)
       ∙ rw is refl
 
   -- which is a sound link in parts
@@ -93,7 +94,8 @@ pub record UnderWay (l₀ : Link) (t : Tree) (size : Bytes) (k : Unseen) (active
   pub on : ℕ
   pub place : ℕ
   pub way : OnTheWay l₀ 64 (lentLink t size on place balance residual start (k .held) lengths (k .tags) (k .packets) (k .bytes)) rounds
-  pub taken : active ≡ roundActive (meaning (lentLink t size on place balance residual start (k .held) lengths (k .tags) (k .packets) (k .bytes)))
+  pub taken : active ≡ roundActive
+      (meaning (lentLink t size on place balance residual start (k .held) lengths (k .tags) (k .packets) (k .bytes)))
 
 pub under-starts : (t : Tree) (size : Bytes) (k : Unseen) (active : ℕ) (balance residual start lengths : List ℕ)
     → Opens t size k active balance residual start lengths

@@ -68,8 +68,10 @@ module _
   apart : zipAccounts b r ≡ accounts
   apart = in-lists accounts many b r x y
 
-  whole-is : lentLink lent size active place b r start held lengths tags packets bytes ≡ linkOf t size active place accounts start held lengths tags (lentTotals packets bytes)
-  whole-is = ap₂ (λ (x : Tree) (xs : List Account). linkOf x size active place xs start held lengths tags (lentTotals packets bytes)) same apart
+  whole-is : lentLink lent size active place b r start held lengths tags packets bytes
+      ≡ linkOf t size active place accounts start held lengths tags (lentTotals packets bytes)
+  whole-is = ap₂ (λ (x : Tree) (xs : List Account). linkOf x size active place xs start held lengths tags
+      (lentTotals packets bytes)) same apart
 
   pub values-parts : InParts lent size active place b r start held lengths tags packets bytes
   values-parts = record { sound = subst SoundLink (sym whole-is) sound; wide = ap length apart ∙ many }
@@ -79,7 +81,8 @@ module _
     pub values-wide : length (after .accounts) ≡ 64
     values-wide = departs-wide after (values-parts .wide) (values-parts .sound) d
 
-    pub values-moves : {xs : List Account} {s h : List ℕ} {n : Totals} → after ≡ linkOf lent (w .size) (w .active) (w .place) xs s h lengths tags n
+    pub values-moves : {xs : List Account} {s h : List ℕ} {n : Totals} → after
+        ≡ linkOf lent (w .size) (w .active) (w .place) xs s h lengths tags n
         → Moves (linkOf t size active place accounts start held lengths tags (lentTotals packets bytes))
         (record {
           some = w .some;

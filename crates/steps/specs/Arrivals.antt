@@ -11,6 +11,7 @@ use Rattle.tree.specs.Class.{longestOf, isLeaf}
 use Rattle.state.specs.declared.Link.{Link}
 use Rattle.state.specs.declared.Packet.{Packet}
 use Rattle.state.specs.Queue.{queued, withTotals}
+use Rattle.sound.specs.Sound.{SoundLink}
 use Rattle.state.specs.State.{State, queueAt}
 use Rattle.calls.specs.declared.Arrival.{Arrival}
 use Rattle.steps.specs.Parts.{lentTotals}
@@ -25,6 +26,11 @@ pub record JudgesLeaf (class n longest held : ℕ) (r : Verdict) : Type 0 where
 -- the link with these queues and totals
 abbrev pub lentWaiting : Link → List ℕ → List ℕ → List ℕ → List ℕ → List ℕ → List ℕ → Link
 lentWaiting l start held lengths tags packets bytes = withTotals (queued l start held lengths tags) (lentTotals packets bytes)
+
+-- a link that an arrival may be taken on: it is sound, and each class number has a total
+pub record TakesOn (l : Link) : Type 0 where
+  pub sound : SoundLink l
+  pub wide : length (l .totals .bytes) ≡ 64
 
 -- an arrival on a link of which it is told whether it is sound: the answer and the link after it are those of the call
 abbrev pub ArrivesOn : Bool → Link → ℕ → Packet → Arrival → Link → Type 0

@@ -23,12 +23,14 @@ use Rattle.steps.specs.declared.Moved.{Moved}
 use Rattle.steps.specs.Parts.{lentLink}
 
 -- a sound link in parts
-pub record InParts (t : Tree) (size : Bytes) (active place : ℕ) (balance residual start held lengths tags packets bytes : List ℕ) : Type 0 where
+pub record InParts (t : Tree) (size : Bytes) (active place : ℕ)
+    (balance residual start held lengths tags packets bytes : List ℕ) : Type 0 where
   pub sound : SoundLink (lentLink t size active place balance residual start held lengths tags packets bytes)
   pub wide : length (zipAccounts balance residual) ≡ 64
 
 -- one in which a packet waits
-pub record Going (t : Tree) (size : Bytes) (active place : ℕ) (balance residual start held lengths tags packets bytes : List ℕ) : Type 0 where
+pub record Going (t : Tree) (size : Bytes) (active place : ℕ)
+    (balance residual start held lengths tags packets bytes : List ℕ) : Type 0 where
   pub parts : InParts t size active place balance residual start held lengths tags packets bytes
   pub some : someWaits (meaning (lentLink t size active place balance residual start held lengths tags packets bytes)) ≡ true
 
@@ -47,7 +49,8 @@ closedLink t size k balance residual start lengths =
     lentLink t size (k .active) (k .place) balance residual start (k .held) lengths (k .tags) (k .packets) (k .bytes)
 
 abbrev pub openLink : Tree → Bytes → Unseen → ℕ → List ℕ → List ℕ → List ℕ → List ℕ → Link
-openLink t size k active balance residual start lengths = lentLink t size active 1 balance residual start (k .held) lengths (k .tags) (k .packets) (k .bytes)
+openLink t size k active balance residual start lengths =
+    lentLink t size active 1 balance residual start (k .held) lengths (k .tags) (k .packets) (k .bytes)
 
 -- its round has closed, and a packet waits
 pub record Closed (t : Tree) (size : Bytes) (k : Unseen) (balance residual start lengths : List ℕ) : Type 0 where
@@ -87,7 +90,8 @@ pub record Departs (l : Link) (r : Went) (after : Link) : Type 0 where
 -- and by value
 abbrev pub movedLink : Link → Moved → Link
 movedLink l r =
-    withTotals (queued (linkInRound l (r .size .0) (r .active) (r .place) (r .accounts)) (r .start) (r .held) (l .lengths) (l .tags)) (r .totals)
+    withTotals (queued (linkInRound l (r .size .0) (r .active) (r .place) (r .accounts)) (r .start) (r .held) (l .lengths)
+    (l .tags)) (r .totals)
 
 pub record Moves (l : Link) (r : Moved) : Type 0 where
   pub some : r .some ≡ someWaits (meaning l)

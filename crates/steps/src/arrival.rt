@@ -6,13 +6,15 @@ ghost use mathlib.Core.Path.{_≡_};
 ghost use lib.Dec.{ltb};
 ghost use Rattle.state.specs.declared.Link.{Link};
 ghost use Rattle.state.specs.WayUp.{Climbs};
-ghost use Rattle.steps.specs.Arrivals.{JudgesLeaf, ArrivesOn, lentWaiting};
+ghost use Rattle.calls.specs.Arrival.{arrivalAnswer};
+ghost use Rattle.steps.specs.Arrivals.{JudgesLeaf, ArrivesOn, TakesOn, lentWaiting};
 use calls::Arrival;
 use checks::Verdict;
 use state::Link;
 use state::Packet;
 use state::queue;
 use state::way_up::recount;
+use units::Bytes;
 
 // Is the length out of range, 0 or above the longest? 13 reads bare lengths, and no charge.
 fn out_of_range(length: u16, longest: u16) -> bool
@@ -37,7 +39,15 @@ fn judge(class: usize, length: u16, longest: u16, held: u8) -> Verdict
     Verdict::Passed
 }
 
-// An arrival: any class number, any length and any tag. A refused one changes nothing.
+// What a refused arrival answers: 0 bytes.
+fn refused(verdict: Verdict) -> Arrival
+    ensures { λ r. ⌜ r ≡ arrivalAnswer verdict 0 ⌝ }
+{
+    let bytes = Bytes(0);
+    Arrival { verdict, bytes }
+}
+
+// An arrival: any class number, any length and any tag. A refused one changes nothing; an accepted one answers its leaf's total then.
 pub fn arrive(
     sound: bool,
     class: usize,
@@ -53,25 +63,31 @@ pub fn arrive(
     bytes: &mut [u64; 64],
 ) -> Arrival
     requires { ⌜ (sound ≡ true → Climbs (now parent) (now packets) (now bytes)) ⌝ }
-    ensures { λ r. ⌜ ((l : Link) → l .tree .leaves ≡ leaves → l .tree .parent ≡ now (parent .entry) → l .tree .longest ≡ now (longest .entry)
+    ensures { λ r. ⌜ ((l : Link) → l .tree .leaves ≡ leaves → l .tree .parent ≡ now (parent .entry) → l .tree .longest
+        ≡ now (longest .entry)
+        → (sound ≡ true → TakesOn (lentWaiting l (now (start .entry)) (now (held .entry)) (now (lengths .entry)) (now (tags .entry))
+        (now (packets .entry)) (now (bytes .entry))))
         → ArrivesOn sound (lentWaiting l (now (start .entry)) (now (held .entry)) (now (lengths .entry)) (now (tags .entry))
         (now (packets .entry)) (now (bytes .entry))) class packet
         r (lentWaiting l (now (start .entry)) (now (held .exit)) (now (lengths .exit)) (now (tags .exit))
         (now (packets .exit)) (now (bytes .exit)))) ⌝ }
 {
     if !sound {
-        let verdict = Verdict::Refused(checks::NOT_SOUND, 0);
-        return Arrival { verdict };
+        return refused(Verdict::Refused(checks::NOT_SOUND, 0));
     }
     let leaf = sets::holds(leaves, class);
     if !leaf {
-        let verdict = Verdict::Refused(checks::NO_LEAF, class);
-        return Arrival { verdict };
+        return refused(Verdict::Refused(checks::NO_LEAF, class));
     }
     let verdict = judge(class, packet.length, longest[class], held[class]);
     if let Verdict::Passed = verdict {
         queue::put(class, packet, start, held, lengths, tags);
         recount(false, class, packet.length, parent, packets, bytes);
+        let waiting = Bytes(bytes[class]);
+        return Arrival {
+            verdict,
+            bytes: waiting,
+        };
     }
-    Arrival { verdict }
+    refused(verdict)
 }

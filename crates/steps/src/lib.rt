@@ -105,7 +105,8 @@ fn next_sender(
         → Finds (lentLink (lentTree count leaves (now (parent .entry)) (now (weight .entry)) (now (longest .entry)) follows) size before from
         (now (balance .entry)) (now (residual .entry)) (now (start .entry)) (now (held .entry)) (now (lengths .entry)) tags packets bytes) r
         (λ after active place. lentLink (lentTree count leaves (now (parent .entry)) (now (weight .entry)) (now (longest .entry)) follows) after active
-        place (now (balance .exit)) (now (residual .exit)) (now (start .entry)) (now (held .entry)) (now (lengths .entry)) tags packets bytes)) ⌝ }
+        place (now (balance .exit)) (now (residual .exit)) (now (start .entry)) (now (held .entry))
+        (now (lengths .entry)) tags packets bytes)) ⌝ }
 {
     let i = next_leaf(sets::both(before, leaves), from, balance, start, lengths);
     if i < Link::CLASSES {

@@ -19,7 +19,8 @@ after-more P n i all own k l u = go (ℕ-discrete i k)
     go (yes e) = subst P e own
     go (no e) = all k (omega arith) u
 
--- the sums of m numbers, in a table whose entries have a value, hold what the classes above class k, of n classes, add to them; class i adds
+-- the sums of m numbers, in a table whose entries have a value, hold what the classes above class k, of n classes, add to them; class i
+-- adds
 -- f p i to number p
 pub record Added {A : Type 0} (none : A) (value : A → ℕ) (n m : ℕ) (f : ℕ → ℕ → ℕ) (sums : List A) (k : ℕ) : Type 0 where
   pub many : length sums ≡ m

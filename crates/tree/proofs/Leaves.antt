@@ -257,7 +257,8 @@ module _ (t : Tree) (rules : PlanRules t) where
     pub sums-local : (x : ℕ → ℕ) → ((i : ℕ) → i < 64 → x i ≡ leavesSum t f i) → (i : ℕ) → i < 64 → AddsBelow t f x i
     sums-local x same i u = record {
       leaf = λ e. same i u ∙ leaf-sum f i e;
-      other = λ e. same i u ∙ sums-add f i e ∙ sym (children-after x (leavesSum t f) i (λ j l v. same j (omega (arith, v, few-classes t rules))));
+      other = λ e. same i u ∙ sums-add f i e
+          ∙ sym (children-after x (leavesSum t f) i (λ j l v. same j (omega (arith, v, few-classes t rules))));
     }
 
     -- of a class whose children are right, and so of every class from m on

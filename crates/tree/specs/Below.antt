@@ -25,7 +25,8 @@ leafBelow t x i j = cond (isLeaf t j && atOrBelow t i j) (x j) 0
 unfoldable pub leavesSum : Tree → (ℕ → ℕ) → ℕ → ℕ
 leavesSum t x i = sumTo (leafBelow t x i) (t .count)
 
--- x i is that sum at class i, told by its children alone (`local-from`, proofs/Leaves): a leaf's is its own, any other class's its children's
+-- x i is that sum at class i, told by its children alone (`local-from`, proofs/Leaves): a leaf's is its own, any other class's its
+-- children's
 pub record AddsBelow (t : Tree) (f x : ℕ → ℕ) (i : ℕ) : Type 0 where
   pub leaf : isLeaf t i ≡ true → x i ≡ f i
   pub other : isLeaf t i ≡ false → x i ≡ childrenSum t x i

@@ -21,7 +21,7 @@ use Rattle.rules.proofs.Meanings.{meaning-wide}
 use Rattle.calls.specs.declared.AfterArrival.{AfterArrival}
 use Rattle.calls.specs.Arrival.{arrivalChecks, arrived, Arrives}
 use Rattle.calls.specs.Run.{Made, Run}
-use Rattle.calls.proofs.Arrivals.{taken-number, arrives-as, arrival-verdict, accepted-sound}
+use Rattle.calls.proofs.Arrivals.{taken-number, arrives-as, arrival-verdict, accepted-sound, answered-after}
 use Rattle.calls.proofs.Runs.{left-taken}
 use Rattle.wait.specs.Wait.{followed, sendsIn, boundOf}
 use Rattle.wait.proofs.Credit.{Holds, falling}
@@ -57,8 +57,14 @@ module _ (l : Link) (i : ℕ) (p : Packet) (a : AfterArrival) (arrives : Arrives
   holds : Holds (meaning (a .link)) i (heldOf l i)
   holds = rw (means, ← meaning-held l i low) (accepted-holds (meaning l) i p (sound .state) wide low passes)
 
-  within-bound : falling (meaning (a .link)) i (heldOf l i) ≤ boundOf l i (bytesIn (queueOf (a .link) i))
-  within-bound = rw (means, ← meaning-held l i low, ← waiting) (starts-within (meaning l) i p (sound .state) wide low passes)
+  within-bound : falling (meaning (a .link)) i (heldOf l i) ≤ boundOf l i (a .answer .bytes .0)
+  within-bound =
+      rw (means, ← meaning-held l i low, answered-after l i p a arrives accepted)
+      (starts-within (meaning l) i p (sound .state) wide low passes)
+
+  -- the bytes that it answered, D, are those of the packets that wait in its class's queue then (R201, R284)
+  pub answered-bytes : a .answer .bytes .0 ≡ bytesIn (queueOf (a .link) i)
+  answered-bytes = answered-after l i p a arrives accepted ∙ ap bytesIn waiting
 
   within : (run : List Made) → Run (a .link) run
       → GoneWithin (followed i (heldOf l i) run) (sendsIn run) (falling (meaning (a .link)) i (heldOf l i)) p
@@ -67,15 +73,15 @@ module _ (l : Link) (i : ℕ) (p : Packet) (a : AfterArrival) (arrives : Arrives
       (ap₂ (λ (s : State) (k : ℕ). packetBehind s i k) means (sym (meaning-held l i low)) ∙ accepted-last (meaning l) i p wide low)
       (run-keeps run (a .link) i (arrives .keeps sound) is (heldOf l i) holds)
 
-  -- from its acceptance, with D bytes then in its class's queue and a class of weight w, the whole link sends at most
+  -- from its acceptance, which answered D, the bytes then in its class's queue, and a class of weight w, the whole link sends at most
   -- (D / w rounded up, plus 1) times Q bytes until it has gone, in whatever order later arrivals and sends come
   pub bounded-wait : (run : List Made) → Run (a .link) run
-      → followed i (heldOf l i) run .sent ≤ boundOf l i (bytesIn (queueOf (a .link) i))
+      → followed i (heldOf l i) run .sent ≤ boundOf l i (a .answer .bytes .0)
   bounded-wait run is = omega (arith, within run is .sent, within-bound)
 
   -- it goes: after as many sends it has gone
   pub it-goes : (run : List Made) → Run (a .link) run
-      → boundOf l i (bytesIn (queueOf (a .link) i)) ≤ sendsIn run
+      → boundOf l i (a .answer .bytes .0) ≤ sendsIn run
       → followed i (heldOf l i) run .gone ≡ true
   it-goes run is many = go (followed i (heldOf l i) run .gone) refl
     where
@@ -89,5 +95,5 @@ module _ (l : Link) (i : ℕ) (p : Packet) (a : AfterArrival) (arrives : Arrives
   it-is-this run is = within run is .this
 
   -- the bound fits 64 bits
-  pub bound-small : boundOf l i (bytesIn (queueOf (a .link) i)) < 2 ^ 64
-  bound-small = rw (← waiting) (fits-64 (meaning l) i p (sound .state) wide low passes)
+  pub bound-small : boundOf l i (a .answer .bytes .0) < 2 ^ 64
+  bound-small = rw (answered-after l i p a arrives accepted) (fits-64 (meaning l) i p (sound .state) wide low passes)

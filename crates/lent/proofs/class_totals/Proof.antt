@@ -1,4 +1,5 @@
--- `class_totals` behind `&mut` meets its contract: a walk of its code. The borrow is opened and the record's fields stand apart, the small ones
+-- `class_totals` behind `&mut` meets its contract: a walk of its code. The borrow is opened and the record's fields stand apart, the
+-- small ones
 -- are copied out, the waiting places' lengths are lent to the call over parts, and the borrow is closed at the record as it was. All that
 -- it knows of the call over parts is its contract.
 use mathlib.Core.Path.{refl, subst}
@@ -135,11 +136,13 @@ module _ {M : Type 1} (𝓤 : URA M) (H : Heap 𝓤) (A : Atoms 𝓤) (W : Given
   module _ (C : Calls 𝓤 H) (Λ : Loops 𝓤 H) (fm : FmC 𝓤 H (W .laws) C) (known : Triple 𝓤 (C #core) (Core 𝓤 H A W at-mem run)) where
     walk : ent 𝓤 (onEntry 𝓤 H A lent.signature (κ, tt) (q, tt) x at) (WpFn 𝓤 H C Λ code.function args Post)
     walk =
-        qed W ((‵ (flft κ q) ⊛ ‵ ftrue) ∷ ‵ (owns (MutRef (named 0) κ L.the-row ∷ usize ∷ []) x at) ∷ []) ∵ split ! $ move ! (2 ∷ []) $ fsplit ! $
+        qed W ((‵ (flft κ q) ⊛ ‵ ftrue) ∷ ‵ (owns (MutRef (named 0) κ L.the-row ∷ usize ∷ []) x at) ∷ []) ∵ split ! $
+        move ! (2 ∷ []) $ fsplit ! $
         keep ! (0 ∷ 2 ∷ []) $ fsplit3 ! $ drop ! $
         -- [obs; the borrow; the token]
         enter ! C Λ code.function args _ $ alloc1 ! (λ l₀. alloc1 ! (λ l₁. alloc1 ! (λ l₂. alloc1 ! (λ l₃. alloc1 ! (λ l₄.
-        alloc1 ! (λ l₅. alloc1 ! (λ l₆. alloc1 ! (λ l₇. alloc1 ! (λ l₈. alloc1 ! (λ l₉. alloc1 ! (λ l₁₀. alloc1 ! (λ l₁₁. alloc0 ! $ params1 ! $
+        alloc1 ! (λ l₅. alloc1 !
+        (λ l₆. alloc1 ! (λ l₇. alloc1 ! (λ l₈. alloc1 ! (λ l₉. alloc1 ! (λ l₁₀. alloc1 ! (λ l₁₁. alloc0 ! $ params1 ! $
         pass1 ! (init ! 20 refl (tt, tt)) $ pass1 ! (init ! 18 refl (tt, record { fits = fits })) $ pass0 ! $
         move ! (24 ∷ 25 ∷ 26 ∷ []) $ opened ! tt h b o (λ is. let ps = parts-of h is in apart ! h b o $
         -- [the ten cells; the way back; the open borrow; obs; auth; _11; …; _10; …; _0; …]
@@ -210,7 +213,8 @@ module _ {M : Type 1} (𝓤 : URA M) (H : Heap 𝓤) (A : Atoms 𝓤) (W : Given
   lent-walks C Λ fm known = walked 𝓤 H A lent.ended stayed (lent.clauses 𝓤 H A at-mem run) (WpFn 𝓤 H C Λ code.function)
       (λ κs. (ptr-vals, (uint-vals w64, tt))) (λ κs. (mut-tells (named 0) (κs .0) L.the-row, (uint-tells w64, tt)))
       (λ κs qs bounds a _ are. via 𝓤 _ (fst∗ 𝓤 _ (emp 𝓤))
-      (walk 𝓤 H A W at-mem run (κs .0) (qs .0) (a .0 .ptr .0) (a .0 .ptr .1) (a .0 .name) (a .0 .now) (a .1 .0) (are .1 .0 .1) C Λ fm known))
+      (walk 𝓤 H A W at-mem run (κs .0) (qs .0) (a .0 .ptr .0) (a .0 .ptr .1) (a .0 .name) (a .0 .now) (a .1 .0)
+      (are .1 .0 .1) C Λ fm known))
 
   goes : AllGo 𝓤 H A W 1 (lent.signature .params) (lent.ended .kept) stayed
   goes = (goes-ref 𝓤 H A W 1 0 tt (plain (λ _. L.the-row)), (goes-none 𝓤 H A W 1 (λ _. usize) yes (λ κs x f. refl), tt))

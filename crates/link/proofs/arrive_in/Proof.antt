@@ -1,11 +1,21 @@
 -- `link::arrive_in` meets its contract: the step of an arrival, told whether the link that the parts make up is sound.
-use mathlib.Core.Path.{refl}
+use mathlib.Core.Path.{_≡_, refl, sym, _∙_}
+use lib.ListN.{length, length-map}
+use denote.Struct.Laws as LL
+use Rattle.state.proofs.Totals as N
+use Rattle.state.proofs.Totals.Laws as N′
 use Rattle.state.specs.declared.Link.{Link}
 use Rattle.state.specs.State.{linkOf}
 use Rattle.rules.proofs.Counted.{sound-climbs}
 use borrow.Author.Needs.{needs}
 use Rattle.link.proofs.arrive_in.Statement.{statement}
 use Rattle.link.proofs.arrive_in.Tie as tie
+
+-- each class number has a total
+counts : (st : tie.Start) → length (st .args .totals .bytes) ≡ 64
+counts st =
+    let n = LL.owed N.the-type N′.the-laws (st .args .totals) _ (st .good .1 .1 .1 .1 .1 .1 .1 .0) in
+    sym (length-map (st .args .totals .bytes) _) ∙ n .1 .0 .1 .0 .1
 
 is-sound-of-requires : tie.Need-is-sound-of-requires
 is-sound-of-requires c κs = search needs
@@ -29,7 +39,8 @@ returns c =
     record {
       sound = s .is-sound-of .result;
       exactly = s .is-sound-of .ensures (l .tags);
-      gives = c .arrive .ensures l refl refl refl;
+      gives = c .arrive .ensures l refl refl refl
+          (λ on. record { sound = s .is-sound-of .ensures (l .tags) .sound on; wide = counts (s .before .before) });
     }
 
 pub arrive-in-spec : {M : Type 1} → statement M

@@ -26,13 +26,15 @@ cast-t9 c = search needs
 
 returns : tie.Need-returns
 returns c =
-    let a = c .before .before .before .before .before .args .a in
-    sym (ap (λ (v : Verdict). arrivalSays v (a .class) (packetIn a)) (c .enum-told .given .1))
+    let g = c .before .before .before .before .before .args in
+    let a = g .a in
+    sym (ap (λ (v : Verdict). arrivalSays v (a .class) (packetIn a) (g .answer .bytes .0)) (c .enum-told .given .1))
 
 returns-2 : tie.Need-returns-2
 returns-2 c =
-    let a = c .before .before .before .before .before .before .args .a in
-    sym (ap (λ (v : Verdict). arrivalSays v (a .class) (packetIn a)) (c .before .verdict .given .1))
+    let g = c .before .before .before .before .before .before .args in
+    let a = g .a in
+    sym (ap (λ (v : Verdict). arrivalSays v (a .class) (packetIn a) (g .answer .bytes .0)) (c .before .verdict .given .1))
 
 pub arrival-line-spec : {M : Type 1} → statement M
 arrival-line-spec =

@@ -26,8 +26,13 @@ next-sender-requires c κs =
 goes-requires : tie.Need-goes-requires
 goes-requires c κs =
     let n = c .before .before .before .before .before .before in
-    let i = n .before .before .before .before .before in
-    (_, _, _, then-goes _ _ (n .next-sender .result) _ _ (n .next-sender .ensures _ _ _ (going-on _ _ (i .before .before .pre .0) (i .if1 .left))))
+    let i = n .before .before .before .before .before in (
+      _,
+      _,
+      _,
+      then-goes _ _ (n .next-sender .result) _ _
+          (n .next-sender .ensures _ _ _ (going-on _ _ (i .before .before .pre .0) (i .if1 .left))),
+    )
 
 has-gone-requires : tie.Need-has-gone-requires
 has-gone-requires c κs = search needs

@@ -30,7 +30,8 @@ cast-lay-in-3 : tie.Need-cast-lay-in-3
 cast-lay-in-3 c = search needs
 
 lay-in-requires : tie.Need-lay-in-requires
-lay-in-requires c κs = let st = c .before .before .before .before .before .before .before .before .before .before .before .before in st .pre .1
+lay-in-requires c κs = let st = c .before .before .before .before .before .before .before .before .before .before .before .before in
+    st .pre .1
 
 same-length : tie.Need-same-length
 same-length c = search needs
@@ -41,9 +42,10 @@ returns c =
     let t = lay .before .before .before in
     let v = t .before .before in
     let a = begun v .args in
-    let line = sym (ap (λ (w : Verdict). arrivalSays w (a .a .class) (packetIn (a .a))) (t .enum-told .given .1)) in
-    λ l leaves parents longest.
-    arrives-in-place (a .sound) _ (a .a) (v .arrive .result) _ (a .at) _ _ _ _ (v .arrive .ensures l leaves parents longest) line
+    let line = sym (ap (λ (w : Verdict). arrivalSays w (a .a .class) (packetIn (a .a)) (v .arrive .result .bytes .0))
+    (t .enum-told .given .1)) in
+    λ l leaves parents longest takes.
+    arrives-in-place (a .sound) _ (a .a) (v .arrive .result) _ (a .at) _ _ _ _ (v .arrive .ensures l leaves parents longest takes) line
     (lay .lay-in .ensures)
 
 enum-told-2 : tie.Need-enum-told-2
@@ -53,7 +55,8 @@ arrival-line-requires : tie.Need-arrival-line-requires
 arrival-line-requires c κs = search needs
 
 lay-at-requires : tie.Need-lay-at-requires
-lay-at-requires c κs = let st = c .before .before .before .before .before .before .before .before .before .before .before .before in st .pre .1
+lay-at-requires c κs = let st = c .before .before .before .before .before .before .before .before .before .before .before .before in
+    st .pre .1
 
 same-length-2 : tie.Need-same-length-2
 same-length-2 c = search needs
@@ -64,9 +67,9 @@ returns-2 c =
     let n = lay .before .before in
     let v = n .before .before .before in
     let a = begun v .args in
-    λ l leaves parents longest.
+    λ l leaves parents longest takes.
     arrives-in-place (a .sound) _ (a .a) (v .arrive .result) (n .arrival-line .result) (a .at) _ _ _ _
-    (v .arrive .ensures l leaves parents longest) (n .arrival-line .ensures) (lay .lay-at .ensures)
+    (v .arrive .ensures l leaves parents longest takes) (n .arrival-line .ensures) (lay .lay-at .ensures)
 
 pub arrives-spec : {M : Type 1} → statement M
 arrives-spec =

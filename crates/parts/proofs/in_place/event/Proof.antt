@@ -146,7 +146,7 @@ returns-2 c =
     rw (c .outcome2 .ensures)
     (arrival-in-place (whole st) (now (a .input)) (a .place) (st .pre .1) (a .at) (now (a .out)) (lay .arrives .result) _ (a .sound) (st .pre .0)
     _ (v .read .given .0 .0) (a .active) (a .visit) (u .used .result) (a .size) (read-at g (v .read .given .1)) (moves-on u (v .read .given .1))
-    (lay .arrives .ensures (whole st) refl refl refl))
+    (lay .arrives .ensures (whole st) refl refl refl (λ on. record { sound = st .pre .0 .sound on; wide = st .pre .1 .bytes })))
 
 same-length-3 : tie.Need-same-length-3
 same-length-3 c = search needs

@@ -136,7 +136,12 @@ wide-requires c κs = search needs
 loop-less : tie.Need-loop-less Inv-loop μ-loop
 loop-less c =
     let h = c .before .before .before .before .before .before .before in
-    omega (arith, c .wide .ensures .0, h .before .before .pre .1 .lower (h .loop .i) (omega (arith, c .before .before .if1 .left)) (h .loop .inv .0))
+    omega (
+      arith,
+      c .wide .ensures .0,
+      h .before .before .pre .1 .lower (h .loop .i) (omega (arith, c .before .before .if1 .left))
+          (h .loop .inv .0),
+    )
 
 loop-again : tie.Need-loop-again Inv-loop μ-loop
 loop-again c =

@@ -14,39 +14,52 @@ use Rattle.state.specs.declared.Packet.{Packet}
 use Rattle.state.specs.Queue.{withTotals}
 use Rattle.state.specs.State.{meaning}
 use Rattle.state.proofs.Meaning.{meaning-held}
+use Rattle.calls.specs.declared.Arrival.{Arrival}
 use Rattle.calls.specs.Arrival.{arrivalChecks, arrivalAnswer, arrivalLeaves}
-use Rattle.calls.proofs.Arrivals.{unsound-number, no-leaf-number, arrival-refused, arrival-taken, taken}
+use Rattle.calls.proofs.Arrivals.{unsound-number, no-leaf-number, arrival-refused, arrival-taken, bytes-read}
 use Rattle.steps.specs.Arrivals.{lentWaiting, ArrivesOn}
 use borrow.Author.Needs.{needs}
 use Rattle.steps.proofs.arrival.arrive.Statement.{statement}
 use Rattle.steps.proofs.arrival.arrive.Tie as tie
 
--- a refused arrival leaves the link
-refuses : (sound : Bool) (l : Link) (i : ℕ) (p : Packet) (v : Verdict) {n q : ℕ} → v ≡ firstBroken (arrivalChecks sound (meaning l) i p)
-    → v ≡ Refused n q → ArrivesOn sound l i p (arrivalAnswer v) l
-refuses sound l i p v said e = rw e (sym (arrival-refused sound l i p (sym said ∙ e)))
+-- a refused arrival answers 0 bytes, and leaves the link
+refuses : (sound : Bool) (l : Link) (i : ℕ) (p : Packet) (v : Verdict) (r : Arrival) {n q : ℕ} → r ≡ arrivalAnswer v 0
+    → v ≡ firstBroken (arrivalChecks sound (meaning l) i p) → v ≡ Refused n q → ArrivesOn sound l i p r l
+refuses sound l i p v r is said e =
+    ap (λ (x : Arrival). arrivalLeaves x l) (is ∙ ap (λ (w : Verdict). arrivalAnswer w 0) e)
+    ∙ sym (arrival-refused sound l i p (sym said ∙ e))
+
+refused-requires : tie.Need-refused-requires
+refused-requires c κs = search needs
 
 returns : tie.Need-returns
 returns c =
-    let a = c .before .args in
-    λ l leaves parents longest.
+    let i = c .before in
+    let a = i .before .args in
+    λ l leaves parents longest takes.
     let now = lentWaiting l (a .start .now) (a .held .now) (a .lengths .now) (a .tags .now) (a .packets .now) (a .bytes .now) in
-    rw (not-true (a .sound) (c .if1 .taken)) (refuses false now (a .class) (a .packet) _ (sym (unsound-number (meaning now) _ _)) refl)
+    rw (not-true (a .sound) (i .if1 .taken))
+    (refuses false now (a .class) (a .packet) _ (c .refused .result) (c .refused .ensures) (sym (unsound-number (meaning now) _ _)) refl)
 
 holds-requires : tie.Need-holds-requires
 holds-requires c κs = search needs
 
+refused-requires-2 : tie.Need-refused-requires-2
+refused-requires-2 c κs = search needs
+
 returns-2 : tie.Need-returns-2
 unfolding isLeaf
 returns-2 c =
-    let h = c .before in
+    let e = c .before in
+    let h = e .before in
     let a = h .before .before .args in
-    λ l leaves parents longest.
+    λ l leaves parents longest takes.
     let now = lentWaiting l (a .start .now) (a .held .now) (a .lengths .now) (a .tags .now) (a .packets .now) (a .bytes .now) in
     let off : isLeaf (l .tree) (a .class) ≡ false =
-    rw leaves (sym (h .holds .ensures .0) ∙ not-true (h .holds .result) (c .if2 .taken)) in
+    rw leaves (sym (h .holds .ensures .0) ∙ not-true (h .holds .result) (e .if2 .taken)) in
     rw (not-false (a .sound) (h .before .if1 .left))
-    (refuses true now (a .class) (a .packet) _ (sym (no-leaf-number (meaning now) (a .class) (a .packet) off)) refl)
+    (refuses true now (a .class) (a .packet) _ (c .refused2 .result) (c .refused2 .ensures)
+    (sym (no-leaf-number (meaning now) (a .class) (a .packet) off)) refl)
 
 mul-judge : tie.Need-mul-judge
 mul-judge c = let h = c .before in omega (arith, h .holds .ensures .1 (not-false (h .holds .result) (c .if2 .left)))
@@ -73,7 +86,8 @@ inside j =
 
 -- the link at entry
 abbrev here : tie.After-judge → Link → Link
-here j l = let a = begun j .args in lentWaiting l (a .start .now) (a .held .now) (a .lengths .now) (a .tags .now) (a .packets .now) (a .bytes .now)
+here j l = let a = begun j .args in
+    lentWaiting l (a .start .now) (a .held .now) (a .lengths .now) (a .tags .now) (a .packets .now) (a .bytes .now)
 
 -- the verdict is that of the checks on a link that is sound
 said : (j : tie.After-judge) (l : Link) → l .tree .leaves ≡ begun j .args .leaves → l .tree .longest ≡ begun j .args .longest .now
@@ -106,34 +120,55 @@ recount-requires c κs =
     let j = e .before .before in
     (inside j, begun j .pre (sounds j))
 
-enum-told-2 : tie.Need-enum-told-2
-enum-told-2 c = search needs
+mul-t32 : tie.Need-mul-t32
+mul-t32 c = omega (arith, inside (c .before .before .before .before .before .before .before .before .before))
+
+element-copy-out-t35 : tie.Need-element-copy-out-t35
+element-copy-out-t35 c = omega (arith, inside (c .before .before .before .before .before .before .before .before .before))
 
 returns-3 : tie.Need-returns-3
 returns-3 c =
-    let p = c .before .before .before in
+    let n = c .before in
+    let p = n .before .before .before in
     let e = p .before .before .before .before in
     let j = e .before .before in
     let a = begun j .args in
-    λ l leaves parents longest.
+    λ l leaves parents longest takes.
     let passed = e .enum-told .given .1 in
+    let passes = sym (said j l leaves longest) ∙ passed in
+    let link = ap₂ withTotals (p .put .ensures l) (n .recount .ensures (l .tree) parents) in
+    let on = takes (sounds j) in
+    let bytes =
+    ap (λ (x : Link). getD (x .totals .bytes) (a .class) 0) link
+    ∙ bytes-read (here j l) (a .class) (a .packet) (on .wide) (on .sound) passes
+    in
     rw (sounds j)
-    (ap₂ arrivalLeaves (ap arrivalAnswer passed) (ap₂ withTotals (p .put .ensures l) (c .recount .ensures (l .tree) parents))
-    ∙ sym (arrival-taken true (here j l) (a .class) (a .packet) (sym (said j l leaves longest) ∙ passed)))
+    (ap₂ arrivalLeaves (ap₂ arrivalAnswer passed bytes) link ∙ sym (arrival-taken true (here j l) (a .class) (a .packet) passes))
+
+enum-told-2 : tie.Need-enum-told-2
+enum-told-2 c = search needs
+
+refused-requires-3 : tie.Need-refused-requires-3
+refused-requires-3 c κs = search needs
 
 returns-4 : tie.Need-returns-4
 returns-4 c =
-    let j = c .before .before in
+    let e = c .before in
+    let j = e .before .before in
     let a = begun j .args in
-    λ l leaves parents longest.
-    rw (sounds j) (refuses true (here j l) (a .class) (a .packet) (j .judge .result) (said j l leaves longest) (c .enum-told2 .given .1))
+    λ l leaves parents longest takes.
+    rw (sounds j)
+    (refuses true (here j l) (a .class) (a .packet) (j .judge .result) (c .refused3 .result) (c .refused3 .ensures)
+    (said j l leaves longest) (e .enum-told2 .given .1))
 
 pub arrive-spec : {M : Type 1} → statement M
 arrive-spec =
     tie.close
     (tie.spec
+    refused-requires
     returns
     holds-requires
+    refused-requires-2
     returns-2
     mul-judge
     element-copy-out-judge
@@ -142,6 +177,9 @@ arrive-spec =
     enum-told
     put-requires
     recount-requires
-    enum-told-2
+    mul-t32
+    element-copy-out-t35
     returns-3
+    enum-told-2
+    refused-requires-3
     returns-4)

@@ -1,0 +1,2 @@
+-- The laws of an offer.
+pub mod Offering

@@ -1,0 +1,2 @@
+-- What a packet would be promised if it came now.
+pub mod Offer
