@@ -66,7 +66,7 @@ fn worked(tree: &Tree, events: &[Event], from: usize, to: usize) -> Vec<String> 
 }
 
 /// A text in lines of at most that width; those after the first stand further in by `indent`.
-fn wrapped(text: &str, indent: &str) -> Vec<String> {
+pub fn wrapped(text: &str, indent: &str) -> Vec<String> {
     let (mut lines, mut line) = (Vec::new(), String::new());
     for word in text.split_whitespace() {
         if !line.is_empty() && line.chars().count() + 1 + word.chars().count() > width() {

@@ -4,11 +4,14 @@
 //! It is slow and plain on purpose: every sum is scanned again, every call is followed by a full check.
 //! With words it prints a run worked step by step, for docs/by-hand.md (see by_hand.rs) and for the desk's own runs (see desk.rs), why
 //! leaves are silent (see silent.rs), what waits under each class (see totals.rs), how far apart two siblings are (see siblings.rs), a
-//! plan's bytes written back (see write.rs), or a plan whose shares don't add up mended (see mend.rs).
+//! plan's bytes written back (see write.rs), a plan whose shares don't add up mended (see mend.rs), or another box's recording checked
+//! (see claims.rs).
 //! Build: rustc -O --edition 2021 second.rs; test: rustc -O --edition 2021 --test second.rs -o second_test
 
 #[path = "by_hand.rs"]
 mod by_hand;
+#[path = "claims.rs"]
+mod claims;
 #[path = "desk.rs"]
 mod desk;
 #[path = "mend.rs"]
@@ -758,14 +761,16 @@ fn output_of(run: &Run) -> Output {
 /// What the words may be.
 const USE: &str =
     "tables FROM TABLE, waits FROM, worked FROM TO, state EVENT, silent [CLASS ..], silent-each, totals-each, \
-    siblings I J, write [BYTES] or mend [write]";
+    siblings I J, write [BYTES], mend [write], claims, false-claim, record or damaged SEED";
 
-/// A run worked by hand, why leaves are silent, what waits under each class, two siblings, a plan written back or mended.
+/// A run worked by hand, why leaves are silent, what waits under each class, two siblings, a plan written back or mended, a recording
+/// checked or made.
 fn worked(words: &[String], input: &[u8]) -> Output {
     match words[0].as_str() {
         "worked" | "state" => return Output::of_lines(&desk::answer(words, input)),
         "write" => return write::program(&words[1..], input),
         "mend" => return mend::program(&words[1..], input),
+        "record" => return Output { bytes: claims::record(input), said: None },
         _ => (),
     }
     let numbers: Vec<usize> = words[1..].iter().map(|word| word.parse().expect(USE)).collect();
@@ -776,6 +781,9 @@ fn worked(words: &[String], input: &[u8]) -> Output {
         ("silent-each", []) => silent::silent_each(input),
         ("totals-each", []) => totals::totals_each(input),
         ("siblings", &[i, j]) => return siblings::program(input, i, j),
+        ("claims", []) => claims::claims(input),
+        ("false-claim", []) => claims::false_claim(input),
+        ("damaged", &[seed]) => return Output { bytes: claims::damaged(seed as u64, input), said: None },
         _ => panic!("{USE}"),
     };
     Output::of_lines(&lines)
@@ -784,7 +792,8 @@ fn worked(words: &[String], input: &[u8]) -> Output {
 /// Reads, runs, prints; input or output that fails ends with 1, a failed assertion (its message is on standard error) with 2.
 fn main() {
     let words: Vec<String> = std::env::args().skip(1).collect();
-    let any_length = matches!(words.first().map(String::as_str), Some("long" | "worked" | "state"));
+    const ANY_LENGTH: [&str; 7] = ["long", "worked", "state", "claims", "false-claim", "record", "damaged"];
+    let any_length = words.first().is_some_and(|word| ANY_LENGTH.contains(&word.as_str()));
     let Ok(input) = (if any_length { read_all() } else { read_input() }) else { std::process::exit(1) };
     let Ok(output) = std::panic::catch_unwind(|| match words.first().map(String::as_str) {
         None => output_of(&run(&input)),

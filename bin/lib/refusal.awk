@@ -16,9 +16,12 @@ function list(one, more, to) { return to == 1 ? one " 1" : more " 1 " (to == 2 ?
 function value(at, count,    n) { n = 0; while (count-- > 0) n = n * 256 + byte[at++]; return sprintf("%.0f", n) }
 function called(c) { return "class " c (c in name ? " \"" name[c] "\"" : "") }
 
-# A record's length by its kind, and of a kind that is not known 1.
-function length_of(kind) { return events ? (kind == 16 ? 8 : 1) : kind == 1 ? 6 : kind == 2 ? 8 : kind == 3 ? 2 : 1 }
-function known(kind) { return events ? kind == 16 || kind == 17 : kind <= 3 }
+# A record's length by its kind, and of a kind that is not known 1. In a recording, which bin/checkrun asks about, claims are known too.
+function length_of(kind) {
+    if (events) return kind == 16 || (claims && kind == 18) ? 8 : 1
+    return kind == 1 ? 6 : kind == 2 ? 8 : kind == 3 ? 2 : 1
+}
+function known(kind) { return events ? kind == 16 || kind == 17 || (claims && (kind == 18 || kind == 19)) : kind <= 3 }
 
 # The records up to the place of a fault, or to the end: where each class stands, and what it says.
 function walk(until,    kind) {
@@ -72,7 +75,7 @@ function text_line(at_line,    n, line) {
 # The fields that a cut record lacks.
 function missing(kind, there) {
     if (kind == 3) return "rule"
-    if (kind == 16) return there < 2 ? "class, length and tag" : there < 4 ? "length and tag" : "tag"
+    if (kind == 16 || kind == 18) return there < 2 ? "class, length and tag" : there < 4 ? "length and tag" : "tag"
     return (there < 2 ? "parent, " : "") (there < 6 ? "weight" : "") (kind == 2 ? (there < 6 ? " and " : "") "longest" : "")
 }
 
@@ -94,7 +97,8 @@ function why_parent(c, up) {
 function at_record(from,    c, kind, what) {
     walk(from)
     c = classes + 1
-    what = events ? "event " taken + 1 : number == 2 ? "record " c : byte[from] == 3 ? "the rule" : called(c)
+    what = number == 2 ? "record " c : byte[from] == 3 ? "the rule" : called(c)
+    if (events) what = claims ? "record " taken + 1 " after the plan" : "event " taken + 1
     text_line(line_at[from])
     if (count == 0) say("wrong: the input is empty")
     else if (from >= count) say("wrong: the input has " count " bytes, and then there is no end record")
@@ -105,7 +109,14 @@ function at_record(from,    c, kind, what) {
             say("wrong: " count - from " of its " length_of(kind) " bytes are there; not whole: " missing(kind, count - from))
         } else if (number == 2) {
             record(what, from, from, from)
-            say("wrong: kind " kind "; " (events ? "an event is 16 or 17" : "a record of a plan is 0, 1, 2 or 3"))
+            say("wrong: kind " kind "; " (!events ? "a record of a plan is 0, 1, 2 or 3" : \
+                claims ? "a record after the plan is 16, 17, 18 or 19" : "an event is 16 or 17"))
+            if (events && (kind == 18 || kind == 19)) say("it is a claim, as in a recording: bin/checkrun checks one")
+        } else if (number == 19) {
+            record(what, from, from, from)
+            if (kind != 17) say("wrong: a claim, and no send stands directly before it")
+            else say("wrong: a send, and " (from + 1 < count ? "kind " byte[from + 1] : "nothing") \
+                " after it; a claim, 18 or 19, must stand there")
         } else if (number == 3) field(c, from, 0, 0, "63 classes stand before it, and no plan has more")
         else if (number == 4) field(c, from, 1, 1, stated(from, "parent", byte[from + 1]) "; " why_parent(c, byte[from + 1]))
         else if (number == 5) field(c, from, 2, 5, stated(from, "weight", value(from + 2, 4)) "; it must be from 1 to 1000000")
@@ -118,7 +129,8 @@ function at_record(from,    c, kind, what) {
             say("wrong: the rule is record " classes + ruled + 1 " of the plan; it must be the first")
         } else record(what, from, -1, -1)
     }
-    if (events) say("good before it: the plan" (taken ? " and " list("event", "events", taken) : ""))
+    if (events && claims) say("good before it: the plan" (taken ? " and " list("record", "records", taken) " after it" : ""))
+    else if (events) say("good before it: the plan" (taken ? " and " list("event", "events", taken) : ""))
     else say("good before it: " (ruled ? "the rule" (classes ? " and " : "") : "") (classes ? list("class", "classes", classes) : ruled ? "" : "nothing"))
 }
 
@@ -137,6 +149,7 @@ function at_class(c) {
 }
 
 BEGIN {
+    claims = ENVIRON["ASKS"] == "checkrun"
     number = ENVIRON["NUMBER"] + 0; place = ENVIRON["PLACE"] + 0; most = ENVIRON["MOST"] + 0
     while ((getline row < ENVIRON["PAGE"]) > 0) {
         if (split(row, cell, / *[|] */) < 6 || cell[2] != number "" || told) continue
@@ -158,7 +171,7 @@ END {
     if (number == 7 || number == 8 || number == 22) at_class(place)
     else if (number == 9) say("wrong: the end of the plan, byte " (byte[0] == 3 ? "2" : "0") ", [00], and no class before it")
     else if (number == 10) say("wrong: the input has " ENVIRON["SIZE"] " bytes" (ENVIRON["SIZE"] > 16777216 ? " or more" : ""))
-    else if (number <= 6 || number == 17 || number == 18) at_record(place)
+    else if (number <= 6 || (number >= 17 && number <= 19)) at_record(place)
     else if (place in name) say(called(place))
     if (told) say("what to do: " advice)
 }

@@ -45,6 +45,8 @@ pub const NO_ROOM: u8 = 16;
 pub const RULE: u8 = 17;
 // A rule record anywhere but first.
 pub const LATE_RULE: u8 = 18;
+// A send of a recording without its claim, or a claim without its send.
+pub const CLAIM: u8 = 19;
 // The capacity is outside its range.
 pub const CAPACITY: u8 = 20;
 // A leaf's request is outside its range.

@@ -7,17 +7,13 @@ use lib.ListN.{drop}
 use Rattle.checks.specs.declared.Verdict.the-variants.{Refused}
 use Rattle.checks.specs.Check.{Exactly}
 use Rattle.units.specs.declared.Bytes.{Bytes}
-use Rattle.tree.specs.declared.Tree.{Tree}
-use Rattle.tree.specs.Sum.{table}
 use Rattle.plan.specs.declared.Arrived.{Arrived}
 use Rattle.plan.specs.declared.EventRead.the-variants.{NoMore, Arrive, SendNext, Fault}
 use Rattle.plan.specs.Event.{usedOf, eventAt}
 use Rattle.state.specs.declared.Link.{Link}
 use Rattle.state.specs.declared.Packet.{Packet}
-use Rattle.state.specs.declared.Account.{Account}
-use Rattle.state.specs.Account.{balanceOf, residualOf}
 use Rattle.state.specs.Queue.{Shaped}
-use Rattle.state.specs.State.{meaning, linkOf}
+use Rattle.state.specs.State.{meaning}
 use Rattle.sound.specs.Sound.{SoundLink}
 use Rattle.rules.specs.Active.{someWaits}
 use Rattle.rules.specs.After.{Sent}
@@ -33,10 +29,8 @@ use Rattle.calls.proofs.Runs.{rules-meet}
 use Rattle.lines.specs.declared.Line.{Line}
 use Rattle.lines.specs.declared.Line.the-variants.{Out, Nothing, End, Stop}
 use Rattle.steps.specs.declared.Went.{Went}
-use Rattle.steps.specs.Parts.{lentLink}
 use Rattle.steps.specs.Arrivals.{ArrivesOn}
 use Rattle.steps.specs.Rounds.{sentWhere, Departs}
-use Rattle.steps.proofs.Wholes.{in-lists}
 use Rattle.run.specs.Event.{arrivalLine, sendLine, packetIn, callLine, stepBy}
 use Rattle.parts.specs.Steps.{LaysLine, ArrivesAs, wentSays, DepartsAs, Happens}
 use Rattle.run.proofs.Events.{gives-by}
@@ -159,14 +153,3 @@ module _ (l : Link) (input : List ℕ) (place : ℕ) (shape : Shaped l) (at : �
       });
       shape = subst Shaped (sym (is .1)) (call-shaped l send sound exactly shape);
     }
-
--- ---- a link taken apart
-
-pub apart-is : (l : Link) (t : Tree) (b r : List ℕ) → t ≡ l .tree → Shaped l → b ≡ table (balanceOf (l .accounts)) 64
-    → r ≡ table (residualOf (l .accounts)) 64
-    → lentLink t (l .size) (l .active) (l .place) b r (l .start) (l .held) (l .lengths) (l .tags) (l .totals .packets)
-    (l .totals .bytes) ≡ l
-apart-is l t b r same shape x y =
-    ap₂ (λ (t : Tree) (xs : List Account). linkOf t (l .size) (l .active) (l .place) xs (l .start) (l .held) (l .lengths) (l .tags)
-    (l .totals)) same
-    (in-lists (l .accounts) (shape .accounts) b r x y)

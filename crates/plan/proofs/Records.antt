@@ -12,28 +12,32 @@ use Rattle.checks.proofs.Laws.{not-true-and-false}
 use Rattle.tree.proofs.Classes.{both-true}
 use Rattle.plan.specs.declared.kind.RecordKind.{RecordKind}
 use Rattle.plan.specs.declared.kind.Given.{Given}
-use Rattle.plan.specs.declared.kind.Given.the-variants.{End, Inner, Leaf, Rule, Arrival, Send, Nothing}
-use Rattle.plan.specs.Kind.{kindRow, recordKind, classGiven, ruleGiven, givesClass, givesLeaf, givesRule, givesArrival}
+use Rattle.plan.specs.declared.kind.Given.the-variants.{End, Inner, Leaf, Rule, Arrival, Send, SentClaim, IdleClaim, Nothing}
+use Rattle.plan.specs.Kind.{kindRow, recordKind, classGiven, ruleGiven, givesClass, givesLeaf, givesRule, givesArrival, givesSent}
 use Rattle.plan.specs.Record.{byteAt, kindAt, missing, cut, bodyOf, ruleOf, lateRule, badRule}
 
 -- the table of kinds, row by row
 pub kind-cases : (P : ℕ → RecordKind → Type 0)
-    → P 0 (kindRow 0 true false End)
-    → P 1 (kindRow 5 true false Inner)
-    → P 2 (kindRow 7 true false Leaf)
-    → P 3 (kindRow 1 true false Rule)
-    → P 16 (kindRow 7 false true Arrival)
-    → P 17 (kindRow 0 false true Send)
-    → ((byte : ℕ) → P byte (kindRow 0 false false Nothing))
+    → P 0 (kindRow 0 true false false End)
+    → P 1 (kindRow 5 true false false Inner)
+    → P 2 (kindRow 7 true false false Leaf)
+    → P 3 (kindRow 1 true false false Rule)
+    → P 16 (kindRow 7 false true true Arrival)
+    → P 17 (kindRow 0 false true true Send)
+    → P 18 (kindRow 7 false false true SentClaim)
+    → P 19 (kindRow 0 false false true IdleClaim)
+    → ((byte : ℕ) → P byte (kindRow 0 false false false Nothing))
     → (byte : ℕ) → P byte (recordKind byte)
 unfolding recordKind
-kind-cases P end inner leaf rule arrival send nothing byte =
+kind-cases P end inner leaf rule arrival send sent idle nothing byte =
     either 0 _ _ end
     (either 1 _ _ inner
     (either 2 _ _ leaf
     (either 3 _ _ rule
     (either 16 _ _ arrival
-    (either 17 _ _ send (nothing byte))))))
+    (either 17 _ _ send
+    (either 18 _ _ sent
+    (either 19 _ _ idle (nothing byte))))))))
   where
     either : (n : ℕ) (k l : RecordKind) → P n k → P byte l → P byte (cond (eqb byte n) k l)
     either n k l p q = go (eqb byte n) refl
@@ -42,25 +46,29 @@ kind-cases P end inner leaf rule arrival send nothing byte =
         go true e = subst (λ (m : ℕ). P m k) (sym (eqb-true byte n e)) p
         go false e = q
 
--- a body is as long as its reader asks: 7 bytes of a leaf, 5 of an inner class, 1 of a rule, 7 of an arrival
+-- a body is as long as its reader asks: 7 bytes of a leaf, 5 of an inner class, 1 of a rule, 7 of an arrival and of a claim that a packet
+-- was sent
 abbrev bodyFits : RecordKind → Bool
 bodyFits k =
     cond (givesClass k) (eqb (k .body) (cond (givesLeaf k) 7 5)) true
-    && (cond (givesRule k) (eqb (k .body) 1) true && cond (givesArrival k) (eqb (k .body) 7) true)
+    && (cond (givesRule k) (eqb (k .body) 1) true
+    && (cond (givesArrival k) (eqb (k .body) 7) true && cond (givesSent k) (eqb (k .body) 7) true))
 
 -- so it is in every row of the table
 table-fits : (byte : ℕ) → bodyFits (recordKind byte) ≡ true
-table-fits = kind-cases (λ (byte : ℕ) (k : RecordKind). bodyFits k ≡ true) refl refl refl refl refl refl (λ byte. refl)
+table-fits = kind-cases (λ (byte : ℕ) (k : RecordKind). bodyFits k ≡ true) refl refl refl refl refl refl refl refl (λ byte. refl)
 
 row-fits : (rest : List ℕ)
     → (cond (givesClass (kindAt rest)) (eqb (kindAt rest .body) (cond (givesLeaf (kindAt rest)) 7 5)) true ≡ true)
     × (cond (givesRule (kindAt rest)) (eqb (kindAt rest .body) 1) true ≡ true)
     × (cond (givesArrival (kindAt rest)) (eqb (kindAt rest .body) 7) true ≡ true)
+    × (cond (givesSent (kindAt rest)) (eqb (kindAt rest .body) 7) true ≡ true)
 unfolding kindAt
 row-fits rest =
     let h = both-true _ _ (table-fits (byteAt rest 0)) in
     let g = both-true _ _ (h .1) in
-    (h .0, g .0, g .1)
+    let packets = both-true _ _ (g .1) in
+    (h .0, g .0, packets .0, packets .1)
 
 pub class-body : (rest : List ℕ) → givesClass (kindAt rest) ≡ true → kindAt rest .body ≡ cond (givesLeaf (kindAt rest)) 7 5
 class-body rest e = eqb-true _ _ (rw e at (row-fits rest .0))
@@ -82,6 +90,8 @@ class-no-rule k e = go (k .gives) e
     go Rule e = absurd (not-true-and-false e refl)
     go Arrival e = refl
     go Send e = refl
+    go SentClaim e = absurd (not-true-and-false e refl)
+    go IdleClaim e = absurd (not-true-and-false e refl)
     go Nothing e = refl
 
 pub and-no : (b : Bool) → (b && false) ≡ false
@@ -115,6 +125,9 @@ rule-right rest (inr e) = rw e (and-no (givesRule (kindAt rest)))
 pub rule-bad : (rest : List ℕ) → givesRule (kindAt rest) ≡ true → (ruleOf rest ≡ 1 → ⊥) → (ruleOf rest ≡ 2 → ⊥) → badRule rest ≡ true
 unfolding badRule
 rule-bad rest e one two = rw (e, ne-eqb (ruleOf rest) 1 one, ne-eqb (ruleOf rest) 2 two)
+
+pub sent-body : (rest : List ℕ) → givesSent (kindAt rest) ≡ true → kindAt rest .body ≡ 7
+sent-body rest e = eqb-true _ _ (rw e at (row-fits rest .3))
 
 -- a record that is not cut is as long as its kind says
 pub whole-length : (rest : List ℕ) → cut rest ≡ false → 1 + kindAt rest .body ≤ length rest

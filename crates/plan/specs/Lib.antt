@@ -3,5 +3,6 @@ pub mod Kind
 pub mod Record
 pub mod Reader
 pub mod Event
+pub mod Entry
 pub mod Rows
 pub mod Steps

@@ -12,8 +12,8 @@ use crate::kind::RecordKind;
 use crate::record::number_16;
 use crate::record::number_32;
 
-// Kind 16: class 1, length 2, tag 4.
-fn read_arrival(body: &[u8]) -> Arrived
+// Kind 16, and 18: class 1, length 2, tag 4.
+pub(crate) fn read_arrival(body: &[u8]) -> Arrived
     requires { ⌜ length (now body) ≡ 7 ⌝ }
     ensures { λ r. ⌜ r ≡ arrivedOf (now (body .entry)) ⌝ }
 {

@@ -1,6 +1,8 @@
-// The plan reader and the event reader: any bytes in, the answer of R40 to R67 out, and never a fault. Entries for callers (R1, R196).
+// The plan reader, the event reader and the reader of recordings: any bytes in, the answer of R40 to R67 and R286 to R294 out, and never a
+// fault. Entries for callers (R1, R196).
 // Serves demand 1. What they are made of stands in the modules, each named for its specs file; `reader::read_records` reads
 // the records alone.
+pub mod entry;
 pub mod event;
 pub mod kind;
 pub mod reader;
@@ -11,6 +13,7 @@ ghost use Prim.Native.Nat.{_+_, _^_, _<_, _≤_};
 ghost use lib.ListN.{length, drop};
 ghost use Rattle.plan.specs.Reader.{planOf};
 ghost use Rattle.plan.specs.Event.{usedOf, eventAt};
+ghost use Rattle.plan.specs.Entry.{entryAt};
 use checks::Verdict;
 use kind::Section;
 use record::Head;
@@ -36,6 +39,21 @@ pub enum EventRead {
     Arrive(Arrived),
     SendNext,
     Fault(u8, usize),
+}
+
+// A claim of a recording: the packet that was sent, or that none waited.
+pub enum Claim {
+    Sent(Arrived),
+    Idle,
+}
+
+// What the reader of recordings says: the input has ended, an arrival, a send with its claim, or a refusal's number and its place from the
+// entry's first byte on.
+pub enum EntryRead {
+    Ended,
+    Arrives(Arrived),
+    Claims(Claim),
+    Stops(u8, usize),
 }
 
 // The reader: any bytes at all.
@@ -78,5 +96,23 @@ pub fn used(read: EventRead) -> usize
         EventRead::Arrive(_) => 8,
         EventRead::SendNext => 1,
         EventRead::Fault(_, _) => 0,
+    }
+}
+
+// The reader of recordings: the entry at the front of the rest of the input.
+pub fn read_entry(rest: &[u8]) -> EntryRead
+    ensures { λ r. ⌜ r ≡ entryAt (now (rest .entry)) ⌝ }
+{
+    let h = record::read_head(rest, Section::Recordings);
+    match h {
+        Head::Missing => EntryRead::Ended,
+        Head::Strange => EntryRead::Stops(checks::UNKNOWN_KIND, 0),
+        Head::Cut => EntryRead::Stops(checks::CUT, 0),
+        Head::Whole(kind) => {
+            if kind::gives_claim(kind) {
+                return EntryRead::Stops(checks::CLAIM, 0);
+            }
+            entry::whole_entry(rest, kind)
+        }
     }
 }

@@ -4,11 +4,14 @@ use mathlib.Core.Path.{_≡_, refl, sym, ap, ap₂, subst, _∙_}
 use Prim.Native.Nat.{ℕ, _+_, _≤_, _<_}
 use native.Mathlib.Omega.{arith}
 use lib.ListN.{length, getD}
+use Rattle.checks.proofs.Laws.{not-true-and-false}
 use Rattle.sets.specs.Set.{Both}
+use Rattle.sets.proofs.Laws.{has-empty}
 use Rattle.state.specs.declared.Account.{Account}
 use Rattle.sound.specs.Sound.{SoundLink}
 use Rattle.units.specs.declared.Bytes.{Bytes}
 use Rattle.tree.specs.declared.Tree.{Tree}
+use Rattle.tree.specs.Rules.{PlanRules}
 use Rattle.state.specs.declared.Link.{Link}
 use Rattle.state.specs.State.{meaning, linkOf}
 use Rattle.rules.specs.Active.{roundActive}
@@ -28,7 +31,11 @@ use Rattle.opening.specs.Opens.{OpensWith}
 use Rattle.steps.specs.Parts.{lentLink, lentTotals, Searched}
 use Rattle.state.proofs.Zips.{zip-at}
 pub use Rattle.active.proofs.Raised.{raised-none, raised-round}
-use Rattle.steps.specs.Rounds.{InParts, Unseen, Opens, closedLink, openLink}
+use Rattle.steps.specs.Rounds.{InParts, Kept, Unseen, Opens, closedLink, openLink}
+
+-- no set is known, and no weight sums are kept
+pub none-kept : (t : Tree) (kept : List ℕ) → PlanRules t → Kept t 0 kept
+none-kept t kept rules = record { raised = raised-none t rules; sums = λ on. absurd (not-true-and-false on (has-empty 0)) }
 
 -- the root can take the difference of the sizes when a round opens on a link
 abbrev pub CoversNext : Link → Type 0

@@ -12,6 +12,7 @@ use Rattle.state.specs.declared.Account.{Account}
 use Rattle.state.specs.declared.Link.{Link}
 use Rattle.state.specs.declared.Totals.{Totals}
 use Rattle.state.specs.Account.{balanceOf, residualOf}
+use Rattle.state.specs.Queue.{Shaped}
 use Rattle.tree.specs.Sum.{table}
 use Rattle.state.specs.State.{meaning, linkOf}
 use Rattle.tree.proofs.Tables.{table-same, table-at}
@@ -58,6 +59,16 @@ tree-parts t many weight is =
     (table-same (λ i. record { 0 = getD weight i 0 }) (λ i. getD (t .weight) i noWeight) 64
     (λ i u. ap (λ (n : ℕ). record { 0 = n }) (ap (λ (ns : List ℕ). getD ns i 0) is ∙ table-at (weightOf t) 0 64 i u))
     ∙ list-table noWeight (t .weight) 64 many)
+
+-- and so is a link
+pub apart-is : (l : Link) (t : Tree) (b r : List ℕ) → t ≡ l .tree → Shaped l → b ≡ table (balanceOf (l .accounts)) 64
+    → r ≡ table (residualOf (l .accounts)) 64
+    → lentLink t (l .size) (l .active) (l .place) b r (l .start) (l .held) (l .lengths) (l .tags) (l .totals .packets)
+    (l .totals .bytes) ≡ l
+apart-is l t b r same shape x y =
+    ap₂ (λ (t : Tree) (xs : List Account). linkOf t (l .size) (l .active) (l .place) xs (l .start) (l .held) (l .lengths) (l .tags)
+    (l .totals)) same
+    (in-lists (l .accounts) (shape .accounts) b r x y)
 
 module _
     {t : Tree} (lent : Tree) (same : lent ≡ t) {size : Bytes} {active place : ℕ} {accounts : List Account}

@@ -1,6 +1,5 @@
 -- Laws of a run read window by window.
 pub mod Longer
-pub mod Plans
 pub mod Begins
 pub mod Ends
 pub mod Carried

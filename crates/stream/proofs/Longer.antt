@@ -1,5 +1,5 @@
--- An event that stands whole at the front of some bytes is the same with more bytes after them, and so is an unknown kind; only where there is
--- no byte, or a record is cut, more bytes change what is read (R244). Demand 1.
+-- An event that stands whole at the front of some bytes is the same with more bytes after them, and so is an unknown kind; only where there
+-- is no byte, or a record is cut, more bytes change what is read (R244). Demand 1.
 use mathlib.Core.Bool.{Bool, true, false, not}
 use mathlib.Core.List.{List, _++_}
 use mathlib.Core.Path.{_≡_, refl, sym, ap, _∙_}
@@ -18,6 +18,7 @@ use Rattle.plan.specs.Kind.{recordKind, standsIn, givesArrival}
 use Rattle.plan.specs.Record.{kindAt, missing, unknown, cut, bodyOf}
 use Rattle.plan.specs.Event.{arrivedOf, eventOf, eventAt}
 use Rattle.plan.proofs.Records.{whole-length, there-length}
+use Rattle.plan.proofs.Longer.{same-kind, same-there, same-unknown, same-cut, same-body}
 use Rattle.plan.proofs.EventLaws.{event-end, event-unknown, event-cut, event-whole, event-arrival, event-send}
 use Rattle.stream.specs.Window.{waitsForMore, unfinishedAt}
 
@@ -29,40 +30,15 @@ isCall SendNext = true
 isCall (Fault n p) = false
 
 module _ (xs ys : List ℕ) where
-  pub same-kind : 1 ≤ length xs → kindAt (xs ++ ys) ≡ kindAt xs
-  unfolding kindAt
-  same-kind h = ap recordKind (List·getD-append xs ys 0 0 h)
-
-  pub same-there : 1 ≤ length xs → missing (xs ++ ys) ≡ false
-  unfolding missing
-  same-there h = ne-eqb (length (xs ++ ys)) 0 (λ e. omega (arith, e, length-append xs ys))
-
-  pub same-unknown : (section : Section) → 1 ≤ length xs → unknown section (xs ++ ys) ≡ unknown section xs
-  unfolding unknown
-  same-unknown section h = ap (λ (k : RecordKind). not (standsIn section k)) (same-kind h)
-
-  pub same-cut : 1 ≤ length xs → cut xs ≡ false → cut (xs ++ ys) ≡ false
-  unfolding cut
-  same-cut h e =
-      le-ltb (length (xs ++ ys)) (1 + kindAt (xs ++ ys) .body)
-      (omega (arith, length-append xs ys, whole-length xs e, ap (λ (k : RecordKind). k .body) (same-kind h)))
-
-  pub same-body : 1 ≤ length xs → cut xs ≡ false → bodyOf (xs ++ ys) ≡ bodyOf xs
-  unfolding bodyOf
-  same-body h e =
-      ap (λ (k : RecordKind). take (k .body) (drop 1 (xs ++ ys))) (same-kind h)
-      ∙ ap (take (kindAt xs .body)) (drop-append-le 1 xs ys h)
-      ∙ take-append-le (kindAt xs .body) (drop 1 xs) ys (omega (arith, length-drop 1 xs, whole-length xs e))
-
   same-event : 1 ≤ length xs → cut xs ≡ false → eventOf (xs ++ ys) ≡ eventOf xs
   same-event h e = go (givesArrival (kindAt xs)) refl
     where
       gives : (b : Bool) → givesArrival (kindAt xs) ≡ b → givesArrival (kindAt (xs ++ ys)) ≡ b
-      gives b g = ap givesArrival (same-kind h) ∙ g
+      gives b g = ap givesArrival (same-kind xs ys h) ∙ g
 
       go : (b : Bool) → givesArrival (kindAt xs) ≡ b → eventOf (xs ++ ys) ≡ eventOf xs
       go true g =
-          event-arrival (xs ++ ys) (gives true g) ∙ ap (λ (body : List ℕ). Arrive (arrivedOf body)) (same-body h e)
+          event-arrival (xs ++ ys) (gives true g) ∙ ap (λ (body : List ℕ). Arrive (arrivedOf body)) (same-body xs ys h e)
           ∙ sym (event-arrival xs g)
       go false g = event-send (xs ++ ys) (gives false g) ∙ sym (event-send xs g)
 
@@ -79,7 +55,8 @@ module _ (xs ys : List ℕ) where
       go false m false u true k = absurd (none (event-cut xs p m u k) refl)
       go false m false u false k =
           let h = there-length xs m in
-          event-whole (xs ++ ys) q (same-there h) (same-unknown Events h ∙ u) (same-cut h k) ∙ same-event h k ∙ sym (event-whole xs p m u k)
+          event-whole (xs ++ ys) q (same-there xs ys h) (same-unknown xs ys Events h ∙ u) (same-cut xs ys h k) ∙ same-event h k
+          ∙ sym (event-whole xs p m u k)
 
   -- an event that is no call is the same, unless it waits for more
   pub last-longer : (p q : ℕ) → isCall (eventAt xs p) ≡ false → unfinishedAt xs ≡ false → eventAt (xs ++ ys) q ≡ eventAt xs q
@@ -97,7 +74,7 @@ module _ (xs ys : List ℕ) where
       go true m b u d k = absurd (waits (event-end xs 0 m) refl)
       go false m true u d k =
           let h = there-length xs m in
-          event-unknown (xs ++ ys) q (same-there h) (same-unknown Events h ∙ u) ∙ sym (event-unknown xs q m u)
+          event-unknown (xs ++ ys) q (same-there xs ys h) (same-unknown xs ys Events h ∙ u) ∙ sym (event-unknown xs q m u)
       go false m false u true k = absurd (waits (event-cut xs 0 m u k) refl)
       go false m false u false k =
           absurd (not-true-and-false (ap isCall (event-whole xs p m u k) ∙ a-call (givesArrival (kindAt xs)) refl) no-call)

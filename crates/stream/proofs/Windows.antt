@@ -29,8 +29,8 @@ use Rattle.stream.specs.Window.{lastBytes, unended, InWindow, unfinished
 use Rattle.stream.specs.Window.WindowOn.{last, then}
 use Rattle.stream.specs.Window.StreamOn.{whole, ends, next}
 use Rattle.stream.proofs.Ends.{window-inside}
-use Rattle.stream.proofs.Plans.{begin-window}
 use Rattle.stream.proofs.Longer.{isCall, call-longer, last-longer}
+use Rattle.stream.proofs.Begins.{begin-window}
 
 -- the lines from a place on, by the event that stands there
 lines-by : (l : Link) (input : List ℕ) (place : ℕ) (e : EventRead) → eventAt (drop place input) place ≡ e

@@ -38,18 +38,19 @@ module _ (leaf : Bool) (p w l : ℕ) (z : List ℕ) where
   abbrev rest : List ℕ
   rest = recordBytes leaf p w l ++ z
 
-  pub written-kind : kindAt rest ≡ cond leaf (kindRow 7 true false Leaf) (kindRow 5 true false Inner)
+  pub written-kind : kindAt rest ≡ cond leaf (kindRow 7 true false false Leaf) (kindRow 5 true false false Inner)
   unfolding kindAt recordKind
   written-kind = go leaf
     where
-      go : (b : Bool) → recordKind (byteAt (recordBytes b p w l ++ z) 0) ≡ cond b (kindRow 7 true false Leaf) (kindRow 5 true false Inner)
+      go : (b : Bool) → recordKind (byteAt (recordBytes b p w l ++ z) 0) ≡ cond b (kindRow 7 true false false Leaf)
+          (kindRow 5 true false false Inner)
       go true = refl
       go false = refl
 
   pub written-body : 1 + kindAt rest .body ≡ length (recordBytes leaf p w l)
   written-body = ap (λ (k : RecordKind). 1 + k .body) written-kind ∙ body leaf ∙ sym (record-length leaf p w l)
     where
-      body : (b : Bool) → 1 + cond b (kindRow 7 true false Leaf) (kindRow 5 true false Inner) .body ≡ cond b 8 6
+      body : (b : Bool) → 1 + cond b (kindRow 7 true false false Leaf) (kindRow 5 true false false Inner) .body ≡ cond b 8 6
       body true = refl
       body false = refl
 
@@ -64,7 +65,7 @@ module _ (leaf : Bool) (p w l : ℕ) (z : List ℕ) where
   unfolding unknown
   written-known = ap (λ (k : RecordKind). not (k .plan)) written-kind ∙ go leaf
     where
-      go : (b : Bool) → not (cond b (kindRow 7 true false Leaf) (kindRow 5 true false Inner) .plan) ≡ false
+      go : (b : Bool) → not (cond b (kindRow 7 true false false Leaf) (kindRow 5 true false false Inner) .plan) ≡ false
       go true = refl
       go false = refl
 
@@ -75,7 +76,7 @@ module _ (leaf : Bool) (p w l : ℕ) (z : List ℕ) where
   pub written-gives : givesClass (kindAt rest) ≡ true
   written-gives = ap givesClass written-kind ∙ go leaf
     where
-      go : (b : Bool) → givesClass (cond b (kindRow 7 true false Leaf) (kindRow 5 true false Inner)) ≡ true
+      go : (b : Bool) → givesClass (cond b (kindRow 7 true false false Leaf) (kindRow 5 true false false Inner)) ≡ true
       go true = refl
       go false = refl
 
@@ -104,14 +105,14 @@ Bytes s = (i : ℕ) → byteAt s i < 256
 class-kind : (byte : ℕ) → givesClass (recordKind byte) ≡ true → (byte ≡ 1) ⊎ (byte ≡ 2)
 class-kind =
     kind-cases (λ (byte : ℕ) (k : RecordKind). givesClass k ≡ true → (byte ≡ 1) ⊎ (byte ≡ 2)) none (λ e. inl refl) (λ e. inr refl) none none
-    none (λ byte. none)
+    none none none (λ byte. none)
   where
     none : {A : Type 0} → false ≡ true → A
     none e = absurd (not-true-and-false e refl)
 
 rule-kind : (byte : ℕ) → givesRule (recordKind byte) ≡ true → byte ≡ 3
 rule-kind =
-    kind-cases (λ (byte : ℕ) (k : RecordKind). givesRule k ≡ true → byte ≡ 3) none none none (λ e. refl) none none (λ byte. none)
+    kind-cases (λ (byte : ℕ) (k : RecordKind). givesRule k ≡ true → byte ≡ 3) none none none (λ e. refl) none none none none (λ byte. none)
   where
     none : {A : Type 0} → false ≡ true → A
     none e = absurd (not-true-and-false e refl)
@@ -120,20 +121,22 @@ end-kind : (byte : ℕ) → not (recordKind byte .plan) ≡ false → givesClass
     → byte ≡ 0
 end-kind =
     kind-cases (λ (byte : ℕ) (k : RecordKind). not (k .plan) ≡ false → givesClass k ≡ false → givesRule k ≡ false → byte ≡ 0)
-    (λ p c r. refl) (λ p c r. none c) (λ p c r. none c) (λ p c r. none r) (λ p c r. none p) (λ p c r. none p) (λ byte p c r. none p)
+    (λ p c r. refl) (λ p c r. none c) (λ p c r. none c) (λ p c r. none r) (λ p c r. none p) (λ p c r. none p) (λ p c r. none p)
+    (λ p c r. none p)
+    (λ byte p c r. none p)
   where
     none : {A : Type 0} → true ≡ false → A
     none e = absurd (not-true-and-false refl e)
 
-kind-1 : recordKind 1 ≡ kindRow 5 true false Inner
+kind-1 : recordKind 1 ≡ kindRow 5 true false false Inner
 unfolding recordKind
 kind-1 = refl
 
-kind-2 : recordKind 2 ≡ kindRow 7 true false Leaf
+kind-2 : recordKind 2 ≡ kindRow 7 true false false Leaf
 unfolding recordKind
 kind-2 = refl
 
-kind-3 : recordKind 3 ≡ kindRow 1 true false Rule
+kind-3 : recordKind 3 ≡ kindRow 1 true false false Rule
 unfolding recordKind
 kind-3 = refl
 
@@ -197,11 +200,11 @@ class-back rest g w h = go (class-kind (byteAt rest 0) g)
 
     go : (byteAt rest 0 ≡ 1) ⊎ (byteAt rest 0 ≡ 2) → take (1 + kindAt rest .body) rest ≡ recordOf (classAt rest)
     go (inl e) =
-        let k : recordKind (byteAt rest 0) ≡ kindRow 5 true false Inner = ap recordKind e ∙ kind-1 in
-        rw k (back-inner rest e (long (kindRow 5 true false Inner) k) h)
+        let k : recordKind (byteAt rest 0) ≡ kindRow 5 true false false Inner = ap recordKind e ∙ kind-1 in
+        rw k (back-inner rest e (long (kindRow 5 true false false Inner) k) h)
     go (inr e) =
-        let k : recordKind (byteAt rest 0) ≡ kindRow 7 true false Leaf = ap recordKind e ∙ kind-2 in
-        rw k (back-leaf rest e (long (kindRow 7 true false Leaf) k) h)
+        let k : recordKind (byteAt rest 0) ≡ kindRow 7 true false false Leaf = ap recordKind e ∙ kind-2 in
+        rw k (back-leaf rest e (long (kindRow 7 true false false Leaf) k) h)
 
 -- the end record
 pub end-back : (rest : List ℕ) → missing rest ≡ false → unknown Plan rest ≡ false → givesClass (kindAt rest) ≡ false
@@ -214,11 +217,12 @@ end-back rest m u c r = one rest (there-length rest m) (end-kind (byteAt rest 0)
     one (a ∷ z) h e = ap (λ (x : ℕ). x ∷ []) e
 
 -- the rule record
-pub rule-back : (rest : List ℕ) → givesRule (kindAt rest) ≡ true → cut rest ≡ false → take (1 + kindAt rest .body) rest ≡ 3 ∷ ruleOf rest ∷ []
+pub rule-back : (rest : List ℕ) → givesRule (kindAt rest) ≡ true → cut rest ≡ false
+    → take (1 + kindAt rest .body) rest ≡ 3 ∷ ruleOf rest ∷ []
 unfolding kindAt ruleOf bodyOf
 rule-back rest g w =
     let e = rule-kind (byteAt rest 0) g in
-    let k : recordKind (byteAt rest 0) ≡ kindRow 1 true false Rule = ap recordKind e ∙ kind-3 in
+    let k : recordKind (byteAt rest 0) ≡ kindRow 1 true false false Rule = ap recordKind e ∙ kind-3 in
     let long : 2 ≤ length rest = omega (arith, ap (λ (x : RecordKind). x .body) k, whole-length rest w) in
     rw k (two rest long e)
   where

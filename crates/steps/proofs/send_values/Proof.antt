@@ -1,16 +1,10 @@
 -- `steps::send_values` meets its contract.
-use mathlib.Core.List.{List}
 use mathlib.Core.Path.{_≡_, refl}
-use Prim.Native.Nat.{ℕ}
 use lib.ListN.{length}
-use Rattle.checks.proofs.Laws.{not-true-and-false}
-use Rattle.sets.proofs.Laws.{has-empty}
 use Rattle.tree.specs.declared.Tree.{Tree}
-use Rattle.tree.specs.Rules.{PlanRules}
 use Rattle.steps.specs.Parts.{lentTree}
-use Rattle.steps.specs.Rounds.{Kept}
 use Rattle.state.proofs.Shapes.{tree-weights}
-use Rattle.steps.proofs.Rounding.{raised-none}
+use Rattle.steps.proofs.Rounding.{none-kept}
 use Rattle.steps.proofs.Wholes.{tree-parts, values-parts, values-wide, values-moves}
 use borrow.Author.Needs.{needs}
 use Rattle.steps.proofs.send_values.Statement.{statement}
@@ -19,10 +13,6 @@ use Rattle.steps.proofs.send_values.Tie as tie
 -- there are as many accounts as class numbers
 many : (c : tie.Start) → length (c .args .accounts) ≡ 64
 many c = c .good .1 .1 .1 .1 .0 .1 .0 .1
-
--- no set is known, and no weight sums are kept
-none-kept : (t : Tree) (kept : List ℕ) → PlanRules t → Kept t 0 kept
-none-kept t kept rules = record { raised = raised-none t rules; sums = λ on. absurd (not-true-and-false on (has-empty 0)) }
 
 -- the tree in its parts is the tree
 abbrev lent : tie.After-weight-numbers → Tree

@@ -1,6 +1,6 @@
 -- `in_place::part_of` meets its contract: the link of the locals is the link after the events before the place, and their lines are laid.
 use mathlib.Core.Bool.{true, _&&_}
-use mathlib.Core.Path.{_≡_, refl, sym, subst, _∙_}
+use mathlib.Core.Path.{_≡_, sym, subst, _∙_}
 use Prim.Native.Nat.{_+_, _≤_}
 use native.Mathlib.Omega.{arith}
 use denote.Ref.{now}
@@ -16,11 +16,10 @@ use Rattle.sound.specs.Sound.{SoundLink}
 use Rattle.lines.specs.Line.{lineRoom}
 use Rattle.steps.specs.Parts.{lentLink, lentTree}
 use Rattle.steps.specs.Rounds.{Kept}
-use Rattle.steps.proofs.Wholes.{tree-parts}
+use Rattle.steps.proofs.Wholes.{tree-parts, apart-is}
 use Rattle.parts.specs.Steps.{Taken}
 use Rattle.run.proofs.Lines.{stepsLeft, steps-less, next-on}
 use Rattle.parts.proofs.Parts.{Laying, laying-starts, laying-on, laying-ends}
-use Rattle.parts.proofs.Happenings.{apart-is}
 use borrow.Author.Needs.{needs}
 use borrow.Author.Tests.{leb-true}
 use Rattle.parts.proofs.in_place.part_of.Statement.{statement}

@@ -52,17 +52,34 @@ kind-row-requires-7 c κs = search needs
 
 returns-7 : tie.Need-returns-7
 unfolding recordKind
-returns-7 c =
+returns-7 c = rw (c .before .match .keys7) (c .kind-row7 .ensures)
+
+kind-row-requires-8 : tie.Need-kind-row-requires-8
+kind-row-requires-8 c κs = search needs
+
+returns-8 : tie.Need-returns-8
+unfolding recordKind
+returns-8 c = rw (c .before .match .keys8) (c .kind-row8 .ensures)
+
+kind-row-requires-9 : tie.Need-kind-row-requires-9
+kind-row-requires-9 c κs = search needs
+
+returns-9 : tie.Need-returns-9
+unfolding recordKind
+returns-9 c =
     let r = c .before .match .rest in
+    let q = r .0 .0 in
     rw (
-      ne-eqb _ _ (r .0 .0 .0 .0 .0 .1),
-      ne-eqb _ _ (r .0 .0 .0 .0 .1),
-      ne-eqb _ _ (r .0 .0 .0 .1),
-      ne-eqb _ _ (r .0 .0 .1),
+      ne-eqb _ _ (q .0 .0 .0 .0 .0 .1),
+      ne-eqb _ _ (q .0 .0 .0 .0 .1),
+      ne-eqb _ _ (q .0 .0 .0 .1),
+      ne-eqb _ _ (q .0 .0 .1),
+      ne-eqb _ _ (q .0 .1),
+      ne-eqb _ _ (q .1),
       ne-eqb _ _ (r .0 .1),
       ne-eqb _ _ (r .1),
     )
-    (c .kind-row7 .ensures)
+    (c .kind-row9 .ensures)
 
 pub record-kind-spec : {M : Type 1} → statement M
 record-kind-spec =
@@ -75,10 +92,14 @@ record-kind-spec =
     kind-row-requires-5
     kind-row-requires-6
     kind-row-requires-7
+    kind-row-requires-8
+    kind-row-requires-9
     returns
     returns-2
     returns-3
     returns-4
     returns-5
     returns-6
-    returns-7)
+    returns-7
+    returns-8
+    returns-9)

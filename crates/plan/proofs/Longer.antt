@@ -1,26 +1,29 @@
--- The plan of an input stands in its first 514 bytes: no bytes after those change what the reader says of it (R246). Demand 1.
+-- Bytes with more bytes after them: a record that stands whole in them is the same, and the plan of an input stands in its first 514 bytes,
+-- so that no bytes after those change what the reader says of it (R246). Demand 1.
 use mathlib.Core.Bool.{Bool, true, false, cond, not, _&&_, _||_}
 use mathlib.Core.List.{List, [], _∷_, _++_, append-nil}
 use mathlib.Core.Path.{_≡_, refl, sym, ap, ap₂, _∙_}
 use Prim.Native.Nat.{ℕ, zero, suc, _+_, _*_, _≤_, _<_}
 use native.Mathlib.Omega.{arith}
-use lib.Dec.{eqb}
-use lib.ListN.{length, drop, length-drop}
-use lib.Seq.{drop-append-le}
-use borrow.Author.Tests.{le-ltb, ne-eqb}
+use lib.Dec.{eqb, leb}
+use lib.ListN.{length, take, drop, length-append, length-drop, List·getD-append}
+use lib.Seq.{take-append-le, drop-append-le}
+use borrow.Author.Tests.{le-ltb, ne-eqb, leb-true}
 use Rattle.checks.specs.declared.Verdict.{Verdict}
+use Rattle.checks.specs.declared.Verdict.the-variants.{Passed}
 use Rattle.checks.specs.Check.{Check, check, firstBroken, passed}
 use Rattle.checks.proofs.Laws.{pass-over}
 use Rattle.tree.specs.declared.Tree.{Tree}
 use Rattle.tree.specs.declared.Class.{Class}
 use Rattle.tree.specs.Class.{noTree, ruled, added}
 use Rattle.tree.specs.Rules.{closingChecks}
 use Rattle.plan.specs.declared.PlanRead.{PlanRead}
 use Rattle.plan.specs.declared.kind.RecordKind.{RecordKind}
+use Rattle.plan.specs.declared.kind.Section.{Section}
 use Rattle.plan.specs.declared.kind.Section.the-variants.{Plan}
-use Rattle.plan.specs.Kind.{recordKind, givesClass, givesLeaf, givesRule}
+use Rattle.plan.specs.Kind.{recordKind, standsIn, givesClass, givesLeaf, givesRule}
 use Rattle.plan.specs.Record.{byteAt, kindAt, missing, unknown, cut, bodyOf, ruleOf, lateRule, badRule, classOf, classAt}
 use Rattle.plan.specs.Reader.{
   headChecks,
   ruleChecks,
   newClassChecks,
@@ -38,38 +41,57 @@ use Rattle.plan.specs.Reader.{
   outcome,
   planOf,
 }
-use Rattle.plan.proofs.Records.{rule-body}
+use Rattle.plan.specs.Rows.{restOf}
+use Rattle.plan.proofs.Records.{kind-cases, rule-body, whole-length, there-length}
 use Rattle.plan.proofs.Reading.{first-parts}
-use Rattle.plan.proofs.Numbers.{deciding}
-use Rattle.run.specs.Run.{planGives, beginOf}
-use Rattle.stream.proofs.Longer.{same-kind, same-there, same-unknown, same-cut, same-body}
+use Rattle.plan.proofs.Numbers.{deciding, accepted}
+
+-- ---- a record
+
+module _ (xs ys : List ℕ) where
+  pub same-kind : 1 ≤ length xs → kindAt (xs ++ ys) ≡ kindAt xs
+  unfolding kindAt
+  same-kind h = ap recordKind (List·getD-append xs ys 0 0 h)
+
+  pub same-there : 1 ≤ length xs → missing (xs ++ ys) ≡ false
+  unfolding missing
+  same-there h = ne-eqb (length (xs ++ ys)) 0 (λ e. omega (arith, e, length-append xs ys))
+
+  pub same-unknown : (section : Section) → 1 ≤ length xs → unknown section (xs ++ ys) ≡ unknown section xs
+  unfolding unknown
+  same-unknown section h = ap (λ (k : RecordKind). not (standsIn section k)) (same-kind h)
+
+  pub same-cut : 1 ≤ length xs → cut xs ≡ false → cut (xs ++ ys) ≡ false
+  unfolding cut
+  same-cut h e =
+      le-ltb (length (xs ++ ys)) (1 + kindAt (xs ++ ys) .body)
+      (omega (arith, length-append xs ys, whole-length xs e, ap (λ (k : RecordKind). k .body) (same-kind h)))
+
+  pub same-body : 1 ≤ length xs → cut xs ≡ false → bodyOf (xs ++ ys) ≡ bodyOf xs
+  unfolding bodyOf
+  same-body h e =
+      ap (λ (k : RecordKind). take (k .body) (drop 1 (xs ++ ys))) (same-kind h)
+      ∙ ap (take (kindAt xs .body)) (drop-append-le 1 xs ys h)
+      ∙ take-append-le (kindAt xs .body) (drop 1 xs) ys (omega (arith, length-drop 1 xs, whole-length xs e))
 
 -- no body has more than 7 bytes
-body-most : (byte : ℕ) → recordKind byte .body ≤ 7
-unfolding recordKind
-body-most byte =
-    either (eqb byte 0) _ _ (omega arith)
-    (either (eqb byte 1) _ _ (omega arith)
-    (either (eqb byte 2) _ _ (omega arith)
-    (either (eqb byte 3) _ _ (omega arith)
-    (either (eqb byte 16) _ _ (omega arith)
-    (either (eqb byte 17) _ _ (omega arith) (omega arith))))))
-  where
-    either : (b : Bool) (k l : RecordKind) → k .body ≤ 7 → l .body ≤ 7 → cond b k l .body ≤ 7
-    either true k l e f = e
-    either false k l e f = f
-
-kind-most : (rest : List ℕ) → kindAt rest .body ≤ 7
+pub body-most : (rest : List ℕ) → kindAt rest .body ≤ 7
 unfolding kindAt
-kind-most rest = body-most (byteAt rest 0)
+body-most rest =
+    leb-true _ _
+    (kind-cases (λ (byte : ℕ) (k : RecordKind). leb (k .body) 7 ≡ true) refl refl refl refl refl refl refl refl (λ byte. refl)
+    (byteAt rest 0))
 
 there : (xs : List ℕ) → 8 ≤ length xs → missing xs ≡ false
 unfolding missing
 there xs h = ne-eqb (length xs) 0 (λ e. omega (arith, e))
 
-whole : (xs : List ℕ) → 8 ≤ length xs → cut xs ≡ false
+-- so a record that begins 8 bytes or more before the end is whole
+pub whole : (xs : List ℕ) → 8 ≤ length xs → cut xs ≡ false
 unfolding cut
-whole xs h = le-ltb (length xs) (1 + kindAt xs .body) (omega (arith, kind-most xs))
+whole xs h = le-ltb (length xs) (1 + kindAt xs .body) (omega (arith, body-most xs))
+
+-- ---- a plan
 
 -- what is asked of a record after its kind byte was found, and of one that is whole
 laterChecks : Bool → Bool → ℕ → List Check → List Check
@@ -192,7 +214,7 @@ module _ (window rest : List ℕ) (long : 514 ≤ length window) where
       ap (λ (n : ℕ). kindAt (drop n input)) (ih .0) ∙ ap kindAt (rest-is (after window k) low)
       ∙ same-kind xs rest (omega (arith, eight (after window k) low))
       in
-      (ap₂ (λ (n : ℕ) (r : RecordKind). n + 1 + r .body) (ih .0) kind, omega (arith, ih .1, kind-most xs))
+      (ap₂ (λ (n : ℕ) (r : RecordKind). n + 1 + r .body) (ih .0) kind, omega (arith, ih .1, body-most xs))
 
   at-most : (k : ℕ) → k ≤ 63 → after window k ≤ 506
   at-most k few = omega (arith, same-after k (omega (arith, few)) .1)
@@ -224,7 +246,8 @@ module _ (window rest : List ℕ) (long : 514 ≤ length window) where
   same-passes : (k : ℕ) → k ≤ 63 → passes input k ≡ passes window k
   unfolding passes
   same-passes k few =
-      let checks = ap firstBroken (sym (append-nil (checksOf input k))) ∙ same-checks k few [] ∙ ap firstBroken (append-nil (checksOf window k)) in
+      let checks = ap firstBroken (sym (append-nil (checksOf input k))) ∙ same-checks k few []
+      ∙ ap firstBroken (append-nil (checksOf window k)) in
       ap₂ (λ (r : RecordKind) (v : Verdict). givesClass r && passed v) (kind-is k few) checks
 
   same-over : passedOver input ≡ passedOver window
@@ -244,7 +267,14 @@ module _ (window rest : List ℕ) (long : 514 ≤ length window) where
       ∙ ap₂ (λ (t : Tree) (n : ℕ). outcome (firstBroken (decidingChecks window k)) t (n + 1)) (same-tree k (omega (arith, few)))
       (same-after k (omega (arith, few)) .0)
 
-  -- and so a run begins as the window's does
-  pub begin-window : beginOf input ≡ beginOf window
-  unfolding beginOf
-  begin-window = ap (λ (r : PlanRead). planGives (r .verdict) r) plan-window
+-- the bytes that an accepted plan used are bytes of the input
+pub plan-inside : (s : List ℕ) → planOf s .verdict ≡ Passed → planOf s .used ≤ length s
+plan-inside s e =
+    let a = accepted s e in
+    let k = passedOver s in
+    omega (
+      arith,
+      ap (λ (r : PlanRead). r .used) (a .answer),
+      there-length (restOf s k) (a .ended .record′ .there),
+      length-drop (after s k) s,
+    )

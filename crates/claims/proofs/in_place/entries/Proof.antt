@@ -1,0 +1,246 @@
+-- `in_place::entries` meets its contract: the link of the locals is the link after the entries before the place.
+use mathlib.Core.Bool.{true}
+use mathlib.Core.List.{List}
+use mathlib.Core.Path.{_≡_, sym, ap, ap₂, subst, _∙_}
+use Prim.Native.Nat.{ℕ, _+_, _-_, _<_}
+use native.Mathlib.Omega.{arith}
+use denote.Ref.{now}
+use lib.ListN.{length, take, drop, length-drop}
+use lib.Seq.{take-all}
+use Rattle.tree.proofs.Classes.{both-true}
+use Rattle.tree.specs.declared.Tree.{Tree}
+use Rattle.plan.specs.Entry.{entryAt}
+use Rattle.state.specs.declared.Link.{Link}
+use Rattle.state.specs.Queue.{Shaped}
+use Rattle.state.proofs.Shapes.{shaped, link-weights}
+use Rattle.sound.specs.Sound.{SoundLink}
+use Rattle.steps.specs.Parts.{lentLink, lentTree}
+use Rattle.steps.proofs.Wholes.{tree-parts, apart-is}
+use Rattle.claims.specs.declared.Checked.{Checked}
+use Rattle.claims.specs.declared.in_place.Did.{Did}
+use Rattle.claims.specs.Recording.{goesOn, takesOne}
+use Rattle.claims.specs.Steps.{checkedBy, Enters, PartDone}
+use Rattle.claims.proofs.Checking.{wayAt, Loop, loop-starts, loop-on, loop-ends, leftOf, left-less, test-same}
+use borrow.Author.Needs.{needs}
+use Rattle.claims.proofs.in_place.entries.Statement.{statement}
+use Rattle.claims.proofs.in_place.entries.Tie as tie
+
+abbrev Inv-loop : tie.InvT-loop
+Inv-loop part place claims last tree parent weight longest balance₀ residual₀ start₀ held₀ lengths₀ tags₀ packets₀ bytes₀ kept s₀
+    balance residual start held lengths tags packets bytes s =
+    let lent = lentTree (tree .count) (tree .leaves) parent weight longest (tree .follows) in
+    let link = lentLink lent (s .size) (s .active) (s .visit) balance residual start held lengths tags packets bytes in
+    Loop last place claims part
+    (checkedBy s₀ (lentLink lent (s₀ .size) (s₀ .active) (s₀ .visit) balance₀ residual₀ start₀ held₀ lengths₀ tags₀ packets₀ bytes₀))
+    (checkedBy s link)
+    × Shaped link
+
+abbrev μ-loop : tie.MeasureT-loop
+μ-loop part place claims last tree parent weight longest balance₀ residual₀ start₀ held₀ lengths₀ tags₀ packets₀ bytes₀ kept s₀
+    balance residual start held lengths tags packets bytes s =
+    leftOf (s .more) (place + length part - s .place)
+
+-- what is handed on is what follows
+handed : (s : List ℕ) (k : ℕ) → take (length s - k) (drop k s) ≡ drop k s
+handed s k = take-all (length s - k) (drop k s) (omega (arith, length-drop k s))
+
+-- where the link was handed in
+abbrev handedIn : tie.After-weight-numbers Inv-loop μ-loop → tie.Start Inv-loop μ-loop
+handedIn c = c .before .before .before .before .before
+
+-- the tree in its parts is the tree
+abbrev lent : tie.After-weight-numbers Inv-loop μ-loop → Tree
+lent c =
+    let t = handedIn c .args .link .tree in
+    lentTree (t .count) (t .leaves) (t .parent) (c .weight-numbers .result) (t .longest) (t .follows)
+
+same : (c : tie.After-weight-numbers Inv-loop μ-loop) → lent c ≡ handedIn c .args .link .tree
+same c =
+    let l = handedIn c .args .link in
+    tree-parts (l .tree) (link-weights l _ (handedIn c .good .0)) (c .weight-numbers .result) (c .weight-numbers .ensures)
+
+-- where the link lies in its parts
+abbrev weighed : tie.After-residuals Inv-loop μ-loop → tie.After-weight-numbers Inv-loop μ-loop
+weighed c = c .before .before .before .before
+
+abbrev lying : tie.After-goes-on Inv-loop μ-loop → tie.After-residuals Inv-loop μ-loop
+lying c = c .before .before .before .before .before .before .before .before
+
+abbrev first : tie.After-goes-on Inv-loop μ-loop → tie.Start Inv-loop μ-loop
+first c = handedIn (weighed (lying c))
+
+-- with the numbers that the check began with they are the link
+abbrev apart : tie.After-goes-on Inv-loop μ-loop → Did → Link
+apart c d =
+    let l = first c .args .link in
+    lentLink (lent (weighed (lying c))) (d .size) (d .active) (d .visit) (lying c .before .balances .result) (lying c .residuals .result)
+    (l .start) (l .held) (l .lengths) (l .tags) (l .totals .packets) (l .totals .bytes)
+
+whole : (c : tie.After-goes-on Inv-loop μ-loop) → apart c (c .goes-on .result) ≡ first c .args .link
+whole c =
+    let st = first c in
+    ap (apart c) (c .goes-on .ensures)
+    ∙ apart-is (st .args .link) (lent (weighed (lying c))) _ _ (same (weighed (lying c))) (shaped (st .args .link) _ (st .good .0))
+    (lying c .before .balances .ensures) (lying c .residuals .ensures)
+
+starts : (c : tie.After-goes-on Inv-loop μ-loop)
+    → checkedBy (c .goes-on .result) (apart c (c .goes-on .result))
+    ≡ goesOn (first c .args .link) (first c .args .place) (first c .args .claims)
+starts c = ap₂ checkedBy (c .goes-on .ensures) (whole c)
+
+-- where the loop began, the link of the locals, and how far the check has come
+abbrev begun : tie.At-loop Inv-loop μ-loop → tie.Start Inv-loop μ-loop
+begun h = first (h .before)
+
+abbrev linkNow : tie.At-loop Inv-loop μ-loop → Tree → Link
+linkNow h t =
+    let v = h .loop in
+    lentLink t (v .s .size) (v .s .active) (v .s .visit) (v .balance) (v .residual) (v .start) (v .held) (v .lengths) (v .tags)
+    (v .packets) (v .bytes)
+
+abbrev sofar : tie.At-loop Inv-loop μ-loop → Checked
+sofar h = checkedBy (h .loop .s) (linkNow h (lent (weighed (lying (h .before)))))
+
+-- one entry more is judged
+abbrev looked : tie.Then1 Inv-loop μ-loop → tie.At-loop Inv-loop μ-loop
+looked t = t .before .before .before
+
+taken : (t : tie.Then1 Inv-loop μ-loop)
+    → let a = begun (looked t) .args in takesOne (a .last) (wayAt (a .place) (now (a .part)) (sofar (looked t))) ≡ true
+taken t =
+    let a = begun (looked t) .args in
+    sym (test-same (a .last) (a .place) (now (a .part)) (sofar (looked t))) ∙ sym (t .before .takes-one .ensures) ∙ t .if1 .taken
+
+-- where the entry that was judged was taken
+abbrev took : tie.After-entry Inv-loop μ-loop → tie.Then1 Inv-loop μ-loop
+took c = c .before .before .before .before .before .before .before .before .before .before .before .before .before .before .before
+
+-- what follows is handed on
+follows : (c : tie.After-entry Inv-loop μ-loop) {l after : Link} {place claims : ℕ} {r : Did}
+    → let h = looked (took c) in
+    let s = now (begun h .args .part) in
+    let k = h .loop .s .place - begun h .args .place in
+    Enters l place claims (entryAt (take (length s - k) (drop k s))) r after → Enters l place claims (entryAt (drop k s)) r after
+follows c {l} {after} {place} {claims} {r} e =
+    let h = looked (took c) in
+    subst (λ (rest : List ℕ). Enters l place claims (entryAt rest) r after)
+    (handed (now (begun h .args .part)) (h .loop .s .place - begun h .args .place)) e
+
+weight-numbers-requires : tie.Need-weight-numbers-requires Inv-loop μ-loop
+weight-numbers-requires c κs = search needs
+
+balances-requires : tie.Need-balances-requires Inv-loop μ-loop
+balances-requires c κs = search needs
+
+residuals-requires : tie.Need-residuals-requires Inv-loop μ-loop
+residuals-requires c κs = search needs
+
+goes-on-requires : tie.Need-goes-on-requires Inv-loop μ-loop
+goes-on-requires c κs = search needs
+
+loop-holds : tie.Need-loop-holds Inv-loop μ-loop
+loop-holds c =
+    let st = first c in
+    let a = st .args in (
+      loop-starts (a .last) (a .link) (a .place) (a .claims) (now (a .part)) _ (starts c) (st .pre .0),
+      subst Shaped (sym (whole c)) (shaped (a .link) _ (st .good .0)),
+    )
+
+sub-takes-one : tie.Need-sub-takes-one Inv-loop μ-loop
+sub-takes-one c = c .before .loop .inv .0 .forward
+
+sub-takes-one-2 : tie.Need-sub-takes-one-2 Inv-loop μ-loop
+sub-takes-one-2 c = let i = c .before .loop .inv .0 in omega (arith, i .forward, i .within)
+
+takes-one-requires : tie.Need-takes-one-requires Inv-loop μ-loop
+takes-one-requires c κs = search needs
+
+sub-at : tie.Need-sub-at Inv-loop μ-loop
+sub-at c = c .before .before .before .before .loop .inv .0 .forward
+
+-- where the loop stood when its parts were lent
+abbrev reached : tie.After-bytes2 Inv-loop μ-loop → tie.At-loop Inv-loop μ-loop
+reached c =
+    c .before .before .before .before .before .before .before .before .before .before .before .before .before .before .before .before
+
+sub-entry : tie.Need-sub-entry Inv-loop μ-loop
+sub-entry c = let i = reached c .loop .inv .0 in omega (arith, i .forward, i .within)
+
+part-entry-start : tie.Need-part-entry-start Inv-loop μ-loop
+part-entry-start c = let i = reached c .loop .inv .0 in omega (arith, i .forward, i .within)
+
+part-entry-end : tie.Need-part-entry-end Inv-loop μ-loop
+part-entry-end c = search needs
+
+entry-requires : tie.Need-entry-requires Inv-loop μ-loop
+entry-requires c κs =
+    let h = c .before .before .before .before .before .before .before .before .before .before .before .before .before .before
+    .before .before .before in
+    let st = begun h in
+    let s = now (st .args .part) in
+    let i = h .loop .inv .0 in
+    let follow = handed s (h .loop .s .place - st .args .place) in
+    let many = length-drop (h .loop .s .place - st .args .place) s in (
+      i .sound,
+      h .loop .inv .1,
+      rw follow (omega (arith, i .forward, i .within, st .pre .1, many)),
+      rw follow (omega (arith, i .forward, i .within, i .counted, st .pre .2, many)),
+    )
+
+loop-less : tie.Need-loop-less Inv-loop μ-loop
+loop-less c =
+    let t = took c in
+    let h = looked t in
+    let a = begun h .args in
+    let d = follows c (c .entry .ensures) in
+    let on = loop-on (a .last) (a .place) (a .claims) (now (a .part)) _ (sofar h) _ (h .loop .inv .0) (taken t) (d .gives) (d .sound) in
+    rw (both-true (h .loop .s .more) _ (taken t) .0)
+    (left-less (c .entry .result .more) (a .place + length (now (a .part)) - c .entry .result .place)
+    (a .place + length (now (a .part)) - h .loop .s .place) (λ m. omega (arith, on .1 m, on .0 .within)))
+
+loop-again : tie.Need-loop-again Inv-loop μ-loop
+loop-again c =
+    let t = took c in
+    let h = looked t in
+    let a = begun h .args in
+    let d = follows c (c .entry .ensures) in
+    (loop-on (a .last) (a .place) (a .claims) (now (a .part)) _ (sofar h) _ (h .loop .inv .0) (taken t) (d .gives) (d .sound) .0, d .shape)
+
+zipped-requires : tie.Need-zipped-requires Inv-loop μ-loop
+zipped-requires c κs = c .before .before .before .before .before .loop .inv .1 .accounts
+
+returns : tie.Need-returns Inv-loop μ-loop
+returns c =
+    let x = c .before .before .before .before in
+    let h = x .before .before .before in
+    let a = begun h .args in
+    let Done : Link → Type 0 = λ after. PartDone (a .last) (a .link) (a .place) (a .claims) (now (a .part))
+    (checkedBy (h .loop .s) after) in
+    rw (c .before .zipped .ensures)
+    (subst (λ (t : Tree). Done (linkNow h t)) (same (weighed (lying (h .before))))
+    (loop-ends (a .last) (a .link) (a .place) (a .claims) (now (a .part)) _ (sofar h) (starts (h .before)) (h .loop .inv .0)
+    (sym (test-same (a .last) (a .place) (now (a .part)) (sofar h)) ∙ sym (x .before .takes-one .ensures) ∙ x .if1 .left)))
+
+pub entries-spec : {M : Type 1} → statement M
+entries-spec =
+    tie.close
+    (tie.spec
+    Inv-loop
+    μ-loop
+    weight-numbers-requires
+    balances-requires
+    residuals-requires
+    goes-on-requires
+    loop-holds
+    sub-takes-one
+    sub-takes-one-2
+    takes-one-requires
+    sub-at
+    sub-entry
+    part-entry-start
+    part-entry-end
+    entry-requires
+    loop-less
+    loop-again
+    zipped-requires
+    returns)
