@@ -21,6 +21,7 @@
 #     replace FILE BY              FILE gets what BY holds, or stays as it is
 #     locked, unlocked             one call at a time in target/
 #     fresh FILE NAME, due         whether FILE is built and no source of the crate NAME is newer; else $due says why
+#     none_newer FILE NAME         the last part of it: whether no source of the crate NAME, or of one below it, is newer than FILE
 # Statuses: 0 good, 1 refused or different, 2 bad words, 3 cannot run.
 set -Eeuo pipefail
 unset CDPATH
@@ -39,6 +40,8 @@ declare -A tool=(
     [python3]="Python 3 (tried with 3.11)"
     [cc]="a C compiler, which links a native program"
     [git]="git"
+    [node]="node (tried with 20)"
+    [chromium]="Chromium (tried with 156)"
 )
 
 say() { printf '%s: %s\n' "$me" "$*" >&2; }
@@ -298,11 +301,14 @@ stands_on() { # NAME
 # A program that was built by `proved` bears the time when its proof began, so what was edited during the proof is newer. A crate without
 # rt's stamp was not proved to its end.
 fresh() { # FILE NAME
-    local crate part sources=("$root/crates.txt")
     if [ ! -x "$1" ] || { [ -d "$root/target/stamp" ] && [ ! -e "$root/target/stamp/$2" ]; }; then
         due="${1#"$root/"} is not built"
         return 1
     fi
+    none_newer "$1" "$2"
+}
+none_newer() { # FILE NAME
+    local crate part sources=("$root/crates.txt")
     stands_on "$2"
     for crate in "${order[@]}"; do
         for part in src specs proofs; do if [ -d "$root/crates/$crate/$part" ]; then sources+=("$root/crates/$crate/$part"); fi; done

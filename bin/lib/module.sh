@@ -1,0 +1,34 @@
+# The module that rt hands to the kit's compiler, for another machine; sourced after lib/proof.sh by bin/native and bin/page.
+#     keeping_kit                    $work/kit, the kit but for its compiler, which keeps in $work/seen each module that it is handed
+#     module_for TARGET MODULE TEXT  such a module as text, with TARGET's layout and name in place of x86-64's; $clang is the kit's compiler
+
+keeping_kit() {
+    local machine folder part bin
+    machine=$(uname -m)
+    bin=on/$machine/toolchain/bin
+    clang=$kit/$bin/clang
+    work_folder
+    chmod 755 "$work" # rt runs a program as nobody
+    mkdir -p "$work/kit/$bin" "$work/seen"
+    cat >"$work/kit/$bin/clang" <<END
+#!/bin/sh
+for word in "\$@"; do case \$word in *.ll | *.bc) cp "\$word" "$work/seen/" ;; esac; done
+exec "$clang" "\$@"
+END
+    chmod +x "$work/kit/$bin/clang"
+    for folder in . on "on/$machine" "on/$machine/toolchain" "$bin"; do
+        for part in "$kit/$folder"/*; do
+            if [ ! -e "$work/kit/$folder/${part##*/}" ]; then ln -s "$part" "$work/kit/$folder/"; fi
+        done
+    done
+}
+
+module_for() { # TARGET MODULE TEXT
+    local target=$1 text=$3 layout
+    : >"$work/empty.c"
+    "$clang" --target="$target" -S -emit-llvm -x c "$work/empty.c" -o "$work/empty.ll"
+    layout=$(grep '^target datalayout' "$work/empty.ll")
+    "$clang" --target=x86_64-unknown-linux-gnu -x ir "$2" -S -emit-llvm -O0 -Xclang -disable-llvm-passes -o "$text"
+    sed -i -E "s|^target datalayout = .*|$layout|; s|^target triple = .*|target triple = \"$target\"|" "$text"
+    sed -i -E 's/"(target-cpu|target-features|tune-cpu|probe-stack)"="[^"]*"//g' "$text"
+}
