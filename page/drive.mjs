@@ -374,8 +374,8 @@ if (pictures) {
   await shoot("refused", "#h-plan");
 }
 await p.close();
-// Where other work keeps the processors busy, the fastest tenth says what a redraw itself takes.
-if (Object.values(times).some(([fast]) => fast > 16)) failed.push("a redraw takes more than 16 ms");
+// A redraw is held to 16 ms by its median: the slowest tenth tells of other work on the machine.
+if (Object.values(times).some(([, middle]) => middle > 16)) failed.push("a redraw takes more than 16 ms");
 for (const line of failed) console.log(`not as it should be: ${line}`);
 console.log(`${p.version}: ${passed} checks passed, ${failed.length} failed`);
 const took = (name) => times[name].map((n) => n.toFixed(1)).join(", ");
