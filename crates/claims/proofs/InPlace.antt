@@ -1,4 +1,4 @@
--- An entry on a sound link whose parts are lent: what the steps give is what the definition says. Demand 2.
+-- An entry on a sound link whose fields are lent: what the steps give is what the definition says. Demand 2.
 use mathlib.Core.Bool.{Bool, true, false, cond}
 use mathlib.Core.List.{List}
 use mathlib.Core.Path.{_≡_, refl, sym, ap, ap₂, subst, _∙_}

@@ -47,7 +47,7 @@ claimDid same c w place claims = record {
   size = w .size;
 }
 
--- with the link whose parts are lent it is what a check gives
+-- with the link whose fields are lent it is what a check gives
 abbrev pub checkedBy : Did → Link → Checked
 checkedBy r after = record { judged = r .judged; more = r .more; link = after; place = r .place; claims = r .claims }
 

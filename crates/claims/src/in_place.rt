@@ -8,7 +8,7 @@ ghost use lib.ListN.{length};
 ghost use Rattle.plan.specs.Entry.{entryAt, claimUses, longestEntry};
 ghost use Rattle.state.specs.Queue.{Shaped};
 ghost use Rattle.sound.specs.Sound.{SoundLink};
-ghost use Rattle.steps.specs.Parts.{lentLink, lentTree};
+ghost use Rattle.steps.specs.Fields.{lentLink, lentTree};
 ghost use Rattle.claims.specs.Recording.{samePacket, sameClaim};
 ghost use Rattle.claims.specs.Steps.{packetOf, claimOf, didGoOn, didDecide, claimDid, Enters, PartDone};
 use crate::Checked;

@@ -3,7 +3,7 @@
 --     val-at, Fits, typed     the machine value of a field's value, that it is one, and that it has the field's type
 --     cell        a field's cell.        apart, together     the record's cell is its fields' cells, and back, at whatever values they
 --         then hold
---     known-parts, of-parts    what is known of a record is what is known of each field, and back.
+--     fields-of    what is known of a record is what is known of each field.
 --     as-held     a field that is an array is handed on as `map` of the identity over its list, which is that list; accounts as their own
 --         records
 use Prim.Native.Nat.{ℕ, zero, _+_}
@@ -65,8 +65,8 @@ abbrev pub Fits : (k : ℕ) → FieldAt (L.the-type .parts) k .Value → Type 0
 Fits k x = IsAt (L.the-type .parts) L′.the-laws k x
 
 -- what is known of a record is what is known of each field
-abbrev pub parts-of : (h : Link) → Known h → Are (L.the-type .parts) L′.the-laws (L.struct .as-values h)
-parts-of h is = LL.owed L.the-type L′.the-laws h (lval h ∷ []) is
+abbrev pub fields-of : (h : Link) → Known h → Are (L.the-type .parts) L′.the-laws (L.struct .as-values h)
+fields-of h is = LL.owed L.the-type L′.the-laws h (lval h ∷ []) is
 
 -- accounts are handed on as their own records
 abbrev pub Accounts : RattleType
@@ -87,7 +87,7 @@ accounts-are xs is = (is .0, ((is .1 .0 .0, sym (length-map xs _) ∙ is .1 .0 .
 abbrev pub same : List ℕ → List ℕ
 same xs = map (λ v. v) xs
 
--- so a call over parts is handed this record, which is the record that is held
+-- so a call over fields is handed this record, which is the record that is held
 abbrev pub handed : Link → Link
 handed h =
     linkOf (h .tree) (h .size) (h .active) (h .place) (h .accounts) (same (h .start)) (same (h .held)) (same (h .lengths)) (same (h .tags))
@@ -107,7 +107,7 @@ as-held h = λ i. record {
   totals = h .totals;
 }
 
--- what a call over parts takes by value before all else, a record's fields but for its waiting places; and their machine values
+-- what a call over fields takes by value before all else, a record's fields but for its waiting places; and their machine values
 abbrev pub small : {R : Type 0} → Link → R → Tree × (Bytes × (ℕ × (ℕ × (List Account × (List ℕ × (List ℕ × (Totals × R)))))))
 small h rest = (h .tree, (h .size, (h .active, (h .place, (h .accounts, (same (h .start), (same (h .held), (h .totals, rest))))))))
 
@@ -368,7 +368,7 @@ module _ {M : Type 1} {𝓤 : URA M} {H : Heap 𝓤} {A : Atoms 𝓤} {K : Type 
       (fsep (Q.the-row .own (h .totals) (val-at 9 (h .totals) ∷ [])) X)))))))) ∷ Γ) G
       (‵ X ∷ Γ) G
   by-value t h is = step (λ s.
-      let ps = parts-of h is in
+      let ps = fields-of h is in
       let bytes = array-makes 𝓤 H A W u8 (uint-makes 𝓤 H A W w8) 64 in
       owned t Q.the-row (Is Q.the-row) (LL.makes Q.the-type Q′.the-plain 𝓤 H A) (h .totals) _ (ps .1 .1 .1 .1 .1 .1 .1 .1 .1 .0) $ fjoin t $
       owned t (Array u8 64) (Is (Array u8 64)) bytes (same (h .held)) _ (ps .1 .1 .1 .1 .1 .1 .0) $ fjoin t $

@@ -1,3 +1,3 @@
--- Laws of the calls over the parts of a link.
-pub mod OverParts
+-- Laws of the calls over the fields of a link.
+pub mod OverFields
 pub mod Told

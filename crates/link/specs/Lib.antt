@@ -1,2 +1,2 @@
--- The calls over the parts of a link.
-pub mod Parts
+-- The calls over the fields of a link.
+pub mod Fields

@@ -1,6 +1,6 @@
 // The calls of the library (R1): a fresh link from a plan's tree, an arrival and a send. Entries for callers outside: they ask nothing
 // (R196).
-// An arrival and a send are worked out once, over the parts of a link with its waiting places lent; the calls by value take a link apart
+// An arrival and a send are worked out once, over the fields of a link with its waiting places lent; the calls by value take a link apart
 // and put it together.
 // Serves demand 1 (numbers 11 to 15, a refused call hands the record back unaltered) and demand 2.
 pub use calls::AfterArrival;
@@ -19,7 +19,7 @@ ghost use Rattle.calls.specs.Panel.{TellsTotals, TellsClass};
 ghost use Rattle.checks.specs.declared.Verdict.the-variants.{Refused};
 ghost use Rattle.state.specs.State.{linkOf};
 ghost use Rattle.calls.specs.Send.{refusedSend, Sends};
-ghost use Rattle.link.specs.Parts.{ArrivesIn, changedTo, goesBy, SendsIn, classIn};
+ghost use Rattle.link.specs.Fields.{ArrivesIn, changedTo, goesBy, SendsIn, classIn};
 use checks::Verdict;
 use state::Account;
 use state::Link;
@@ -29,7 +29,7 @@ use steps::Moved;
 use tree::Tree;
 use units::Bytes;
 
-// An arrival over the parts of a link: the packets held and the totals after it, and its answer. The answer stands last, here and
+// An arrival over the fields of a link: the packets held and the totals after it, and its answer. The answer stands last, here and
 // below: the
 // walks of the lent entries count bytes, and no other place moves when it gets a field.
 pub struct Placed {
@@ -38,7 +38,7 @@ pub struct Placed {
     pub answer: Arrival,
 }
 
-// A send over the parts of a link: the parts that it may change, and its answer.
+// A send over the fields of a link: the fields that it may change, and its answer.
 pub struct Changed {
     pub active: u64,
     pub place: usize,
@@ -64,7 +64,7 @@ pub fn fresh(tree: Tree) -> AfterFresh
     AfterFresh { verdict, link }
 }
 
-// An arrival over the parts of a link, with its waiting places lent: any class number, any length and any tag.
+// An arrival over the fields of a link, with its waiting places lent: any class number, any length and any tag.
 pub fn arrive_in<'a>(
     tree: Tree,
     size: Bytes,
@@ -160,7 +160,7 @@ pub fn arrive(link: Link, class: usize, packet: Packet) -> AfterArrival
     }
 }
 
-// A refused send: every part as it was, and all other numbers 0.
+// A refused send: every field as it was, and all other numbers 0.
 fn stays(
     number: u8,
     size: Bytes,
@@ -193,7 +193,7 @@ fn stays(
     }
 }
 
-// A packet goes: the parts of the link after it.
+// A packet goes: the fields of the link after it.
 fn goes(moved: Moved) -> Changed
     ensures { λ r. ⌜ r ≡ goesBy moved ⌝ }
 {
@@ -223,7 +223,7 @@ fn goes(moved: Moved) -> Changed
     }
 }
 
-// A send over the parts of a link.
+// A send over the fields of a link.
 pub fn send_of<'a>(
     tree: Tree,
     size: Bytes,
@@ -330,7 +330,7 @@ pub fn send(link: Link) -> AfterSend
     }
 }
 
-// What the panel is told of the link that these parts make up: every class number's totals. Its tags have no say.
+// What the panel is told of the link that these fields make up: every class number's totals. Its tags have no say.
 pub fn totals_of(
     tree: Tree,
     size: Bytes,

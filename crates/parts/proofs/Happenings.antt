@@ -1,4 +1,4 @@
--- Events on a link whose parts are lent: what the steps give is what the calls give. Demand 2.
+-- Events on a link whose fields are lent: what the steps give is what the calls give. Demand 2.
 use mathlib.Core.Bool.{Bool, true, false, cond}
 use mathlib.Core.List.{List}
 use mathlib.Core.Path.{_≡_, refl, sym, ap, ap₂, subst, _∙_}

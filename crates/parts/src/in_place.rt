@@ -12,7 +12,7 @@ ghost use Rattle.state.specs.Queue.{Shaped};
 ghost use Rattle.state.specs.WayUp.{Climbs};
 ghost use Rattle.sound.specs.Sound.{SoundLink};
 ghost use Rattle.steps.specs.Arrivals.{lentWaiting, TakesOn};
-ghost use Rattle.steps.specs.Parts.{lentLink, lentTree};
+ghost use Rattle.steps.specs.Fields.{lentLink, lentTree};
 ghost use Rattle.steps.specs.Rounds.{Kept};
 ghost use Rattle.parts.specs.Steps.{LaysLine, wentSays, Taken, ArrivesAs, DepartsAs, Happens};
 use crate::PartRun;

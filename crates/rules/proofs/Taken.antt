@@ -23,7 +23,7 @@ use Rattle.sound.proofs.Active.{ActiveChild, ByChild, ByLeaf, child-to-leaf}
 use Rattle.rules.specs.Active.{waits, someWaits, someBelow, upward, roundActive, weightSum}
 use Rattle.rules.specs.Opening.{openedWith}
 use Rattle.rules.proofs.Sums.{within-sum}
-use Rattle.rules.proofs.Waiting.{set-has, set-past, set-fits, some-self, some-parent, Parts, some-parts}
+use Rattle.rules.proofs.Waiting.{set-has, set-past, set-fits, some-self, some-parent, SelfOrChild, some-split}
 
 -- a leaf is a class
 pub leaf-class : (t : Tree) (i : ℕ) → PlanRules t → i < 64 → isLeaf t i ≡ true → isClass t i ≡ true
@@ -39,16 +39,16 @@ leaf-childless t i k rules leaf is e = not-true-and-false leaf (subst (λ (x : �
 
 -- so of those that w tells, and every class above one, it is one exactly where w tells it
 pub upward-leaf : (t : Tree) (w : ℕ → Bool) (i : ℕ) → PlanRules t → isClass t i ≡ true → isLeaf t i ≡ true → has (upward t w) i ≡ w i
-unfolding Parts upward
+unfolding SelfOrChild upward
 upward-leaf t w i rules is leaf =
     set-has (someBelow t w) (t .count) i (class-range t i is .1) ∙ go (someBelow t w i) (w i) refl refl
   where
-    some : Parts t rules w i → w i ≡ true
+    some : SelfOrChild t rules w i → w i ≡ true
     some (inl h) = h .1
     some (inr h) = absurd (leaf-childless t i (h .0) rules leaf (h .1) (h .2))
 
     go : (a b : Bool) → someBelow t w i ≡ a → w i ≡ b → a ≡ b
-    go true b e f = sym (some (some-parts t rules w i e)) ∙ f
+    go true b e f = sym (some (some-split t rules w i e)) ∙ f
     go false true e f = sym e ∙ some-self t rules w i is f
     go false false e f = refl
 
@@ -124,13 +124,13 @@ module _ (s : State) (rules : PlanRules (s .tree)) where
 
   -- a class above is taken in exactly where a child of it is
   pub taken-by-child : ByChild (s .tree) (roundActive s)
-  unfolding Parts
+  unfolding SelfOrChild
   taken-by-child = record {
-    has-child = λ i ab e. down i ab (some-parts (s .tree) rules (waits s) i (sym (taken-at i (ab .class)) ∙ e));
+    has-child = λ i ab e. down i ab (some-split (s .tree) rules (waits s) i (sym (taken-at i (ab .class)) ∙ e));
     from-child = λ i ab c. ap (has (roundActive s)) (sym (c .parent)) ∙ taken-up (c .child′) (c .class) (c .is-active);
   }
     where
-      down : (i : ℕ) → Above (s .tree) i → Parts (s .tree) rules (waits s) i → ActiveChild (s .tree) (roundActive s) i
+      down : (i : ℕ) → Above (s .tree) i → SelfOrChild (s .tree) rules (waits s) i → ActiveChild (s .tree) (roundActive s) i
       down i ab (inl h) = absurd (not-true-and-false (waits-leaf i (h .1)) (ab .inner))
       down i ab (inr h) = record {
         child′ = h .0;

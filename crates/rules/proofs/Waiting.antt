@@ -188,12 +188,12 @@ module _ (t : Tree) (rules : PlanRules t) where
         let u : f .0 < 64 = omega (arith, f .2, few-classes t rules) in
         some-found (λ j. w j && atOrBelow t (parentOf t c) j) (t .count) (f .0) (f .1) (f .2) (rw (h .0, below-up c (f .0) is u (h .1)))
 
-    unfoldable pub Parts : ℕ → Type 0
-    Parts i = ((isClass t i ≡ true) × (w i ≡ true)) ⊎ ((c : ℕ) × (isClass t c ≡ true) × (parentOf t c ≡ i) × (someBelow t w c ≡ true))
+    unfoldable pub SelfOrChild : ℕ → Type 0
+    SelfOrChild i = ((isClass t i ≡ true) × (w i ≡ true)) ⊎ ((c : ℕ) × (isClass t c ≡ true) × (parentOf t c ≡ i) × (someBelow t w c ≡ true))
 
-    pub some-parts : (i : ℕ) → someBelow t w i ≡ true → Parts i
-    unfolding someBelow Parts
-    some-parts i e =
+    pub some-split : (i : ℕ) → someBelow t w i ≡ true → SelfOrChild i
+    unfolding someBelow SelfOrChild
+    some-split i e =
         let f = some-which (λ j. w j && atOrBelow t i j) (t .count) e in
         let h = both-true (w (f .0)) (atOrBelow t i (f .0)) (f .3) in
         let is = class-in t (f .0) (f .1) (f .2) in
@@ -207,14 +207,14 @@ module _ (t : Tree) (rules : PlanRules t) where
         go j is l u e (inr d) = inr (d .0, d .1, d .2, some-found (λ k. w k && atOrBelow t (d .0) k) (t .count) j l u (rw (e, d .3)))
 
     -- no class past the last has one
-    above-last : (k : ℕ) → t .count < k → Parts k → ⊥
-    unfolding Parts
+    above-last : (k : ℕ) → t .count < k → SelfOrChild k → ⊥
+    unfolding SelfOrChild
     above-last k h (inl x) = omega (arith, class-range t k (x .0) .1)
     above-last k h (inr x) = omega (arith, parent-lower t (x .0) rules (x .1), class-range t (x .0) (x .1) .1, x .2)
 
     -- whether class n is taken in
     taken-is : (active n : ℕ) → 1 ≤ n → n ≤ t .count → Marks t w active n → has active n ≡ someBelow t w n
-    unfolding Marked Parts
+    unfolding Marked SelfOrChild
     taken-is active n l u m = go (has active n) (someBelow t w n) refl refl
       where
         v : n < 64
@@ -224,13 +224,13 @@ module _ (t : Tree) (rules : PlanRules t) where
         up (inl h) = some-self n (class-in t n l u) h
         up (inr h) = ap (someBelow t w) (sym (h .3)) ∙ some-parent (h .0) (h .2) (h .4)
 
-        down : Parts n → Marked t w n n
+        down : SelfOrChild n → Marked t w n n
         down (inl h) = inl (h .1)
         down (inr h) = inr (h .0, (rw (h .2) at (parent-lower t (h .0) rules (h .1))), h .1, h .2, h .3)
 
         go : (a d : Bool) → has active n ≡ a → someBelow t w n ≡ d → a ≡ d
         go true d e g = sym (sym g ∙ up (m .at n v .sound e))
-        go false true e g = sym e ∙ m .at n v .complete (down (some-parts n g))
+        go false true e g = sym e ∙ m .at n v .complete (down (some-split n g))
         go false false e g = refl
 
     -- at first the set is that of the classes that w tells
@@ -300,7 +300,7 @@ module _ (t : Tree) (rules : PlanRules t) where
 
     -- when all are settled, the set is the one the rules say
     pub marks-all : ((k : ℕ) → k < 64 → w k ≡ true → isClass t k ≡ true) → (active : ℕ) → Marks t w active 0 → active ≡ upward t w
-    unfolding Marked Parts upward
+    unfolding Marked SelfOrChild upward
     marks-all tells active m =
         set-ext active (setOf (someBelow t w) (t .count)) (m .fits)
         (set-fits (someBelow t w) (t .count) (omega (arith, few-classes t rules))) (λ k u. same k u)
@@ -309,7 +309,7 @@ module _ (t : Tree) (rules : PlanRules t) where
         below k u (inl h) = some-self k (tells k u h) h
         below k u (inr h) = ap (someBelow t w) (sym (h .3)) ∙ some-parent (h .0) (h .2) (h .4)
 
-        marked : (k : ℕ) → Parts k → Marked t w 0 k
+        marked : (k : ℕ) → SelfOrChild k → Marked t w 0 k
         marked k (inl h) = inl (h .1)
         marked k (inr h) = inr (h .0, omega (arith, class-range t (h .0) (h .1) .0), h .1, h .2, h .3)
 
@@ -318,7 +318,7 @@ module _ (t : Tree) (rules : PlanRules t) where
           where
             go : (a b : Bool) → has active k ≡ a → someBelow t w k ≡ b → a ≡ b
             go true b x y = sym (sym y ∙ below k u (m .at k u .sound x))
-            go false true x y = sym x ∙ m .at k u .complete (marked k (some-parts k y))
+            go false true x y = sym x ∙ m .at k u .complete (marked k (some-split k y))
             go false false x y = refl
 
         same : (k : ℕ) → k < 64 → has active k ≡ has (setOf (someBelow t w) (t .count)) k
@@ -330,7 +330,7 @@ module _ (t : Tree) (rules : PlanRules t) where
               where
                 off : (b : Bool) → someBelow t w k ≡ b → b ≡ false
                 off false e = refl
-                off true e = absurd (above-last k (omega arith) (some-parts k e))
+                off true e = absurd (above-last k (omega arith) (some-split k e))
 
     -- where it tells no class none is taken in
     pub upward-none : ((i : ℕ) → 1 ≤ i → i ≤ t .count → w i ≡ false) → upward t w ≡ 0

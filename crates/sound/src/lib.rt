@@ -284,7 +284,7 @@ fn size_right(follows: bool, whole: Bytes, size: Bytes) -> bool
     size.0 == whole.0
 }
 
-// Whether the link that these parts make up is sound; its tags have no say.
+// Whether the link that these fields make up is sound; its tags have no say.
 pub fn is_sound_of(
     tree: Tree,
     size: Bytes,

@@ -14,8 +14,8 @@ use Rattle.state.specs.declared.Account.{Account}
 use Rattle.state.specs.Account.{balanceOf, residualOf}
 use Rattle.tree.specs.Sum.{table}
 use Rattle.state.specs.State.{meaning, linkOf}
-use Rattle.steps.specs.Parts.{lentLink}
-use Rattle.steps.specs.Rounds.{InParts}
+use Rattle.steps.specs.Fields.{lentLink}
+use Rattle.steps.specs.Rounds.{InFields}
 use Rattle.steps.proofs.Wholes.{in-lists}
 use Rattle.steps.proofs.Rounding.{CoversNext}
 use Rattle.state.specs.declared.Link.{Link}
@@ -61,18 +61,18 @@ opened-apart l sound many b r x y =
     (in-lists (l .accounts) many b r x y) in
     record { sound = subst SoundLink (sym same) sound; many = ap (λ (k : Link). length (k .accounts)) same ∙ many; same = same }
 
-pub opened-parts : (l₀ : Link) (b r : List ℕ) {n : ℕ} {t : Tree} {size : Bytes} {active place : ℕ}
+pub opened-fields : (l₀ : Link) (b r : List ℕ) {n : ℕ} {t : Tree} {size : Bytes} {active place : ℕ}
     {start held lengths tags packets bytes : List ℕ}
     → Opened l₀ n (lentLink t size active place b r start held lengths tags packets bytes)
-    → InParts t size active place b r start held lengths tags packets bytes
-opened-parts l₀ b r o = record { sound = o .sound; wide = o .many }
+    → InFields t size active place b r start held lengths tags packets bytes
+opened-fields l₀ b r o = record { sound = o .sound; wide = o .many }
 
 -- under rule 1 a round may open at any moment, and the size stays
 pub opened-covers : (l : Link) → SoundLink l → length (l .accounts) ≡ 64 → l .tree .follows ≡ false → CoversNext l
 opened-covers l sound many rule = rule-1-covers (meaning l) (sound .state) (meaning-wide l many) rule
 
 pub same-size : {t : Tree} {size new : Bytes} {active place on : ℕ} {start held lengths tags packets bytes : List ℕ} (b r b′ r′ : List ℕ)
-    → InParts t size active place b r start held lengths tags packets bytes → t .follows ≡ false
+    → InFields t size active place b r start held lengths tags packets bytes → t .follows ≡ false
     → lentLink t new on 1 b′ r′ start held lengths tags packets bytes
     ≡ openedLink (lentLink t size active place b r start held lengths tags packets bytes)
     → lentLink t size on 1 b′ r′ start held lengths tags packets bytes

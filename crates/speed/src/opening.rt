@@ -4,8 +4,8 @@ ghost use mathlib.Core.Path.{_≡_};
 ghost use mathlib.Core.Bool.{false};
 ghost use Rattle.sound.specs.Sound.{SoundLink};
 ghost use Rattle.rules.specs.After.{openedLink};
-ghost use Rattle.steps.specs.Parts.{lentLink};
-ghost use Rattle.steps.specs.Rounds.{InParts};
+ghost use Rattle.steps.specs.Fields.{lentLink};
+ghost use Rattle.steps.specs.Rounds.{InFields};
 ghost use Rattle.speed.specs.Openings.{Rest, offeredTo, openedTimes, rootLeft};
 use state::Link;
 use state::Packet;
@@ -27,7 +27,7 @@ fn backlogged(link: Link) -> Link
     link
 }
 
-// A round opens over the parts of a link that it reads and changes: who is active in it.
+// A round opens over the fields of a link that it reads and changes: who is active in it.
 fn open_next(
     tree: Tree,
     size: Bytes,
@@ -35,10 +35,10 @@ fn open_next(
     balance: &mut [u64; Link::CLASSES],
     residual: &mut [u64; Link::CLASSES],
 ) -> u64
-    requires { ⌜ ((k : Rest) × InParts tree size (k .active) (k .place) (now balance) (now residual) (k .start) (now held) (k .lengths)
+    requires { ⌜ ((k : Rest) × InFields tree size (k .active) (k .place) (now balance) (now residual) (k .start) (now held) (k .lengths)
         (k .tags) (k .packets) (k .bytes)) × (tree .follows ≡ false) ⌝ }
     ensures { λ r. ⌜ ((k : Rest)
-        → InParts tree size (k .active) (k .place) (now (balance .entry)) (now (residual .entry)) (k .start) (now (held .entry))
+        → InFields tree size (k .active) (k .place) (now (balance .entry)) (now (residual .entry)) (k .start) (now (held .entry))
         (k .lengths) (k .tags) (k .packets) (k .bytes)
         → lentLink tree size r 1 (now (balance .exit)) (now (residual .exit)) (k .start) (now (held .entry)) (k .lengths) (k .tags)
         (k .packets) (k .bytes)

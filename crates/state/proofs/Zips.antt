@@ -56,8 +56,8 @@ list-table d xs n e =
     (λ k m. table-at (λ i. getD xs i d) d n k (rw table-length at m))
 
 -- accounts taken apart and put together again
-pub zip-parts : (xs : List Account) → length xs ≡ 64 → zipAccounts (table (balanceOf xs) 64) (table (residualOf xs) 64) ≡ xs
-zip-parts xs e =
+pub zip-fields : (xs : List Account) → length xs ≡ 64 → zipAccounts (table (balanceOf xs) 64) (table (residualOf xs) 64) ≡ xs
+zip-fields xs e =
     let bs = table (balanceOf xs) 64 in
     let rs = table (residualOf xs) 64 in
     let many : length (zipAccounts bs rs) ≡ 64 = zip-length bs rs (table-length (balanceOf xs) 64 ∙ sym (table-length (residualOf xs) 64))

@@ -86,7 +86,7 @@ inRound s size active place accounts = record {
   totals = s .totals;
 }
 
--- the link that its parts make up
+-- the link that its fields make up
 abbrev pub linkOf : Tree → Bytes → ℕ → ℕ → List Account → List ℕ → List ℕ → List ℕ → List ℕ → Totals → Link
 linkOf tree size active place accounts start held lengths tags totals = record {
   tree = tree;

@@ -16,7 +16,7 @@ use Rattle.tree.proofs.Classes.{class-in}
 use Rattle.tree.proofs.Rules.{parent-lower}
 use Rattle.tree.proofs.Sums.{some-found, some-which}
 use Rattle.rules.specs.Active.{activeChild}
-use Rattle.steps.specs.Parts.{Grown}
+use Rattle.steps.specs.Fields.{Grown}
 
 -- none of the classes before a number is an active child of class p
 pub None : Tree → ℕ → ℕ → ℕ → Type 0

@@ -18,7 +18,7 @@ use Rattle.rules.specs.Sending.{Books}
 use Rattle.rules.specs.Active.{activeChild}
 use Rattle.rules.specs.Sending.{givenUp, rootOff, turnsOff}
 use Rattle.rules.proofs.GivenUp.{parent-class, turns-stays, turns-root, turns-up}
-use Rattle.steps.specs.Parts.{Grown}
+use Rattle.steps.specs.Fields.{Grown}
 
 -- the books after a class has given up, from what the steps gave
 pub given-by : (t : Tree) (i p : ℕ) (b : Books) (active funds : ℕ) (own none mine next : Account) (mid last : List Account)

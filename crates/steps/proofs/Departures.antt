@@ -1,4 +1,4 @@
--- A whole send over the parts of a link: no packet waits, a leaf is found at once, or rounds are opened. Demand 2.
+-- A whole send over the fields of a link: no packet waits, a leaf is found at once, or rounds are opened. Demand 2.
 use mathlib.Core.Bool.{true}
 use mathlib.Core.List.{List}
 use mathlib.Core.Path.{_≡_, refl, sym, ap, subst, _∙_}
@@ -26,11 +26,11 @@ use Rattle.rules.specs.Steps.{SendsNext, OnTheWay}
 use Rattle.rules.proofs.Meanings.{waits-leaf}
 use Rattle.rules.proofs.OnTheWay.{way-starts, way-found, way-ends}
 use Rattle.steps.specs.declared.leaf.Gone.{Gone}
-use Rattle.steps.specs.Parts.{lentLink, GoesNext}
+use Rattle.steps.specs.Fields.{lentLink, GoesNext}
 use Rattle.steps.specs.declared.reopening.Found.{Found}
-use Rattle.steps.specs.Rounds.{InParts, Going, Unseen, Closed, Opens, Finds, closedLink, openLink, Departs, wentBy, nothingGoes}
+use Rattle.steps.specs.Rounds.{InFields, Going, Unseen, Closed, Opens, Finds, closedLink, openLink, Departs, wentBy, nothingGoes}
 
--- a leaf is found at once, on a link in parts
+-- a leaf is found at once, on a link in fields
 module _
     {t : Tree} {size : Bytes} {before from : ℕ} (balance residual : List ℕ) {start held lengths tags packets bytes : List ℕ}
     (s : Going t size before from balance residual start held lengths tags packets bytes) where
@@ -43,7 +43,7 @@ module _
   now-finds at next here = record {
     here = here;
     place = from;
-    way = way-starts whole at (s .parts .wide) (s .parts .sound) (waits-leaf (meaning whole) (s .some)) next;
+    way = way-starts whole at (s .fields .wide) (s .fields .sound) (waits-leaf (meaning whole) (s .some)) next;
   }
 
   -- or its round has closed
@@ -51,7 +51,7 @@ module _
   unseen = record { active = before; place = from; held = held; tags = tags; packets = packets; bytes = bytes }
 
   pub is-closed : (at : ℕ) → at ≡ nextLeaf (meaning whole) → 64 ≤ at → Closed t size unseen balance residual start lengths
-  is-closed at next none = record { going = s; closed = omega (arith, none, next, leaf-most (meaning whole) (s .parts .sound .state)) }
+  is-closed at next none = record { going = s; closed = omega (arith, none, next, leaf-most (meaning whole) (s .fields .sound .state)) }
 
 -- the round has closed
 module _
@@ -62,7 +62,7 @@ module _
   shut = closedLink t size k balance residual start lengths
 
   rules : PlanRules t
-  rules = c .going .parts .sound .state .fits .tree
+  rules = c .going .fields .sound .state .fits .tree
 
   taken : active ≡ roundActive (meaning shut)
   taken = is ∙ active-meaning shut rules
@@ -83,7 +83,7 @@ module _
     way = subst (λ (x : ℕ). OnTheWay shut (f .class) (openLink t (f .size) k x b r start lengths) (f .rounds)) (sym same) way;
   }
 
--- a leaf is found on a link in parts, and its packet goes
+-- a leaf is found on a link in fields, and its packet goes
 module _
     {t : Tree} {size : Bytes} {before from : ℕ} (balance residual : List ℕ) {start held lengths tags packets bytes : List ℕ} (f : Found)
     (b r : List ℕ)
@@ -109,10 +109,10 @@ module _
     sent = way-ends found-in (f .class) at-turn (f .rounds) (gone .packet) after (q .way) its-turn packet link;
   }
 
--- whether the root of a link in parts counts a packet
+-- whether the root of a link in fields counts a packet
 module _
     {t : Tree} {size : Bytes} {before from : ℕ} (balance residual : List ℕ) {start held lengths tags packets bytes : List ℕ}
-    (s : InParts t size before from balance residual start held lengths tags packets bytes) where
+    (s : InFields t size before from balance residual start held lengths tags packets bytes) where
   abbrev withTotals-in : Link
   withTotals-in = lentLink t size before from balance residual start held lengths tags packets bytes
 
@@ -121,7 +121,7 @@ module _
 
   -- one does
   pub going-on : (getD packets 0 0 ≡ 0 → ⊥) → Going t size before from balance residual start held lengths tags packets bytes
-  going-on n = record { parts = s; some = root-some ∙ le-leb 1 (getD packets 0 0) (omega (arith, n)) }
+  going-on n = record { fields = s; some = root-some ∙ le-leb 1 (getD packets 0 0) (omega (arith, n)) }
 
   -- none does, and nothing changes
   pub nothing-departs : getD packets 0 0 ≡ 0 → Departs withTotals-in (nothingGoes size before from) withTotals-in

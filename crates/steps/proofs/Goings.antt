@@ -1,4 +1,4 @@
--- A packet goes, over the parts of a link.
+-- A packet goes, over the fields of a link.
 use mathlib.Core.Bool.{true}
 use mathlib.Core.List.{List}
 use mathlib.Core.Path.{_≡_, refl, sym, ap, ap₂, subst, _∙_}
@@ -24,7 +24,7 @@ use Rattle.rules.proofs.Counted.{sound-climbs}
 use Rattle.rules.proofs.Fitting.{fit-paid}
 use Rattle.rules.proofs.Meanings.{start-low, sound-fit, link-sender, sender-holds, first-cost, paid-means, books-more, books-last}
 use Rattle.state.specs.Account.{zipAccounts}
-use Rattle.steps.specs.Parts.{lentLink, lentTotals, booksOf, Grown, GoesNext}
+use Rattle.steps.specs.Fields.{lentLink, lentTotals, booksOf, Grown, GoesNext}
 
 -- the link after, from the books, the queues and the totals after
 sent-by : (l : Link) (i : ℕ) (b : Books) (start held : List ℕ) (totals : Totals) → b ≡ booksAfter (meaning l) i

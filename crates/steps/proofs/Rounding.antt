@@ -1,4 +1,4 @@
--- Opening a round over the parts of a link.
+-- Opening a round over the fields of a link.
 use mathlib.Core.List.{List}
 use mathlib.Core.Path.{_≡_, refl, sym, ap, ap₂, subst, _∙_}
 use Prim.Native.Nat.{ℕ, _+_, _≤_, _<_}
@@ -28,10 +28,10 @@ use Rattle.rules.proofs.OnTheWay.{way-starts, way-on}
 use Rattle.rules.proofs.Meanings.{meaning-wide, waits-leaf, opened-means, opened-link-sound}
 use Rattle.state.specs.Account.{zipAccounts}
 use Rattle.opening.specs.Opens.{OpensWith}
-use Rattle.steps.specs.Parts.{lentLink, lentTotals, Searched}
+use Rattle.steps.specs.Fields.{lentLink, lentTotals, Searched}
 use Rattle.state.proofs.Zips.{zip-at}
 pub use Rattle.active.proofs.Raised.{raised-none, raised-round}
-use Rattle.steps.specs.Rounds.{InParts, Kept, Unseen, Opens, closedLink, openLink}
+use Rattle.steps.specs.Rounds.{InFields, Kept, Unseen, Opens, closedLink, openLink}
 
 -- no set is known, and no weight sums are kept
 pub none-kept : (t : Tree) (kept : List ℕ) → PlanRules t → Kept t 0 kept
@@ -41,16 +41,16 @@ none-kept t kept rules = record { raised = raised-none t rules; sums = λ on. ab
 abbrev pub CoversNext : Link → Type 0
 CoversNext l = Covers (meaning l) (nextSize (meaning l))
 
--- what the search and the sender ask of parts
+-- what the search and the sender ask of fields
 module _
     {t : Tree} {size : Bytes} {active place : ℕ} (balance residual : List ℕ) {start held lengths tags packets bytes : List ℕ}
-    (s : InParts t size active place balance residual start held lengths tags packets bytes) where
-  pub parts-low : (i : ℕ) → i < 64 → getD start i 0 < 32
-  parts-low i u = omega (arith, s .sound .starts i u .start)
+    (s : InFields t size active place balance residual start held lengths tags packets bytes) where
+  pub fields-low : (i : ℕ) → i < 64 → getD start i 0 < 32
+  fields-low i u = omega (arith, s .sound .starts i u .start)
 
-  pub parts-searched : (leaves : ℕ) → Both active (t .leaves) leaves
+  pub fields-searched : (leaves : ℕ) → Both active (t .leaves) leaves
       → Searched (lentLink t size active place balance residual start held lengths tags packets bytes) leaves place balance start lengths
-  parts-searched leaves b = record {
+  fields-searched leaves b = record {
     sound = s .sound;
     both = b;
     at = refl;
@@ -60,33 +60,33 @@ module _
   }
 
   -- where the root can take the difference of the sizes an opening can be worked out
-  pub parts-can : CoversNext (lentLink t size active place balance residual start held lengths tags packets bytes)
+  pub fields-can : CoversNext (lentLink t size active place balance residual start held lengths tags packets bytes)
       → (on : ℕ) → on ≡ roundActive (meaning (lentLink t size active place balance residual start held lengths tags packets bytes))
       → CanResize t on (size .0) (zipAccounts balance residual)
-  parts-can covers on is =
+  fields-can covers on is =
       let l = lentLink t size active place balance residual start held lengths tags packets bytes in
       subst (λ (a : ℕ). CanResize t a (size .0) (zipAccounts balance residual)) (sym is)
       (can-resize (meaning l) (s .sound .state) (meaning-wide l (s .wide)) covers)
 
   -- the size and the accounts of an opening make up the link when it has opened
-  pub parts-opened : (on : ℕ) (new : Bytes) (b r : List ℕ)
+  pub fields-opened : (on : ℕ) (new : Bytes) (b r : List ℕ)
       → on ≡ roundActive (meaning (lentLink t size active place balance residual start held lengths tags packets bytes))
       → OpensWith t on (size .0) (zipAccounts balance residual) (new .0) (zipAccounts b r)
       → lentLink t new on 1 b r start held lengths tags packets bytes
       ≡ openedLink (lentLink t size active place balance residual start held lengths tags packets bytes)
   unfolding openedWith nextKind nextSize resizedAccounts
-  parts-opened on new b r is o =
+  fields-opened on new b r is o =
       ap₂ (λ (n : ℕ) (xs : List Account). linkOf t (record { 0 = n }) on 1 xs start held lengths tags (lentTotals packets bytes))
       (o .size-is) (o .accounts-are)
       ∙ rw is refl
 
-  -- which is a sound link in parts
-  pub parts-sound : CoversNext (lentLink t size active place balance residual start held lengths tags packets bytes)
+  -- which is a sound link in fields
+  pub fields-sound : CoversNext (lentLink t size active place balance residual start held lengths tags packets bytes)
       → (on : ℕ) (new : Bytes) (b r : List ℕ)
       → lentLink t new on 1 b r start held lengths tags packets bytes
       ≡ openedLink (lentLink t size active place balance residual start held lengths tags packets bytes)
-      → InParts t new on 1 b r start held lengths tags packets bytes
-  parts-sound covers on new b r e =
+      → InFields t new on 1 b r start held lengths tags packets bytes
+  fields-sound covers on new b r e =
       let l = lentLink t size active place balance residual start held lengths tags packets bytes in
       let wide = meaning-wide l (s .wide) in
       record {
@@ -111,7 +111,7 @@ under-starts t size k active balance residual start lengths o = record {
   on = k .active;
   place = k .place;
   way =
-      let p = o .shut .going .parts in
+      let p = o .shut .going .fields in
       let l = closedLink t size k balance residual start lengths in
       way-starts l 64 (p .wide) (p .sound) (waits-leaf (meaning l) (o .shut .going .some)) (sym (o .shut .closed));
   taken = o .taken;
@@ -123,8 +123,8 @@ module _
   abbrev here : Link
   here = lentLink t size (w .on) (w .place) balance residual start (k .held) lengths (k .tags) (k .packets) (k .bytes)
 
-  in-parts : InParts t size (w .on) (w .place) balance residual start (k .held) lengths (k .tags) (k .packets) (k .bytes)
-  in-parts = record { sound = w .way .sound; wide = w .way .many }
+  in-fields : InFields t size (w .on) (w .place) balance residual start (k .held) lengths (k .tags) (k .packets) (k .bytes)
+  in-fields = record { sound = w .way .sound; wide = w .way .many }
 
   -- its round has closed, so the root can take the difference
   covered : CoversNext here
@@ -132,15 +132,15 @@ module _
 
   -- an opening can be worked out
   pub under-can : CanResize t active (size .0) (zipAccounts balance residual)
-  under-can = parts-can balance residual in-parts covered active (w .taken)
+  under-can = fields-can balance residual in-fields covered active (w .taken)
 
   -- and the next round has opened
   module _ (new : Bytes) (b r : List ℕ) (y : OpensWith t active (size .0) (zipAccounts balance residual) (new .0) (zipAccounts b r)) where
     is-opened : openLink t new k active b r start lengths ≡ openedLink here
-    is-opened = parts-opened balance residual in-parts active new b r (w .taken) y
+    is-opened = fields-opened balance residual in-fields active new b r (w .taken) y
 
-    pub under-parts : InParts t new active 1 b r start (k .held) lengths (k .tags) (k .packets) (k .bytes)
-    under-parts = parts-sound balance residual in-parts covered active new b r is-opened
+    pub under-fields : InFields t new active 1 b r start (k .held) lengths (k .tags) (k .packets) (k .bytes)
+    under-fields = fields-sound balance residual in-fields covered active new b r is-opened
 
     -- a leaf is found in it, or none
     module _ (at : ℕ) (next : at ≡ nextLeaf (meaning (openLink t new k active b r start lengths))) where
@@ -158,7 +158,7 @@ module _
               none,
               next,
               leaf-most (meaning (openLink t new k active b r start lengths))
-                  (under-parts .sound .state),
+                  (under-fields .sound .state),
             )) under-finds;
         taken =
             w .taken ∙ sym (taken-same _ (meaning here)) ∙ ap roundActive (sym (opened-means here))

@@ -11,7 +11,7 @@ use Rattle.state.specs.Queue.{slot}
 use Rattle.state.specs.State.{meaning}
 use Rattle.rules.specs.Sending.{ready, firstFrom, nextLeaf}
 use Rattle.rules.proofs.Searching.{leaf-skip, leaf-ready}
-use Rattle.steps.specs.Parts.{Searched}
+use Rattle.steps.specs.Fields.{Searched}
 
 module _ (l : Link) (leaves place : ℕ) (balance start lengths : List ℕ) (s : Searched l leaves place balance start lengths) where
   -- it starts at the place

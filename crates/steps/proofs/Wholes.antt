@@ -1,4 +1,4 @@
--- The parts of a link taken apart, lent, and put together again.
+-- The fields of a link taken apart, lent, and put together again.
 use mathlib.Core.Bool.{Bool, true, false}
 use mathlib.Core.List.{List}
 use mathlib.Core.Path.{_≡_, sym, ap, ap₂, subst, _∙_}
@@ -23,9 +23,9 @@ use Rattle.rules.specs.After.{Sent}
 use Rattle.rules.proofs.Meanings.{meaning-wide, waits-leaf}
 use Rattle.steps.specs.declared.Went.{Went}
 use Rattle.state.specs.Account.{zipAccounts}
-use Rattle.steps.specs.Parts.{lentLink, lentTotals, lentTree}
-use Rattle.steps.specs.Rounds.{InParts, sentWhere, Departs, Moves}
-use Rattle.state.proofs.Zips.{zip-parts, list-table}
+use Rattle.steps.specs.Fields.{lentLink, lentTotals, lentTree}
+use Rattle.steps.specs.Rounds.{InFields, sentWhere, Departs, Moves}
+use Rattle.state.proofs.Zips.{zip-fields, list-table}
 
 -- every class number keeps an account
 sent-many : (l : Link) (some : Bool) → length (l .accounts) ≡ 64 → SoundLink l → some ≡ someWaits (meaning l)
@@ -42,12 +42,12 @@ departs-wide {l} {w} after many sound d =
 pub in-lists : (accounts : List Account) → length accounts ≡ 64 → (b r : List ℕ) → b ≡ table (balanceOf accounts) 64
     → r ≡ table (residualOf accounts) 64
     → zipAccounts b r ≡ accounts
-in-lists accounts many b r x y = ap₂ zipAccounts x y ∙ zip-parts accounts many
+in-lists accounts many b r x y = ap₂ zipAccounts x y ∙ zip-fields accounts many
 
 -- a tree taken apart and put together again is the same
-pub tree-parts : (t : Tree) → length (t .weight) ≡ 64 → (weight : List ℕ) → weight ≡ table (weightOf t) 64
+pub tree-fields : (t : Tree) → length (t .weight) ≡ 64 → (weight : List ℕ) → weight ≡ table (weightOf t) 64
     → lentTree (t .count) (t .leaves) (t .parent) weight (t .longest) (t .follows) ≡ t
-tree-parts t many weight is =
+tree-fields t many weight is =
     ap (λ (ws : List Weight). record {
       count = t .count;
       leaves = t .leaves;
@@ -84,13 +84,13 @@ module _
   whole-is = ap₂ (λ (x : Tree) (xs : List Account). linkOf x size active place xs start held lengths tags
       (lentTotals packets bytes)) same apart
 
-  pub values-parts : InParts lent size active place b r start held lengths tags packets bytes
-  values-parts = record { sound = subst SoundLink (sym whole-is) sound; wide = ap length apart ∙ many }
+  pub values-fields : InFields lent size active place b r start held lengths tags packets bytes
+  values-fields = record { sound = subst SoundLink (sym whole-is) sound; wide = ap length apart ∙ many }
 
   -- after the send
   module _ {w : Went} (after : Link) (d : Departs (lentLink lent size active place b r start held lengths tags packets bytes) w after) where
     pub values-wide : length (after .accounts) ≡ 64
-    values-wide = departs-wide after (values-parts .wide) (values-parts .sound) d
+    values-wide = departs-wide after (values-fields .wide) (values-fields .sound) d
 
     pub values-moves : {xs : List Account} {s h : List ℕ} {n : Totals} → after
         ≡ linkOf lent (w .size) (w .active) (w .place) xs s h lengths tags n

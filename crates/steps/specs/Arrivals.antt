@@ -14,7 +14,7 @@ use Rattle.state.specs.Queue.{queued, withTotals}
 use Rattle.sound.specs.Sound.{SoundLink}
 use Rattle.state.specs.State.{State, queueAt}
 use Rattle.calls.specs.declared.Arrival.{Arrival}
-use Rattle.steps.specs.Parts.{lentTotals}
+use Rattle.steps.specs.Fields.{lentTotals}
 use Rattle.calls.specs.Arrival.{arrivalChecks, arrivalLeaves, arrivalOf}
 
 -- the verdict on a packet of length n for a leaf of a sound state that has this longest packet and holds so many; one that passes finds room

@@ -1,4 +1,4 @@
 -- A link taken apart into numbers and number arrays.
-pub mod Parts
+pub mod Fields
 pub mod Rounds
 pub mod Arrivals

@@ -1,4 +1,4 @@
--- What opening rounds and a whole send ask of the parts of a link, and what they give; no rule of its own.
+-- What opening rounds and a whole send ask of the fields of a link, and what they give; no rule of its own.
 use mathlib.Core.Bool.{Bool, true, false}
 use mathlib.Core.List.{List}
 use mathlib.Core.Path.{_≡_}
@@ -20,10 +20,10 @@ use Rattle.steps.specs.declared.leaf.Gone.{Gone}
 use Rattle.steps.specs.declared.reopening.Found.{Found}
 use Rattle.steps.specs.declared.Went.{Went}
 use Rattle.steps.specs.declared.Moved.{Moved}
-use Rattle.steps.specs.Parts.{lentLink}
+use Rattle.steps.specs.Fields.{lentLink}
 
--- a sound link in parts
-pub record InParts (t : Tree) (size : Bytes) (active place : ℕ)
+-- a sound link in fields
+pub record InFields (t : Tree) (size : Bytes) (active place : ℕ)
     (balance residual start held lengths tags packets bytes : List ℕ) : Type 0 where
   pub sound : SoundLink (lentLink t size active place balance residual start held lengths tags packets bytes)
   pub wide : length (zipAccounts balance residual) ≡ 64
@@ -31,7 +31,7 @@ pub record InParts (t : Tree) (size : Bytes) (active place : ℕ)
 -- one in which a packet waits
 pub record Going (t : Tree) (size : Bytes) (active place : ℕ)
     (balance residual start held lengths tags packets bytes : List ℕ) : Type 0 where
-  pub parts : InParts t size active place balance residual start held lengths tags packets bytes
+  pub fields : InFields t size active place balance residual start held lengths tags packets bytes
   pub some : someWaits (meaning (lentLink t size active place balance residual start held lengths tags packets bytes)) ≡ true
 
 -- what an opening does not see of its link

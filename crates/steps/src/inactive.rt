@@ -10,7 +10,7 @@ ghost use Rattle.tree.specs.Class.{parentOf, isClass};
 ghost use Rattle.tree.specs.Sum.{someTo};
 ghost use Rattle.rules.specs.Active.{activeChild};
 ghost use Rattle.state.specs.Account.{zipAccounts};
-ghost use Rattle.steps.specs.Parts.{booksOf, Grown};
+ghost use Rattle.steps.specs.Fields.{booksOf, Grown};
 use state::lent_accounts::account_of;
 use state::lent_accounts::keep;
 use tree::wide;

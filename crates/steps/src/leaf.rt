@@ -11,7 +11,7 @@ ghost use Rattle.state.specs.Queue.{packetAt};
 ghost use Rattle.state.specs.State.{meaning};
 ghost use Rattle.tree.specs.declared.Tree.{Tree};
 ghost use Rattle.state.specs.Account.{zipAccounts};
-ghost use Rattle.steps.specs.Parts.{lentLink, Searched, GoesNext};
+ghost use Rattle.steps.specs.Fields.{lentLink, Searched, GoesNext};
 ghost use Rattle.units.specs.declared.Bytes.{Bytes};
 ghost use Rattle.rules.specs.After.{sentLink};
 use crate::inactive::turn_off;

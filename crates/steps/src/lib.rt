@@ -16,8 +16,8 @@ ghost use mathlib.Core.List.{List};
 ghost use Prim.Native.Nat.{ℕ};
 ghost use Rattle.state.specs.State.{linkOf};
 ghost use Rattle.sound.specs.Sound.{SoundLink};
-ghost use Rattle.steps.specs.Rounds.{InParts, Going, Kept, Finds, Departs, wentBy, nothingGoes, Moves};
-ghost use Rattle.steps.specs.Parts.{lentLink, lentTree};
+ghost use Rattle.steps.specs.Rounds.{InFields, Going, Kept, Finds, Departs, wentBy, nothingGoes, Moves};
+ghost use Rattle.steps.specs.Fields.{lentLink, lentTree};
 use leaf::Gone;
 use leaf::goes;
 use leaf::next_leaf;
@@ -158,7 +158,7 @@ pub fn send(
     packets: &mut [u64; 64],
     bytes: &mut [u64; 64],
 ) -> Went
-    requires { ⌜ InParts (lentTree count leaves (now parent) (now weight) (now longest) follows) size before from
+    requires { ⌜ InFields (lentTree count leaves (now parent) (now weight) (now longest) follows) size before from
         (now balance) (now residual) (now start) (now held) (now lengths) (now tags) (now packets) (now bytes)
         × Kept (lentTree count leaves (now parent) (now weight) (now longest) follows) known (now kept) ⌝ }
     ensures { λ r. ⌜ Departs (lentLink (lentTree count leaves (now (parent .entry)) (now (weight .entry)) (now (longest .entry)) follows) size
@@ -207,7 +207,7 @@ pub fn send(
     has_gone(next.class, next.rounds, next.size, gone)
 }
 
-// A send on the parts of a link that it changes, by value: the packet that goes, its class, the rounds opened in the call, and the parts
+// A send on the fields of a link that it changes, by value: the packet that goes, its class, the rounds opened in the call, and the fields
 // after it.
 pub struct Moved {
     pub some: bool,

@@ -5,7 +5,7 @@ ghost use Prim.Native.Nat.{_<_};
 ghost use Rattle.rules.specs.Steps.{OnTheWay};
 ghost use Rattle.rules.specs.Active.{weightSums};
 ghost use Rattle.steps.specs.Rounds.{Unseen, Closed, Opens, Kept, Finds, closedLink, openLink};
-ghost use Rattle.steps.specs.Parts.{lentLink, lentTree};
+ghost use Rattle.steps.specs.Fields.{lentLink, lentTree};
 use crate::leaf::next_leaf;
 use active::round_active;
 use active::sums_of;

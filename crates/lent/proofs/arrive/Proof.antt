@@ -1,6 +1,6 @@
 -- `arrive` behind `&mut` meets its contract: a walk of its code. The borrow is opened and the record's fields stand apart, the small ones
--- are copied out, the waiting places' lengths and tags are lent to the call over parts, the packets held that it gives are stored, and
--- the borrow is closed at the record that the fields then make up. All that it knows of the call over parts is its contract.
+-- are copied out, the waiting places' lengths and tags are lent to the call over fields, the packets held that it gives are stored, and
+-- the borrow is closed at the record that the fields then make up. All that it knows of the call over fields is its contract.
 use mathlib.Core.Path.{refl, subst}
 use Prim.Native.Nat.{ℕ, zero, _+_, _<_, _^_}
 use mathlib.Core.List.{[], _∷_, List}
@@ -43,8 +43,8 @@ use denote.Triple.Walked.{says, Stays, stay-ref, stay-none, walkOf, AllGo, goes-
 use denote.Triple.Clauses.{ensured, lasts}
 use denote.Exit.{yes}
 use Rattle.calls.specs.Arrival.{arrivalLeaves, Arrives}
-use Rattle.link.specs.Parts.{ArrivesIn}
-use Rattle.link.proofs.OverParts.{arrives-whole}
+use Rattle.link.specs.Fields.{ArrivesIn}
+use Rattle.link.proofs.OverFields.{arrives-whole}
 use Rattle.state.specs.declared.Link.{Link}
 use Rattle.state.specs.declared.Packet.{Packet}
 use Rattle.state.specs.State.{linkOf}
@@ -53,7 +53,7 @@ use Rattle.link.specs.declared.Placed.{Placed}
 use Rattle.lent.proofs.Returns.{returned-with}
 use Rattle.lent.proofs.Lends.{pval, Known, opened, closed}
 use Rattle.state.proofs.Shapes.{shaped}
-use Rattle.lent.proofs.Fields.{type-at, Fits, typed, parts-of, same, handed, as-held, small, small-vals, to, Lengths, Tags}
+use Rattle.lent.proofs.Fields.{type-at, Fits, typed, fields-of, same, handed, as-held, small, small-vals, to, Lengths, Tags}
 use Rattle.lent.proofs.Fields.{mut-lengths, mut-tags, apart, together, lent-out, come-back, by-value}
 use Rattle.state.proofs.Link as L
 use Rattle.state.proofs.Link.Laws as L′
@@ -120,7 +120,7 @@ module _ {M : Type 1} (𝓤 : URA M) (H : Heap 𝓤) (A : Atoms 𝓤) (W : Given
       owned ! usize (Is usize) (uint-makes 𝓤 H A W w64) i (vint w64 i ∷ []) (refl, fits) $ fjoin ! $ move ! (1 ∷ 0 ∷ []) $ fjoin ! $
       owned ! N.the-row (Is N.the-row) (LL.makes N.the-type N′.the-plain 𝓤 H A) (r .answer) _ is $ move ! (1 ∷ 0 ∷ []) $ done !
 
-  -- what the call over parts says of its result and of the last values, of a link with other words for its lists
+  -- what the call over fields says of its result and of the last values, of a link with other words for its lists
   abbrev SaidOf : Link → Placed → List ℕ × List ℕ → Type 0
   SaidOf l r w =
       ArrivesIn l i p (r .answer)
@@ -135,7 +135,7 @@ module _ {M : Type 1} (𝓤 : URA M) (H : Heap 𝓤) (A : Atoms 𝓤) (W : Given
   known-after : Known h → (r : Placed) (w : List ℕ × List ℕ) → Is S.the-row r (LL.val S.the-type S′.the-laws r ∷ []) → Fits 7 (w .0)
       → Fits 8 (w .1) → Known (after r w)
   known-after is r w isr isx isy =
-      let ps = parts-of h is in
+      let ps = fields-of h is in
       let ws = placed-of r isr in
       LL.owes L.the-type L′.the-laws (after r w) (
         ps .0,
@@ -202,7 +202,7 @@ module _ {M : Type 1} (𝓤 : URA M) (H : Heap 𝓤) (A : Atoms 𝓤) (W : Given
         alloc1 ! (λ l₆. alloc1 ! (λ l₇. alloc1 ! (λ l₈. alloc1 ! (λ l₉. alloc1 ! (λ l₁₀. alloc1 ! (λ l₁₁. alloc1 ! (λ l₁₂. alloc1 ! (λ l₁₃.
         alloc1 ! (λ l₁₄. alloc0 ! $ params1 ! $
         pass1 ! (init ! 26 refl (tt, tt)) $ pass1 ! (init ! 24 refl (tt, record { fits = fits })) $ pass1 ! (init ! 22 refl wt) $ pass0 ! $
-        move ! (30 ∷ 31 ∷ 32 ∷ []) $ opened ! tt h b o (λ is. let ps = parts-of h is in apart ! h b o $
+        move ! (30 ∷ 31 ∷ 32 ∷ []) $ opened ! tt h b o (λ is. let ps = fields-of h is in apart ! h b o $
         -- [the ten cells; the way back; the open borrow; obs; auth; _14; …; _13; …; _0; …]
         assigns ! (of-opd ! (load ! (from ! (hop ! (look ! 40 refl) (fld ! {τ = type-at 0} {d = 0} refl (stop !))))
         (look-raw ! 0 {τ = type-at 0} refl))) (from ! (stop !)) (init ! 32 refl (typed 𝓤 H A W 0 (h .tree) (ps .0) .0)) $

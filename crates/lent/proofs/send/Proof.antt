@@ -1,6 +1,6 @@
 -- `send` behind `&mut` meets its contract: a walk of its code. The borrow is opened and the record's fields stand apart, the small ones
--- are copied out, the waiting places' lengths and tags are lent to the call over parts, the parts that it gives are stored, and the
--- borrow is closed at the record that the fields then make up. All that it knows of the call over parts is its contract.
+-- are copied out, the waiting places' lengths and tags are lent to the call over fields, the fields that it gives are stored, and the
+-- borrow is closed at the record that the fields then make up. All that it knows of the call over fields is its contract.
 use mathlib.Core.Path.{refl, subst}
 use Prim.Native.Nat.{ℕ, zero, _+_}
 use mathlib.Core.List.{[], _∷_, List}
@@ -42,12 +42,12 @@ use Rattle.calls.specs.Send.{sendLeaves, Sends}
 use Rattle.state.specs.declared.Link.{Link}
 use Rattle.calls.specs.declared.Departure.{Departure}
 use Rattle.link.specs.declared.Changed.{Changed}
-use Rattle.link.specs.Parts.{changedLink, SendsIn}
-use Rattle.link.proofs.OverParts.{sends-whole}
+use Rattle.link.specs.Fields.{changedLink, SendsIn}
+use Rattle.link.proofs.OverFields.{sends-whole}
 use Rattle.lent.proofs.Returns.{returned}
 use Rattle.lent.proofs.Lends.{Known, opened, closed}
 use Rattle.state.proofs.Shapes.{shaped}
-use Rattle.lent.proofs.Fields.{type-at, typed, parts-of, same, handed, as-held, small, small-vals, to, shr-lengths, shr-tags}
+use Rattle.lent.proofs.Fields.{type-at, typed, fields-of, same, handed, as-held, small, small-vals, to, shr-lengths, shr-tags}
 use Rattle.lent.proofs.Fields.{apart, together, shared, unshared, by-value}
 use Rattle.state.proofs.Link as L
 use Rattle.state.proofs.Link.Laws as L′
@@ -71,7 +71,7 @@ stayed = (stay-ref (0 ∷ []) tt (plain (λ _. L.the-row)), tt)
 abbrev nval : Departure → Val
 nval a = LL.val N.the-type N′.the-laws a
 
--- what is known of the parts that the call gives
+-- what is known of the fields that the call gives
 abbrev changed-of : (r : Changed) → Is S.the-row r (LL.val S.the-type S′.the-laws r ∷ [])
     → Are (S.the-type .parts) S′.the-laws (S.struct .as-values r)
 changed-of r is = LL.owed S.the-type S′.the-laws r (LL.val S.the-type S′.the-laws r ∷ []) is
@@ -105,7 +105,7 @@ module _ {M : Type 1} (𝓤 : URA M) (H : Heap 𝓤) (A : Atoms 𝓤) (W : Given
       move ! (1 ∷ 0 ∷ []) $ fjoin ! $
       owned ! N.the-row (Is N.the-row) (LL.makes N.the-type N′.the-plain 𝓤 H A) (r .answer) _ is $ move ! (1 ∷ 0 ∷ []) $ done !
 
-  -- what the call over parts says of its result
+  -- what the call over fields says of its result
   abbrev Said : Changed → Type 0
   Said r = SendsIn (handed h) r
 
@@ -141,7 +141,7 @@ module _ {M : Type 1} (𝓤 : URA M) (H : Heap 𝓤) (A : Atoms 𝓤) (W : Given
 
   after : Known h → (r : Changed) → Is S.the-row r (LL.val S.the-type S′.the-laws r ∷ []) → Known (changedLink h r)
   after is r isr =
-      let ps = parts-of h is in
+      let ps = fields-of h is in
       let ws = changed-of r isr in
       LL.owes L.the-type L′.the-laws (changedLink h r) (
         ps .0,
@@ -179,7 +179,7 @@ module _ {M : Type 1} (𝓤 : URA M) (H : Heap 𝓤) (A : Atoms 𝓤) (W : Given
         alloc1 ! (λ l₆. alloc1 !
         (λ l₇. alloc1 ! (λ l₈. alloc1 ! (λ l₉. alloc1 ! (λ l₁₀. alloc1 ! (λ l₁₁. alloc1 ! (λ l₁₂. alloc0 ! $ params1 ! $
         pass1 ! (init ! 22 refl (tt, tt)) $ pass0 ! $
-        move ! (26 ∷ 27 ∷ 28 ∷ []) $ opened ! tt h b o (λ is. let ps = parts-of h is in apart ! h b o $
+        move ! (26 ∷ 27 ∷ 28 ∷ []) $ opened ! tt h b o (λ is. let ps = fields-of h is in apart ! h b o $
         -- [the ten cells; the way back; the open borrow; obs; auth; _12; …; _11; …; _0; …]
         assigns ! (of-opd ! (load ! (from ! (hop ! (look ! 36 refl) (fld ! {τ = type-at 0} {d = 0} refl (stop !))))
         (look-raw ! 0 {τ = type-at 0} refl))) (from ! (stop !)) (init ! 32 refl (typed 𝓤 H A W 0 (h .tree) (ps .0) .0)) $

@@ -1,6 +1,6 @@
--- `link::arrive` meets its contract: a link is made up of its parts.
+-- `link::arrive` meets its contract: a link is made up of its fields.
 use Rattle.state.proofs.Shapes.{shaped}
-use Rattle.link.proofs.OverParts.{arrives-whole}
+use Rattle.link.proofs.OverFields.{arrives-whole}
 use borrow.Author.Needs.{needs}
 use Rattle.link.proofs.arrive.Statement.{statement}
 use Rattle.link.proofs.arrive.Tie as tie

@@ -1,4 +1,4 @@
--- `link::arrive_in` meets its contract: the step of an arrival, told whether the link that the parts make up is sound.
+-- `link::arrive_in` meets its contract: the step of an arrival, told whether the link that the fields make up is sound.
 use mathlib.Core.Path.{_≡_, refl, sym, _∙_}
 use lib.ListN.{length, length-map}
 use denote.Struct.Laws as LL
@@ -20,7 +20,7 @@ counts st =
 is-sound-of-requires : tie.Need-is-sound-of-requires
 is-sound-of-requires c κs = search needs
 
--- the link that the parts make up
+-- the link that the fields make up
 abbrev whole : tie.Start → Link
 whole st =
     let a = st .args in

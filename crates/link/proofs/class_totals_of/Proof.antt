@@ -1,7 +1,7 @@
 -- `link::class_totals_of` meets its contract: one entry of the tables.
 use mathlib.Core.Path.{sym, ap, _∙_}
 use Rattle.calls.specs.declared.PanelTotals.{PanelTotals}
-use Rattle.link.specs.Parts.{classIn}
+use Rattle.link.specs.Fields.{classIn}
 use Rattle.link.proofs.Told.{class-told}
 use borrow.Author.Needs.{needs}
 use Rattle.link.proofs.class_totals_of.Statement.{statement}

@@ -1,6 +1,6 @@
--- `link::send` meets its contract: a link is made up of its parts.
+-- `link::send` meets its contract: a link is made up of its fields.
 use Rattle.state.proofs.Shapes.{shaped}
-use Rattle.link.proofs.OverParts.{sends-whole}
+use Rattle.link.proofs.OverFields.{sends-whole}
 use borrow.Author.Needs.{needs}
 use Rattle.link.proofs.send.Statement.{statement}
 use Rattle.link.proofs.send.Tie as tie

@@ -7,12 +7,12 @@ use Rattle.state.specs.State.{linkOf}
 use Rattle.steps.specs.Rounds.{Moves}
 use Rattle.calls.specs.Send.{sendOf}
 use Rattle.calls.proofs.Departures.{send-unsound, send-nothing}
-use Rattle.link.proofs.OverParts.{stays-sends, goes-sends}
+use Rattle.link.proofs.OverFields.{stays-sends, goes-sends}
 use borrow.Author.Needs.{needs}
 use Rattle.link.proofs.send_of.Statement.{statement}
 use Rattle.link.proofs.send_of.Tie as tie
 
--- the link that the parts make up
+-- the link that the fields make up
 abbrev whole : tie.Start → Link
 whole s =
     let a = s .args in

@@ -19,7 +19,7 @@ use borrow.Author.Needs.{needs}
 use Rattle.link.proofs.totals_of.Statement.{statement}
 use Rattle.link.proofs.totals_of.Tie as tie
 
--- the link that the parts make up
+-- the link that the fields make up
 abbrev whole : tie.Start → List ℕ → Link
 whole st tags =
     let a = st .args in

@@ -1,4 +1,4 @@
--- `sound::is_sound` meets its contract: a link is made up of its parts.
+-- `sound::is_sound` meets its contract: a link is made up of its fields.
 use borrow.Author.Needs.{needs}
 use Rattle.sound.proofs.is_sound.Statement.{statement}
 use Rattle.sound.proofs.is_sound.Tie as tie

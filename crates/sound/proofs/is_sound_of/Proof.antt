@@ -1,4 +1,4 @@
--- `sound::is_sound_of` meets its contract: it says yes exactly where the link of these parts is sound.
+-- `sound::is_sound_of` meets its contract: it says yes exactly where the link of these fields is sound.
 use mathlib.Core.Path.{_≡_, refl, sym, _∙_}
 use Prim.Native.Nat.{ℕ}
 use native.Mathlib.Omega.{arith}

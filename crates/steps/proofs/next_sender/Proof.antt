@@ -1,6 +1,6 @@
 -- `steps::next_sender` meets its contract.
 use mathlib.Core.Path.{refl}
-use Rattle.steps.proofs.Rounding.{parts-low, parts-searched}
+use Rattle.steps.proofs.Rounding.{fields-low, fields-searched}
 use Rattle.steps.proofs.Departures.{now-finds, is-closed}
 use borrow.Author.Needs.{needs}
 use Rattle.steps.proofs.next_sender.Statement.{statement}
@@ -10,13 +10,13 @@ both-requires : tie.Need-both-requires
 both-requires c κs = search needs
 
 next-leaf-requires : tie.Need-next-leaf-requires
-next-leaf-requires c κs = let s = c .before .before .pre .0 .3 .parts in (s .sound .state .place .high, parts-low _ _ s)
+next-leaf-requires c κs = let s = c .before .before .pre .0 .3 .fields in (s .sound .state .place .high, fields-low _ _ s)
 
 returns : tie.Need-returns
 returns c =
     let n = c .before in
     λ tags packets bytes s.
-    now-finds _ _ s _ (n .next-leaf .ensures _ (parts-searched _ _ (s .parts) _ (n .before .before .both .ensures))) (c .if1 .taken)
+    now-finds _ _ s _ (n .next-leaf .ensures _ (fields-searched _ _ (s .fields) _ (n .before .before .both .ensures))) (c .if1 .taken)
 
 reopened-requires : tie.Need-reopened-requires
 reopened-requires c κs =
@@ -24,7 +24,7 @@ reopened-requires c κs =
     let n = i .before in
     let b = n .before .before in
     let s = b .before .pre .0 .3 in
-    let next = n .next-leaf .ensures _ (parts-searched _ _ (s .parts) _ (b .both .ensures)) in
+    let next = n .next-leaf .ensures _ (fields-searched _ _ (s .fields) _ (b .both .ensures)) in
     ((_, refl, is-closed _ _ s _ next (i .if1 .left)), b .before .pre .1)
 
 returns-2 : tie.Need-returns-2
@@ -33,7 +33,7 @@ returns-2 c =
     let n = i .before in
     λ tags packets bytes s.
     c .reopened .ensures _ refl
-    (is-closed _ _ s _ (n .next-leaf .ensures _ (parts-searched _ _ (s .parts) _ (n .before .before .both .ensures))) (i .if1 .left))
+    (is-closed _ _ s _ (n .next-leaf .ensures _ (fields-searched _ _ (s .fields) _ (n .before .before .both .ensures))) (i .if1 .left))
 
 pub next-sender-spec : {M : Type 1} → statement M
 next-sender-spec =

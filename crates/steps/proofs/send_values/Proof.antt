@@ -2,10 +2,10 @@
 use mathlib.Core.Path.{_≡_, refl}
 use lib.ListN.{length}
 use Rattle.tree.specs.declared.Tree.{Tree}
-use Rattle.steps.specs.Parts.{lentTree}
+use Rattle.steps.specs.Fields.{lentTree}
 use Rattle.state.proofs.Shapes.{tree-weights}
 use Rattle.steps.proofs.Rounding.{none-kept}
-use Rattle.steps.proofs.Wholes.{tree-parts, values-parts, values-wide, values-moves}
+use Rattle.steps.proofs.Wholes.{tree-fields, values-fields, values-wide, values-moves}
 use borrow.Author.Needs.{needs}
 use Rattle.steps.proofs.send_values.Statement.{statement}
 use Rattle.steps.proofs.send_values.Tie as tie
@@ -14,7 +14,7 @@ use Rattle.steps.proofs.send_values.Tie as tie
 many : (c : tie.Start) → length (c .args .accounts) ≡ 64
 many c = c .good .1 .1 .1 .1 .0 .1 .0 .1
 
--- the tree in its parts is the tree
+-- the tree in its fields is the tree
 abbrev lent : tie.After-weight-numbers → Tree
 lent c =
     let t = c .before .before .before .args .tree in
@@ -23,7 +23,7 @@ lent c =
 same : (c : tie.After-weight-numbers) → lent c ≡ c .before .before .before .args .tree
 same c =
     let st = c .before .before .before in
-    tree-parts (st .args .tree) (tree-weights (st .args .tree) _ (st .good .0)) (c .weight-numbers .result) (c .weight-numbers .ensures)
+    tree-fields (st .args .tree) (tree-weights (st .args .tree) _ (st .good .0)) (c .weight-numbers .result) (c .weight-numbers .ensures)
 
 weight-numbers-requires : tie.Need-weight-numbers-requires
 weight-numbers-requires c κs = search needs
@@ -40,8 +40,8 @@ send-requires c κs =
     let y = z .before in
     let w = y .before .before in
     let st = w .before .before .before in
-    let parts = values-parts (lent w) (same w) (many st) (st .pre) _ _ (y .balances .ensures) (z .residuals .ensures) in
-    (parts, none-kept (lent w) _ (parts .sound .state .fits .tree))
+    let fields = values-fields (lent w) (same w) (many st) (st .pre) _ _ (y .balances .ensures) (z .residuals .ensures) in
+    (fields, none-kept (lent w) _ (fields .sound .state .fits .tree))
 
 zipped-requires : tie.Need-zipped-requires
 zipped-requires c κs =

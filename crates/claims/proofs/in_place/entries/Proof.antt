@@ -14,8 +14,8 @@ use Rattle.state.specs.declared.Link.{Link}
 use Rattle.state.specs.Queue.{Shaped}
 use Rattle.state.proofs.Shapes.{shaped, link-weights}
 use Rattle.sound.specs.Sound.{SoundLink}
-use Rattle.steps.specs.Parts.{lentLink, lentTree}
-use Rattle.steps.proofs.Wholes.{tree-parts, apart-is}
+use Rattle.steps.specs.Fields.{lentLink, lentTree}
+use Rattle.steps.proofs.Wholes.{tree-fields, apart-is}
 use Rattle.claims.specs.declared.Checked.{Checked}
 use Rattle.claims.specs.declared.in_place.Did.{Did}
 use Rattle.claims.specs.Recording.{goesOn, takesOne}
@@ -48,7 +48,7 @@ handed s k = take-all (length s - k) (drop k s) (omega (arith, length-drop k s))
 abbrev handedIn : tie.After-weight-numbers Inv-loop μ-loop → tie.Start Inv-loop μ-loop
 handedIn c = c .before .before .before .before .before
 
--- the tree in its parts is the tree
+-- the tree in its fields is the tree
 abbrev lent : tie.After-weight-numbers Inv-loop μ-loop → Tree
 lent c =
     let t = handedIn c .args .link .tree in
@@ -57,9 +57,9 @@ lent c =
 same : (c : tie.After-weight-numbers Inv-loop μ-loop) → lent c ≡ handedIn c .args .link .tree
 same c =
     let l = handedIn c .args .link in
-    tree-parts (l .tree) (link-weights l _ (handedIn c .good .0)) (c .weight-numbers .result) (c .weight-numbers .ensures)
+    tree-fields (l .tree) (link-weights l _ (handedIn c .good .0)) (c .weight-numbers .result) (c .weight-numbers .ensures)
 
--- where the link lies in its parts
+-- where the link lies in its fields
 abbrev weighed : tie.After-residuals Inv-loop μ-loop → tie.After-weight-numbers Inv-loop μ-loop
 weighed c = c .before .before .before .before
 
@@ -158,7 +158,7 @@ takes-one-requires c κs = search needs
 sub-at : tie.Need-sub-at Inv-loop μ-loop
 sub-at c = c .before .before .before .before .loop .inv .0 .forward
 
--- where the loop stood when its parts were lent
+-- where the loop stood when its fields were lent
 abbrev reached : tie.After-bytes2 Inv-loop μ-loop → tie.At-loop Inv-loop μ-loop
 reached c =
     c .before .before .before .before .before .before .before .before .before .before .before .before .before .before .before .before

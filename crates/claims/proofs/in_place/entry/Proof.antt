@@ -6,14 +6,14 @@ use Rattle.plan.specs.declared.EntryRead.the-variants.{Ended, Arrives, Claims, 
 use Rattle.plan.proofs.EntryLaws.{within-by}
 use Rattle.state.specs.declared.Link.{Link}
 use Rattle.rules.proofs.Counted.{sound-climbs}
-use Rattle.steps.specs.Parts.{lentLink, lentTree}
+use Rattle.steps.specs.Fields.{lentLink, lentTree}
 use Rattle.steps.proofs.Rounding.{none-kept}
 use borrow.Author.Needs.{needs}
 use Rattle.claims.proofs.InPlace.{decides-in-place, arrival-in-place, claim-in-place}
 use Rattle.claims.proofs.in_place.entry.Statement.{statement}
 use Rattle.claims.proofs.in_place.entry.Tie as tie
 
--- the link whose parts are lent
+-- the link whose fields are lent
 abbrev whole : tie.Start → Link
 whole st =
     let a = st .args in

@@ -6,7 +6,7 @@ use native.Mathlib.Omega.{arith}
 use denote.Ref.{now}
 use lib.ListN.{length, drop}
 use Rattle.state.specs.declared.Link.{Link}
-use Rattle.steps.specs.Parts.{lentLink, lentTree}
+use Rattle.steps.specs.Fields.{lentLink, lentTree}
 use Rattle.rules.proofs.Counted.{sound-climbs}
 use Rattle.plan.specs.declared.EventRead.{EventRead}
 use Rattle.plan.specs.declared.EventRead.the-variants.{Arrive, SendNext}
@@ -17,7 +17,7 @@ use borrow.Author.Needs.{needs}
 use Rattle.parts.proofs.in_place.event.Statement.{statement}
 use Rattle.parts.proofs.in_place.event.Tie as tie
 
--- the link whose parts are lent
+-- the link whose fields are lent
 abbrev whole : tie.Start → Link
 whole st =
     let a = st .args in

@@ -14,9 +14,9 @@ use Rattle.state.specs.Queue.{Shaped}
 use Rattle.state.proofs.Shapes.{shaped, link-weights}
 use Rattle.sound.specs.Sound.{SoundLink}
 use Rattle.lines.specs.Line.{lineRoom}
-use Rattle.steps.specs.Parts.{lentLink, lentTree}
+use Rattle.steps.specs.Fields.{lentLink, lentTree}
 use Rattle.steps.specs.Rounds.{Kept}
-use Rattle.steps.proofs.Wholes.{tree-parts, apart-is}
+use Rattle.steps.proofs.Wholes.{tree-fields, apart-is}
 use Rattle.parts.specs.Steps.{Taken}
 use Rattle.run.proofs.Lines.{stepsLeft, steps-less, next-on}
 use Rattle.parts.proofs.Parts.{Laying, laying-starts, laying-on, laying-ends}
@@ -43,7 +43,7 @@ abbrev μ-loop : tie.MeasureT-loop
 abbrev handed : tie.After-weight-numbers Inv-loop μ-loop → tie.Start Inv-loop μ-loop
 handed c = c .before .before .before .before .before .before
 
--- the tree in its parts is the tree
+-- the tree in its fields is the tree
 abbrev lent : tie.After-weight-numbers Inv-loop μ-loop → Tree
 lent c =
     let t = handed c .args .link .tree in
@@ -52,7 +52,7 @@ lent c =
 same : (c : tie.After-weight-numbers Inv-loop μ-loop) → lent c ≡ handed c .args .link .tree
 same c =
     let l = handed c .args .link in
-    tree-parts (l .tree) (link-weights l _ (handed c .good .1 .0)) (c .weight-numbers .result) (c .weight-numbers .ensures)
+    tree-fields (l .tree) (link-weights l _ (handed c .good .1 .0)) (c .weight-numbers .result) (c .weight-numbers .ensures)
 
 -- where the part began
 abbrev weighed : tie.After-residuals Inv-loop μ-loop → tie.After-weight-numbers Inv-loop μ-loop

@@ -1,7 +1,7 @@
 -- `speed::opening::open_next` meets its contract.
 use mathlib.Core.Path.{_∙_}
 use Rattle.rules.proofs.Waiting.{active-meaning}
-use Rattle.steps.proofs.Rounding.{raised-none, parts-can, parts-opened}
+use Rattle.steps.proofs.Rounding.{raised-none, fields-can, fields-opened}
 use Rattle.speed.proofs.Steps.{opened-covers, same-size}
 use Rattle.speed.proofs.opening.open_next.Statement.{statement}
 use Rattle.speed.proofs.opening.open_next.Tie as tie
@@ -17,14 +17,14 @@ open-round-requires c κs =
     let w = c .before .before in
     let a = w .before in
     let s = a .before .pre .0 .1 in
-    (parts-can _ _ s (opened-covers _ (s .sound) (s .wide) (a .before .pre .1)) _ (a .round-active .ensures ∙ active-meaning _ (s .sound .state .fits .tree)), w .weight-sums .ensures)
+    (fields-can _ _ s (opened-covers _ (s .sound) (s .wide) (a .before .pre .1)) _ (a .round-active .ensures ∙ active-meaning _ (s .sound .state .fits .tree)), w .weight-sums .ensures)
 
 returns : tie.Need-returns
 returns c =
     let a = c .before .before .before .before in
     λ k s.
     same-size _ _ _ _ s (a .before .pre .1)
-    (parts-opened _ _ s _ (c .open-round .result) _ _ (a .round-active .ensures ∙ active-meaning _ (s .sound .state .fits .tree))
+    (fields-opened _ _ s _ (c .open-round .result) _ _ (a .round-active .ensures ∙ active-meaning _ (s .sound .state .fits .tree))
     (c .open-round .ensures))
 
 pub open-next-spec : {M : Type 1} → statement M

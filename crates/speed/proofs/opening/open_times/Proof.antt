@@ -4,9 +4,9 @@ use mathlib.Core.Path.{_≡_, sym, ap, _∙_}
 use Prim.Native.Nat.{ℕ, _-_, _≤_}
 use native.Mathlib.Omega.{arith}
 use lib.ListN.{length-map}
-use Rattle.steps.specs.Parts.{lentLink}
+use Rattle.steps.specs.Fields.{lentLink}
 use Rattle.speed.specs.Openings.{openedTimes}
-use Rattle.speed.proofs.Steps.{Opened, opened-apart, opened-parts, opened-more}
+use Rattle.speed.proofs.Steps.{Opened, opened-apart, opened-fields, opened-more}
 use borrow.Author.Needs.{needs}
 use Rattle.speed.proofs.opening.open_times.Statement.{statement}
 use Rattle.speed.proofs.opening.open_times.Tie as tie
@@ -42,7 +42,7 @@ loop-holds c =
 open-next-requires : tie.Need-open-next-requires Inv-loop μ-loop
 open-next-requires c κs =
     let h = c .before .before .before .before in
-    ((_, opened-parts _ _ _ (h .loop .inv .1)), ruled h)
+    ((_, opened-fields _ _ _ (h .loop .inv .1)), ruled h)
 
 add-n : tie.Need-add-n Inv-loop μ-loop
 add-n c = omega (arith, c .before .before .before .before .loop-test .taken)
@@ -55,7 +55,7 @@ loop-again c =
     let g = c .before .before .before .before in
     let h = g .before in (
       omega (arith, g .loop-test .taken),
-      opened-more _ _ (h .loop .n) _ (h .loop .inv .1) (ruled h) (c .open-next .ensures _ (opened-parts _ _ _ (h .loop .inv .1))),
+      opened-more _ _ (h .loop .n) _ (h .loop .inv .1) (ruled h) (c .open-next .ensures _ (opened-fields _ _ _ (h .loop .inv .1))),
     )
 
 zipped-requires : tie.Need-zipped-requires Inv-loop μ-loop

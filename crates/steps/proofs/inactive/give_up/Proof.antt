@@ -2,7 +2,7 @@
 use native.Mathlib.Omega.{arith}
 use lib.ListN.{length-set}
 use Rattle.rules.proofs.Fitting.{funds-small, fit-set}
-use Rattle.steps.specs.Parts.{booksOf}
+use Rattle.steps.specs.Fields.{booksOf}
 use Rattle.steps.proofs.Climbs.{given-by}
 use borrow.Author.Needs.{needs}
 use Rattle.steps.proofs.inactive.give_up.Statement.{statement}

@@ -3,7 +3,7 @@ use mathlib.Core.Path.{sym, _∙_}
 use Prim.Native.Nat.{_-_, _≤_}
 use native.Mathlib.Omega.{arith}
 use Rattle.tree.specs.declared.Tree.{Tree}
-use Rattle.steps.specs.Parts.{Grown}
+use Rattle.steps.specs.Fields.{Grown}
 use Rattle.steps.proofs.Children.{None, none-before, none-on, none-at-all, one-found}
 use borrow.Author.Needs.{needs}
 use Rattle.steps.proofs.inactive.has_active_child.Statement.{statement}

@@ -1,6 +1,6 @@
 -- `leaf::goes` meets its contract.
 use native.Mathlib.Omega.{arith}
-use Rattle.steps.specs.Parts.{lentLink}
+use Rattle.steps.specs.Fields.{lentLink}
 use Rattle.steps.proofs.Goings.{goes-first, goes-takes, goes-pays, goes-climbs, goes-off, goes-more, goes-last}
 use borrow.Author.Needs.{needs}
 use Rattle.steps.proofs.leaf.goes.Statement.{statement}

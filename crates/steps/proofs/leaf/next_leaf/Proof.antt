@@ -6,7 +6,7 @@ use Rattle.state.specs.declared.Link.{Link}
 use Rattle.state.specs.State.{meaning}
 use Rattle.rules.specs.Sending.{ready, firstFrom, nextLeaf}
 use Rattle.rules.proofs.Searching.{first-hit, first-end, first-pass}
-use Rattle.steps.specs.Parts.{Searched}
+use Rattle.steps.specs.Fields.{Searched}
 use Rattle.steps.proofs.Seeks.{seek-starts, seek-skips, seek-ready}
 use borrow.Author.Needs.{needs}
 use Rattle.steps.proofs.leaf.next_leaf.Statement.{statement}

@@ -3,7 +3,7 @@ use mathlib.Core.Path.{refl}
 use Prim.Native.Nat.{_-_}
 use native.Mathlib.Omega.{arith}
 use Rattle.steps.specs.Rounds.{Unseen, Opens, closedLink}
-use Rattle.steps.proofs.Rounding.{parts-low, parts-searched, UnderWay, under-starts, under-can, under-parts, under-finds, under-on}
+use Rattle.steps.proofs.Rounding.{fields-low, fields-searched, UnderWay, under-starts, under-can, under-fields, under-finds, under-on}
 use borrow.Author.Needs.{needs}
 use Rattle.steps.proofs.reopening.open_until_sent.Statement.{statement}
 use Rattle.steps.proofs.reopening.open_until_sent.Tie as tie
@@ -40,7 +40,7 @@ next-leaf-requires c κs =
     let h = o .before .before .before in
     let st = h .before .before in
     let w = h .loop .inv (st .pre .0 .0) (st .pre .0 .1) in
-    (omega arith, parts-low _ _ (under-parts _ _ w _ _ _ (o .open-round .ensures)))
+    (omega arith, fields-low _ _ (under-fields _ _ w _ _ _ (o .open-round .ensures)))
 
 returns : tie.Need-returns Inv-loop μ-loop
 returns c =
@@ -51,7 +51,7 @@ returns c =
       λ k q.
           let w = h .loop .inv k q in
           under-finds _ _ w _ _ _ (o .open-round .ensures) _
-          (f .next-leaf .ensures _ (parts-searched _ _ (under-parts _ _ w _ _ _ (o .open-round .ensures)) _ (b .both .ensures))),
+          (f .next-leaf .ensures _ (fields-searched _ _ (under-fields _ _ w _ _ _ (o .open-round .ensures)) _ (b .both .ensures))),
       (c .if1 .taken, refl),
     )
 
@@ -70,7 +70,7 @@ loop-again c =
     λ k q.
     let w = h .loop .inv k q in
     under-on _ _ w _ _ _ (o .open-round .ensures) _
-    (f .next-leaf .ensures _ (parts-searched _ _ (under-parts _ _ w _ _ _ (o .open-round .ensures)) _ (b .both .ensures))) (c .if1 .left)
+    (f .next-leaf .ensures _ (fields-searched _ _ (under-fields _ _ w _ _ _ (o .open-round .ensures)) _ (b .both .ensures))) (c .if1 .left)
 
 pub open-until-sent-spec : {M : Type 1} → statement M
 open-until-sent-spec =

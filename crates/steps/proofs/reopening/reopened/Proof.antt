@@ -9,14 +9,14 @@ use Rattle.tree.specs.Rules.{PlanRules}
 use Rattle.rules.specs.Active.{upward}
 use Rattle.rules.specs.Steps.{holdsSome}
 use Rattle.steps.specs.declared.reopening.Found.{Found}
-use Rattle.steps.specs.Parts.{lentLink, lentTree}
+use Rattle.steps.specs.Fields.{lentLink, lentTree}
 use Rattle.steps.specs.Rounds.{Unseen, Closed, Kept, Finds, closedLink}
 use Rattle.steps.proofs.Departures.{root-on, round-opens, then-finds}
 use borrow.Author.Needs.{needs}
 use Rattle.steps.proofs.reopening.reopened.Statement.{statement}
 use Rattle.steps.proofs.reopening.reopened.Tie as tie
 
--- the tree in its parts, the tree that is put together, and that they are one
+-- the tree in its fields, the tree that is put together, and that they are one
 abbrev lent : tie.Start → Tree
 lent st = let a = st .args in lentTree (a .count) (a .leaves) (a .parent .now) (a .weight .now) (a .longest .now) (a .follows)
 
@@ -37,7 +37,7 @@ closed : (c : tie.After-weights-of) (size : Bytes) (k : Unseen) (b r s l : List 
 closed c size k b r s l = subst (λ (t : Tree). Closed t size k b r s l) (sym (same c))
 
 rules : (c : tie.After-weights-of) → PlanRules (made c)
-rules c = subst PlanRules (sym (same c)) (c .before .before .pre .0 .2 .going .parts .sound .state .fits .tree)
+rules c = subst PlanRules (sym (same c)) (c .before .before .pre .0 .2 .going .fields .sound .state .fits .tree)
 
 kept : (c : tie.After-weights-of) → Kept (made c) (c .before .before .args .known) (c .before .before .args .kept .now)
 kept c =

@@ -1,4 +1,4 @@
--- The parts of a link that are lent: number arrays, accounts as two of them.
+-- The fields of a link that are lent: number arrays, accounts as two of them.
 use mathlib.Core.Bool.{Bool}
 use mathlib.Core.List.{List}
 use mathlib.Core.Path.{_≡_}
@@ -19,7 +19,7 @@ use Rattle.rules.specs.Sending.{Books}
 use Rattle.rules.specs.Steps.{SendsNext}
 use Rattle.state.specs.Account.{zipAccounts}
 
--- the tree with these parts, its weights as bare numbers
+-- the tree with these fields, its weights as bare numbers
 abbrev pub lentTree : ℕ → ℕ → List ℕ → List ℕ → List ℕ → Bool → Tree
 lentTree count leaves parent weight longest follows = record {
   count = count;
@@ -30,16 +30,16 @@ lentTree count leaves parent weight longest follows = record {
   follows = follows;
 }
 
--- the totals with these parts
+-- the totals with these fields
 abbrev pub lentTotals : List ℕ → List ℕ → Totals
 lentTotals packets bytes = record { packets = packets; bytes = bytes }
 
--- the link with these parts
+-- the link with these fields
 abbrev pub lentLink : Tree → Bytes → ℕ → ℕ → List ℕ → List ℕ → List ℕ → List ℕ → List ℕ → List ℕ → List ℕ → List ℕ → Link
 lentLink tree size active place balance residual start held lengths tags packets bytes =
     linkOf tree size active place (zipAccounts balance residual) start held lengths tags (lentTotals packets bytes)
 
--- the books with these parts
+-- the books with these fields
 abbrev pub booksOf : ℕ → List ℕ → List ℕ → Books
 booksOf active balance residual = record { active = active; accounts = zipAccounts balance residual }
 
@@ -58,7 +58,7 @@ pub record Searched (l : Link) (leaves place : ℕ) (balance start lengths : Lis
   pub starts : l .start ≡ start
   pub lying : l .lengths ≡ lengths
 
--- leaf i sends next on the link with these parts, whose tree has so many classes and these parents
+-- leaf i sends next on the link with these fields, whose tree has so many classes and these parents
 pub record GoesNext (t : Tree) (size : Bytes) (place i active count : ℕ)
     (parent balance residual start held lengths tags packets bytes : List ℕ) : Type 0 where
   pub many : t .count ≡ count

@@ -1,4 +1,4 @@
--- What the calls over the parts of a link say: the rules of a call on the link that the parts make up; no rule of its own. Demands 1 and 2.
+-- What the calls over the fields of a link say: the rules of a call on the link that they make up; no rule of its own. Demands 1 and 2.
 use mathlib.Core.Bool.{Bool, cond}
 use mathlib.Core.List.{List}
 use mathlib.Core.Path.{_≡_}
@@ -23,7 +23,7 @@ use Rattle.sound.specs.Sound.{SoundLink}
 use Rattle.calls.specs.Arrival.{arrivalLeaves, arrivalOf}
 use Rattle.calls.specs.Send.{sendLeaves, goes, sendOf}
 
--- an arrival over the parts of a link, with its answer and the link that the parts make up after it
+-- an arrival over the fields of a link, with its answer and the link that the fields make up after it
 pub record ArrivesIn (l : Link) (class : ℕ) (p : Packet) (answer : Arrival) (after : Link) : Type 0 where
   pub sound : Bool
   pub exactly : Exactly sound (SoundLink l)
@@ -41,18 +41,18 @@ changedTo answer active place accounts start held size totals = record {
   totals = totals;
 }
 
--- a packet that goes, and the parts of the link after it
+-- a packet that goes, and the fields of the link after it
 abbrev pub goesBy : Moved → Changed
 goesBy m =
     changedTo (goes (m .class) (m .packet) (m .rounds)) (m .active) (m .place) (m .accounts) (m .start) (m .held) (m .size) (m .totals)
 
--- the link with the parts that a send may change
+-- the link with the fields that a send may change
 abbrev pub changedLink : Link → Changed → Link
 changedLink l r =
     withTotals (queued (linkInRound l (r .size .0) (r .active) (r .place) (r .accounts)) (r .start) (r .held) (l .lengths)
     (l .tags)) (r .totals)
 
--- a send over the parts of a link
+-- a send over the fields of a link
 pub record SendsIn (l : Link) (r : Changed) : Type 0 where
   pub sound : Bool
   pub exactly : Exactly sound (SoundLink l)

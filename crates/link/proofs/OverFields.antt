@@ -1,4 +1,4 @@
--- Laws of the calls over the parts of a link: what a call over parts says is what the call on the link that they make up says, and it has
+-- Laws of the calls over the fields of a link: what a call over fields says is what the call on the link that they make up says, and it has
 -- one outcome. Demands 1 and 2.
 use mathlib.Core.Bool.{Bool, true}
 use mathlib.Core.Path.{_≡_, sym, ap, _∙_}
@@ -21,7 +21,7 @@ use Rattle.calls.specs.Send.{goes, refusedSend, sendLeaves, sendGives, sendOf, 
 use Rattle.calls.proofs.Arrivals.{arrives-by}
 use Rattle.calls.proofs.Departures.{send-goes, sends-by}
 use Rattle.link.specs.declared.Changed.{Changed}
-use Rattle.link.specs.Parts.{ArrivesIn, changedTo, goesBy, changedLink, SendsIn}
+use Rattle.link.specs.Fields.{ArrivesIn, changedTo, goesBy, changedLink, SendsIn}
 
 -- ---- an arrival
 
@@ -30,9 +30,9 @@ module _ (l : Link) (i : ℕ) (p : Packet) where
   pub arrives-whole : (a : Arrival) (after : Link) → Shaped l → ArrivesIn l i p a after → Arrives l i p (arrivalLeaves a after)
   arrives-whole a after shape x = arrives-by l i p (x .sound) (arrivalLeaves a after) shape (x .exactly) (x .gives)
 
-  -- any two outcomes are equal: the answers, and with the links every part
-  pub arrival-parts-one-answer : (a b : Arrival) (m n : Link) → ArrivesIn l i p a m → ArrivesIn l i p b n → (a ≡ b) × (m ≡ n)
-  arrival-parts-one-answer a b m n x y =
+  -- any two outcomes are equal: the answers, and with the links every field
+  pub arrival-fields-one-answer : (a b : Arrival) (m n : Link) → ArrivesIn l i p a m → ArrivesIn l i p b n → (a ≡ b) × (m ≡ n)
+  arrival-fields-one-answer a b m n x y =
       let e = x .gives ∙ ap (λ (s : Bool). arrivalOf s l i p) (exactly-unique (x .exactly) (y .exactly)) ∙ sym (y .gives) in
       (ap (λ (r : AfterArrival). r .answer) e, ap (λ (r : AfterArrival). r .link) e)
 
@@ -42,9 +42,9 @@ module _ (l : Link) (i : ℕ) (p : Packet) where
 pub sends-whole : (l : Link) (r : Changed) → Shaped l → SendsIn l r → Sends l (sendLeaves (r .answer) (changedLink l r))
 sends-whole l r shape x = sends-by l (x .sound) (sendLeaves (r .answer) (changedLink l r)) shape (x .exactly) (x .gives)
 
--- any two answers are equal, every part of them
-pub send-parts-one-answer : (l : Link) (r s : Changed) → SendsIn l r → SendsIn l s → r ≡ s
-send-parts-one-answer l r s x y =
+-- any two answers are equal, every field of them
+pub send-fields-one-answer : (l : Link) (r s : Changed) → SendsIn l r → SendsIn l s → r ≡ s
+send-fields-one-answer l r s x y =
     ap
     (λ (a : AfterSend). changedTo (a .answer) (a .link .active) (a .link .place) (a .link .accounts) (a .link .start)
     (a .link .held) (a .link .size)
@@ -52,7 +52,7 @@ send-parts-one-answer l r s x y =
     (x .gives ∙ ap (λ (b : Bool). sendOf b l) (exactly-unique (x .exactly) (y .exactly)) ∙ sym (y .gives))
 
 module _ (l : Link) (flag : Bool) (exactly : Exactly flag (SoundLink l)) (r : Changed) where
-  -- a refused send changes no part
+  -- a refused send changes no field
   pub stays-sends : (n : ℕ) → sendOf flag l ≡ sendGives (Refused n 0) l
       → r ≡ changedTo (refusedSend (Refused n 0)) (l .active) (l .place) (l .accounts) (l .start) (l .held) (l .size) (l .totals)
       → SendsIn l r
@@ -62,7 +62,7 @@ module _ (l : Link) (flag : Bool) (exactly : Exactly flag (SoundLink l)) (r : Ch
     gives = ap (λ (x : Changed). sendLeaves (x .answer) (changedLink l x)) said ∙ sym gives;
   }
 
-  -- a send that goes changes the parts of the link after it
+  -- a send that goes changes the fields of the link after it
   pub goes-sends : (m : Moved) → flag ≡ true → Moves l m → m .some ≡ true → r ≡ goesBy m → SendsIn l r
   goes-sends m on moves some said = record {
     sound = flag;
