@@ -13,17 +13,17 @@ use borrow.Author.Needs.{needs}
 use Rattle.state.proofs.lent_accounts.numbers.Statement.{statement}
 use Rattle.state.proofs.lent_accounts.numbers.Tie as tie
 
-abbrev numberOf : Bool → List Account → ℕ → ℕ
-numberOf residual accounts i = cond residual (residualOf accounts i) (balanceOf accounts i)
+abbrev balanceOrResidual : Bool → List Account → ℕ → ℕ
+balanceOrResidual residual accounts i = cond residual (residualOf accounts i) (balanceOf accounts i)
 
 abbrev Inv-loop : tie.InvT-loop
-Inv-loop residual accounts out₀ i₀ out i = (i ≤ 64) × (out ≡ table (numberOf residual accounts) i ++ replicate (64 - i) 0)
+Inv-loop residual accounts out₀ i₀ out i = (i ≤ 64) × (out ≡ table (balanceOrResidual residual accounts) i ++ replicate (64 - i) 0)
 
 abbrev μ-loop : tie.MeasureT-loop
 μ-loop residual accounts out₀ i₀ out i = 64 - i
 
 loop-holds : tie.Need-loop-holds Inv-loop μ-loop
-loop-holds c = (omega arith, rw (table-none (numberOf (c .args .residual) (c .args .t1))) refl)
+loop-holds c = (omega arith, rw (table-none (balanceOrResidual (c .args .residual) (c .args .t1))) refl)
 
 mul-a : tie.Need-mul-a Inv-loop μ-loop
 mul-a c = search needs
@@ -53,7 +53,7 @@ loop-again c =
     let a = h .before .args in (
       omega arith,
       rw (h .loop .inv .1, c .number .ensures)
-          (table-fill (numberOf (a .residual) (a .t1)) 0 64 (h .loop .i) (g .loop-test .taken)),
+          (table-fill (balanceOrResidual (a .residual) (a .t1)) 0 64 (h .loop .i) (g .loop-test .taken)),
     )
 
 returns : tie.Need-returns Inv-loop μ-loop
@@ -61,7 +61,7 @@ returns c =
     let h = c .before in
     let a = h .before .args in
     let e : h .loop .i ≡ 64 = omega arith in
-    h .loop .inv .1 ∙ rw e (append-nil (table (numberOf (a .residual) (a .t1)) 64))
+    h .loop .inv .1 ∙ rw e (append-nil (table (balanceOrResidual (a .residual) (a .t1)) 64))
 
 pub numbers-spec : {M : Type 1} → statement M
 numbers-spec =
