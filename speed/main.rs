@@ -1,6 +1,6 @@
 // Times the library beside the plain scheduler, and beside the library's own code before its speed was worked on (`base_..`), all linked
 // into this one program: bin/speed builds and runs it, docs/speed.md says what is measured and keeps the tables. What the sides answer is
-// compared first, sends one by one; a difference ends the program with status 1. Words: [quick], linkrun, `--`, and the second program.
+// compared first; a difference ends the program with status 1 and names the send. Words: [quick], linkrun, `--`, and the second program.
 mod plain;
 mod recordings;
 
@@ -10,12 +10,11 @@ use std::io::Write;
 
 // crates/speed, and the same crate over the base
 extern "C" {
-    fn speed_by_value(input: *const u8, length: usize, events: usize, out: *mut u64, room: usize) -> usize;
+    fn speed_by_value(input: *const u8, length: usize, events: usize) -> u64;
     fn speed_lent(input: *const u8, length: usize, events: usize) -> u64;
-    fn speed_sound(input: *const u8, length: usize, events: usize, out: *mut u64, room: usize, times: usize) -> usize;
+    fn speed_sound(input: *const u8, length: usize, events: usize, times: usize) -> usize;
     fn speed_plan(input: *const u8, length: usize) -> usize;
     fn speed_fresh(input: *const u8, length: usize, at: usize) -> u64;
-    fn speed_events(input: *const u8, length: usize, events: usize) -> usize;
     fn speed_openings(input: *const u8, length: usize, times: usize) -> u64;
     fn speed_run(input: *const u8, length: usize, parts: usize, out: *mut u8, room: usize) -> usize;
     fn base_by_value(input: *const u8, length: usize, events: usize, out: *mut u64, room: usize) -> usize;
@@ -23,7 +22,6 @@ extern "C" {
     fn base_sound(input: *const u8, length: usize, events: usize, out: *mut u64, room: usize, times: usize) -> usize;
     fn base_plan(input: *const u8, length: usize) -> usize;
     fn base_fresh(input: *const u8, length: usize, at: usize) -> u64;
-    fn base_events(input: *const u8, length: usize, events: usize) -> usize;
     fn base_openings(input: *const u8, length: usize, times: usize) -> u64;
 }
 
@@ -36,67 +34,40 @@ extern "C" {
 const CLOCK_THREAD_CPUTIME_ID: i32 = 3;
 const RUSAGE_CHILDREN: i32 = -1;
 
-// One build of the library.
+// One build of the library: the first events of a recording by value and lent, all answers in one number; how often the link after them is
+// found sound; the bytes that a plan uses, its fresh link's size, and what is left with the root after openings.
 #[derive(Clone, Copy)]
 struct Library {
-    by_value: unsafe extern "C" fn(*const u8, usize, usize, *mut u64, usize) -> usize,
-    lent: unsafe extern "C" fn(*const u8, usize, usize) -> u64,
-    sound: unsafe extern "C" fn(*const u8, usize, usize, *mut u64, usize, usize) -> usize,
-    plan: unsafe extern "C" fn(*const u8, usize) -> usize,
-    fresh: unsafe extern "C" fn(*const u8, usize, usize) -> u64,
-    events: unsafe extern "C" fn(*const u8, usize, usize) -> usize,
-    openings: unsafe extern "C" fn(*const u8, usize, usize) -> u64,
+    by_value: fn(&[u8], usize) -> u64,
+    lent: fn(&[u8], usize) -> u64,
+    sound: fn(&[u8], usize, usize) -> usize,
+    plan: fn(&[u8]) -> usize,
+    fresh: fn(&[u8], usize) -> u64,
+    openings: fn(&[u8], usize) -> u64,
 }
 
 const NOW: Library = Library {
-    by_value: speed_by_value,
-    lent: speed_lent,
-    sound: speed_sound,
-    plan: speed_plan,
-    fresh: speed_fresh,
-    events: speed_events,
-    openings: speed_openings,
+    by_value: |input, events| unsafe { speed_by_value(input.as_ptr(), input.len(), events) },
+    lent: |input, events| unsafe { speed_lent(input.as_ptr(), input.len(), events) },
+    sound: |input, events, times| unsafe { speed_sound(input.as_ptr(), input.len(), events, times) },
+    plan: |input| unsafe { speed_plan(input.as_ptr(), input.len()) },
+    fresh: |input, at| unsafe { speed_fresh(input.as_ptr(), input.len(), at) },
+    openings: |input, times| unsafe { speed_openings(input.as_ptr(), input.len(), times) },
 };
 
+// Its loop by value lays its sends into a buffer.
 const BASE: Library = Library {
-    by_value: base_by_value,
-    lent: base_lent,
-    sound: base_sound,
-    plan: base_plan,
-    fresh: base_fresh,
-    events: base_events,
-    openings: base_openings,
+    by_value: |input, events| {
+        let mut out = vec![0; events];
+        let many = unsafe { base_by_value(input.as_ptr(), input.len(), events, out.as_mut_ptr(), out.len()) };
+        tally(&out[..many])
+    },
+    lent: |input, events| unsafe { base_lent(input.as_ptr(), input.len(), events) },
+    sound: |input, events, times| unsafe { base_sound(input.as_ptr(), input.len(), events, [].as_mut_ptr(), 0, times) },
+    plan: |input| unsafe { base_plan(input.as_ptr(), input.len()) },
+    fresh: |input, at| unsafe { base_fresh(input.as_ptr(), input.len(), at) },
+    openings: |input, times| unsafe { base_openings(input.as_ptr(), input.len(), times) },
 };
-
-impl Library {
-    fn by_value(&self, input: &[u8], events: usize, out: &mut [u64]) -> usize {
-        unsafe { (self.by_value)(input.as_ptr(), input.len(), events, out.as_mut_ptr(), out.len()) }
-    }
-
-    fn lent(&self, input: &[u8], events: usize) -> u64 {
-        unsafe { (self.lent)(input.as_ptr(), input.len(), events) }
-    }
-
-    fn sound(&self, input: &[u8], events: usize, out: &mut [u64], times: usize) -> usize {
-        unsafe { (self.sound)(input.as_ptr(), input.len(), events, out.as_mut_ptr(), out.len(), times) }
-    }
-
-    fn plan(&self, input: &[u8]) -> usize {
-        unsafe { (self.plan)(input.as_ptr(), input.len()) }
-    }
-
-    fn fresh(&self, input: &[u8], at: usize) -> u64 {
-        unsafe { (self.fresh)(input.as_ptr(), input.len(), at) }
-    }
-
-    fn events(&self, input: &[u8], events: usize) -> usize {
-        unsafe { (self.events)(input.as_ptr(), input.len(), events) }
-    }
-
-    fn openings(&self, input: &[u8], times: usize) -> u64 {
-        unsafe { (self.openings)(input.as_ptr(), input.len(), times) }
-    }
-}
 
 // A recording's lines, by the run by parts, each part from the buffer's start; how many bytes. The base has none.
 fn run_text(input: &[u8], parts: usize, out: &mut [u8]) -> usize {
@@ -160,28 +131,21 @@ fn differs(what: &str) -> ! {
     std::process::exit(1);
 }
 
-// Sends one by one.
-fn compare(what: &str, side: &str, expected: &[u64], found: &[u64]) {
-    if let Some(k) = (0..expected.len().max(found.len())).find(|&k| expected.get(k) != found.get(k)) {
-        differs(&format!("{what}: {side} differs from plain Rust at send {}: {:x?}, {:x?}", k + 1, found.get(k), expected.get(k)));
-    }
-}
-
-// All sends in one number, as the loop over the lent entries answers them.
+// All sends in one number, as the loops over the calls answer them.
 fn tally(sends: &[u64]) -> u64 {
     sends.iter().fold(0u64, |all, &send| all.wrapping_mul(33).wrapping_add(send))
 }
 
-// The first send at which a run by the lent entries differs, if one does: any number of events can be asked.
-fn compare_lent(what: &str, library: Library, input: &[u8], recording: &Recording, expected: &[u64]) {
-    let same = |k: usize| library.lent(input, recording.filling + 2 * k) == tally(&expected[..k]);
+// The first send at which a run by the calls differs, if one does: any number of events can be asked.
+fn compare(what: &str, side: &str, calls: fn(&[u8], usize) -> u64, input: &[u8], recording: &Recording, expected: &[u64]) {
+    let same = |k: usize| calls(input, recording.filling + 2 * k) == tally(&expected[..k]);
     if !same(expected.len()) {
         let (mut good, mut bad) = (0, expected.len());
         while good + 1 < bad {
             let half = (good + bad) / 2;
             if same(half) { good = half } else { bad = half }
         }
-        differs(&format!("{what}: the lent entries differ from plain Rust at send {bad}"));
+        differs(&format!("{what}: {side} differs from plain Rust at send {bad}"));
     }
 }
 
@@ -250,22 +214,19 @@ fn pairs(amount: &Amount) {
 fn by_calls(amount: &Amount, name: &str, made: &Recording) -> [f64; 3] {
     let input = &made.input[..];
     let mut expected = vec![0; made.pairs];
-    let mut found = vec![0; made.pairs];
     assert_eq!(plain::sends(input, made.events(), &mut expected), made.pairs, "{name}: the plain scheduler stops early");
     let some = made.filling + 2 * amount.slow;
-    let many = NOW.by_value(input, some, &mut found);
-    compare(name, "the library by value", &expected[..amount.slow], &found[..many]);
-    compare_lent(name, NOW, input, made, &expected[..amount.slow]);
+    compare(name, "the library by value", NOW.by_value, input, made, &expected[..amount.slow]);
+    compare(name, "the library lent", NOW.lent, input, made, &expected[..amount.slow]);
     let mut out = vec![0; made.pairs];
-    let mut out_now = vec![0; made.pairs];
     let [all, filling] = best(amount.best_of, [&mut || _ = black_box(plain::sends(black_box(input), made.events(), &mut out)), &mut || {
         _ = black_box(plain::sends(black_box(input), made.filling, &mut []))
     }]);
     let [by_value, by_value_filling, lent, lent_filling] = best(amount.best_of, [
-        &mut || _ = black_box(NOW.by_value(black_box(input), some, &mut out_now)),
-        &mut || _ = black_box(NOW.by_value(black_box(input), made.filling, &mut [])),
-        &mut || _ = black_box(NOW.lent(black_box(input), some)),
-        &mut || _ = black_box(NOW.lent(black_box(input), made.filling)),
+        &mut || _ = black_box((NOW.by_value)(black_box(input), some)),
+        &mut || _ = black_box((NOW.by_value)(black_box(input), made.filling)),
+        &mut || _ = black_box((NOW.lent)(black_box(input), some)),
+        &mut || _ = black_box((NOW.lent)(black_box(input), made.filling)),
     ]);
     let slow = amount.slow as f64;
     [(all - filling) / made.pairs as f64, (by_value - by_value_filling) / slow, (lent - lent_filling) / slow]
@@ -315,16 +276,11 @@ fn timed<'a>(call: &'static str, many: usize, all: impl FnMut() + 'a, less: impl
 fn single_calls<'a>(library: Library, input: &'a [u8], drain: &'a [u8], made: &Recording, times: usize) -> Vec<Timed<'a>> {
     let (all, filled, pairs) = (made.events(), made.filling, made.pairs);
     let plan = &input[..input.len() - 8 * filled - 9 * pairs];
-    let room = pairs.max(filled);
-    let lent = move |input: &'a [u8], events| move || _ = black_box(library.lent(black_box(input), events));
-    let by_value = move |input: &'a [u8], events| {
-        let mut out = vec![0; room];
-        move || _ = black_box(library.by_value(black_box(input), events, &mut out))
-    };
-    let sound = move |input: &'a [u8], events, times| move || _ = black_box(library.sound(black_box(input), events, &mut [], times));
-    let reads = move |times| move || (0..times).for_each(|_| _ = black_box(library.plan(black_box(plan))));
-    let fresh = move || (0..times).for_each(|at| _ = black_box(library.fresh(black_box(plan), at)));
-    let events = move |events| move || _ = black_box(library.events(black_box(input), events));
+    let lent = move |input: &'a [u8], events| move || _ = black_box((library.lent)(black_box(input), events));
+    let by_value = move |input: &'a [u8], events| move || _ = black_box((library.by_value)(black_box(input), events));
+    let sound = move |input: &'a [u8], events, times| move || _ = black_box((library.sound)(black_box(input), events, times));
+    let reads = move |times| move || (0..times).for_each(|_| _ = black_box((library.plan)(black_box(plan))));
+    let fresh = move || (0..times).for_each(|at| _ = black_box((library.fresh)(black_box(plan), at)));
     vec![
         timed("lent: a send with its arrival, with the check", pairs, lent(input, all), lent(input, filled)),
         timed("by value: a send with its arrival, with the check", pairs, by_value(input, all), by_value(input, filled)),
@@ -336,7 +292,6 @@ fn single_calls<'a>(library: Library, input: &'a [u8], drain: &'a [u8], made: &R
         timed("`sound::is_sound`, a fresh link", times, sound(plan, 0, times), sound(plan, 0, 0)),
         timed("`plan::read_plan`", times, reads(times), reads(0)),
         timed("`link::fresh`", times, fresh, reads(times)),
-        timed("`plan::events_after`, `plan::read_event`: an event", all, events(all), events(0)),
     ]
 }
 
@@ -355,11 +310,9 @@ fn calls(amount: &Amount) {
         plain::sends(&made.input, made.events(), &mut expected);
         let bare: Vec<u64> = expected.iter().map(|&send| send + (24 << 34)).collect();
         for (library, side, input, sends) in [(BASE, "the base", &inputs[0], &bare), (NOW, "the library", &inputs[1], &expected)] {
-            let mut found = vec![0; made.pairs];
-            let many = library.by_value(input, made.events(), &mut found);
-            compare(&name, side, sends, &found[..many]);
-            compare_lent(&name, library, input, &made, sends);
-            if library.sound(input, made.events(), &mut [], 3) != 3 {
+            compare(&name, &format!("{side} by value"), library.by_value, input, &made, sends);
+            compare(&name, &format!("{side} lent"), library.lent, input, &made, sends);
+            if (library.sound)(input, made.events(), 3) != 3 {
                 differs(&format!("{name}: {side} does not find its link sound"));
             }
         }
@@ -394,7 +347,7 @@ fn openings(amount: &Amount) {
             let bare = recordings::for_bare_lengths(&plan);
             for times in 0..5 {
                 let expected = plain::openings(&plan, times);
-                if NOW.openings(&plan, times) != expected || BASE.openings(&bare, times) != expected {
+                if (NOW.openings)(&plan, times) != expected || (BASE.openings)(&bare, times) != expected {
                     differs(&format!("{classes} classes, {}: the root's balance differs after {times} openings", shape_word(shape)));
                 }
             }
@@ -402,10 +355,10 @@ fn openings(amount: &Amount) {
             let [plain, plain_none, base, base_none, now, now_none] = best(amount.best_of, [
                 &mut || _ = black_box(plain::openings(black_box(plan), 10 * n)),
                 &mut || _ = black_box(plain::openings(black_box(plan), 0)),
-                &mut || _ = black_box(BASE.openings(black_box(bare), n)),
-                &mut || _ = black_box(BASE.openings(black_box(bare), 0)),
-                &mut || _ = black_box(NOW.openings(black_box(plan), n)),
-                &mut || _ = black_box(NOW.openings(black_box(plan), 0)),
+                &mut || _ = black_box((BASE.openings)(black_box(bare), n)),
+                &mut || _ = black_box((BASE.openings)(black_box(bare), 0)),
+                &mut || _ = black_box((NOW.openings)(black_box(plan), n)),
+                &mut || _ = black_box((NOW.openings)(black_box(plan), 0)),
             ]);
             let n = n as f64;
             let (plain, base, now) = ((plain - plain_none) / n / 10.0, (base - base_none) / n, (now - now_none) / n);

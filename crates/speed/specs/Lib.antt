@@ -1,3 +1,3 @@
 -- What the timed loops do.
 pub mod Openings
-pub mod Turns
+pub mod Timed

@@ -1,13 +1,17 @@
-// The loops that bin/speed times: a recording run by the library's public calls, and single calls. Entries for a measuring program: they
-// ask nothing. They are no part of the product, and all but `speed_plan` say only that they are safe and end: what they answer is compared
-// with the plain scheduler's sends, one by one.
+// The loops that bin/speed times: the first events of a recording by the library's public calls, and single calls. Entries for a measuring
+// program: they ask nothing. They are no part of the product. What they answer is compared with the plain scheduler's sends.
 pub mod opening;
 
 ghost use mathlib.Core.Path.{_≡_};
-ghost use Prim.Native.Nat.{suc, _<_};
-ghost use lib.ListN.{length};
+ghost use mathlib.Core.Bool.{true, cond};
+ghost use Prim.Native.Nat.{_+_, _^_, _<_};
 ghost use Rattle.plan.specs.Reader.{planOf};
-ghost use Rattle.speed.specs.Turns.{plainTimed, callsLeft};
+ghost use Rattle.sound.specs.Sound.{SoundLink};
+ghost use Rattle.calls.specs.Run.{runOf, madeIn, lastLink};
+ghost use Rattle.run.specs.Event.{packetIn};
+ghost use Rattle.run.specs.Run.{beginOf};
+ghost use Rattle.speed.specs.Timed.{timedRun, sendNumber, tallied, heardArrival, tallyOf, SoundTimes, freshSize};
+ghost use Rattle.speed.specs.Timed.{plainTimed, timedAt, callsIn};
 use checks::Verdict;
 use link::Arrival;
 use link::Departure;
@@ -16,162 +20,59 @@ use plan::EventRead;
 use state::Link;
 use state::Packet;
 
-// A run so far: the link, and how many sends there were.
+// A run so far: the link, and all answers in one number.
 pub struct Ran {
     pub link: Link,
-    pub sent: usize,
+    pub tally: u64,
 }
 
 // A send as one number: class, length, rounds and tag; 1 where it is refused.
-fn number(d: Departure) -> u64 {
+fn number(d: Departure) -> u64
+    ensures { λ r. ⌜ r ≡ sendNumber (d .verdict) d ⌝ }
+{
     let verdict = d.verdict;
     match verdict {
-        Verdict::Passed => (d.class as u64) << 50
-            | (d.length as u64) << 34
-            | (d.rounds as u64) << 32
-            | d.tag as u64,
+        Verdict::Passed => {
+            let packet = std::num::wrapping_add_u64(
+                (d.class as u64) << 50,
+                (d.length as u64) << 34,
+            );
+            std::num::wrapping_add_u64(
+                std::num::wrapping_add_u64(packet, (d.rounds as u64) << 32),
+                d.tag as u64,
+            )
+        }
         Verdict::Refused(_, _) => 1,
     }
 }
 
-// Keeps a number at a place of the lent buffer, where that has room, and answers the place after it.
-fn keep(number: u64, at: usize, out: &mut [u64]) -> usize
-    ensures { λ r. ⌜ length (now (out .exit)) ≡ length (now (out .entry)) ⌝ }
+// One answer more: 33 times what it was, and the next.
+fn tallied(tally: u64, next: u64) -> u64
+    ensures { λ r. ⌜ r ≡ tallied tally next ⌝ }
 {
-    if at < out.len() {
-        out[at] = number;
-        return at + 1;
-    }
-    at
+    std::num::wrapping_add_u64(std::num::wrapping_add_u64(tally << 5, tally), next)
 }
 
-fn wide(x: u16) -> u64 {
-    x as u64
-}
-
-// The packet of an arrival.
-fn packet_of(a: Arrived) -> Packet {
-    Packet {
-        length: a.length,
-        tag: a.tag,
-    }
-}
-
-// The first events of a recording by the calls by value: each send as one number into the lent buffer, as long as that has room.
-fn by_value(input: &[u8], events: usize, out: &mut [u64]) -> Ran {
-    let read = plan::read_plan(input);
-    let tree = read.tree;
-    let made = link::fresh(tree);
-    let mut link = made.link;
-    let mut place = read.used;
-    let mut sent: usize = 0;
-    let mut n: usize = 0;
-    while n < events {
-        n += 1;
-        let rest = plan::events_after(input, place);
-        let event = plan::read_event(rest, place);
-        match event {
-            EventRead::NoMore => {
-                return Ran { link, sent };
-            }
-            EventRead::Fault(_, _) => {
-                return Ran { link, sent };
-            }
-            EventRead::Arrive(a) => {
-                let answered = link::arrive(link, a.class as usize, packet_of(a));
-                link = answered.link;
-                place = std::num::wrapping_add_usize(place, 8);
-                continue;
-            }
-            EventRead::SendNext => {
-                let gone = link::send(link);
-                let answer = gone.answer;
-                sent = keep(number(answer), sent, out);
-                link = gone.link;
-                place = std::num::wrapping_add_usize(place, 1);
-                continue;
-            }
-        }
-    }
-    Ran { link, sent }
-}
-
-// How many sends there were in a run by the calls by value.
-#[no_mangle]
-pub extern "C" fn speed_by_value(input: &[u8], events: usize, out: &mut [u64]) -> usize {
-    let ran = by_value(input, events, out);
-    ran.sent
-}
-
-// How often the link after these events is found sound, asked so many times. A free place's tag changes between two times, so that each
-// is asked.
-#[no_mangle]
-pub extern "C" fn speed_sound(input: &[u8], events: usize, out: &mut [u64], times: usize) -> usize {
-    let ran = by_value(input, events, out);
-    let mut link = ran.link;
-    let mut yes: usize = 0;
-    let mut n: usize = 0;
-    while n < times {
-        if sound::is_sound(link) {
-            yes = std::num::wrapping_add_usize(yes, 1);
-        }
-        link.tags[n % 32] = 7;
-        n += 1;
-    }
-    yes
-}
-
-// The bytes that a plan uses.
-#[no_mangle]
-pub extern "C" fn speed_plan(input: &[u8]) -> usize
-    ensures { λ r. ⌜ r ≡ planOf (now (input .entry)) .used ⌝ }
+// An arrival counts where it is refused.
+fn after_arrival(tally: u64, answer: Arrival) -> u64
+    ensures { λ r. ⌜ r ≡ heardArrival (answer .verdict) tally ⌝ }
 {
-    let read = plan::read_plan(input);
-    read.used
-}
-
-// The round size of a plan's fresh link, and a length of a waiting place, which is 0.
-#[no_mangle]
-pub extern "C" fn speed_fresh(input: &[u8], at: usize) -> u64 {
-    let read = plan::read_plan(input);
-    let made = link::fresh(read.tree);
-    let link = made.link;
-    let size = link.size;
-    std::num::wrapping_add_u64(size.0, wide(link.lengths[at % 2048]))
-}
-
-// How many of the first events of a recording are sends: what reading them costs.
-#[no_mangle]
-pub extern "C" fn speed_events(input: &[u8], events: usize) -> usize {
-    let read = plan::read_plan(input);
-    let mut place = read.used;
-    let mut sends: usize = 0;
-    let mut n: usize = 0;
-    while n < events {
-        n += 1;
-        let rest = plan::events_after(input, place);
-        let event = plan::read_event(rest, place);
-        match event {
-            EventRead::NoMore => {
-                return sends;
-            }
-            EventRead::Fault(_, _) => {
-                return sends;
-            }
-            EventRead::Arrive(_) => {
-                place = std::num::wrapping_add_usize(place, 8);
-            }
-            EventRead::SendNext => {
-                sends = std::num::wrapping_add_usize(sends, 1);
-                place = std::num::wrapping_add_usize(place, 1);
-            }
-        }
+    let verdict = answer.verdict;
+    match verdict {
+        Verdict::Passed => tally,
+        Verdict::Refused(_, _) => tallied(tally, 2),
     }
-    sends
 }
 
-// An event of a timed run, as the loop of the lent entries takes it: whether it is a call, and which; the class and the packet of an
-// arrival; the place after it, and how many more events are asked for.
+// A send counts by its number.
+fn after_send(tally: u64, d: Departure) -> u64
+    ensures { λ r. ⌜ r ≡ tallied tally (sendNumber (d .verdict) d) ⌝ }
+{
+    tallied(tally, number(d))
+}
+
+// An event of a timed run: whether it is a call, and which; the class and the packet of an arrival; the place after it, and how many more
+// events are asked for.
 pub struct TimedEvent {
     pub call: bool,
     pub arrives: bool,
@@ -195,9 +96,19 @@ fn plain(call: bool, place: usize, more: usize) -> TimedEvent
     }
 }
 
+// The packet of an arrival.
+fn packet_of(a: Arrived) -> Packet
+    ensures { λ r. ⌜ r ≡ packetIn a ⌝ }
+{
+    Packet {
+        length: a.length,
+        tag: a.tag,
+    }
+}
+
 // The event at a place, one of so many that are asked for.
 fn event_at(input: &[u8], place: usize, asked: usize) -> TimedEvent
-    ensures { λ r. ⌜ callsLeft r < suc asked ⌝ }
+    ensures { λ r. ⌜ r ≡ timedAt asked (now (input .entry)) place ⌝ }
 {
     if asked == 0 {
         return plain(false, place, 0);
@@ -205,6 +116,7 @@ fn event_at(input: &[u8], place: usize, asked: usize) -> TimedEvent
     let more = asked - 1;
     let rest = plan::events_after(input, place);
     let read = plan::read_event(rest, place);
+    let after = place + plan::used(read);
     match read {
         EventRead::NoMore => plain(false, place, 0),
         EventRead::Arrive(a) => TimedEvent {
@@ -212,35 +124,131 @@ fn event_at(input: &[u8], place: usize, asked: usize) -> TimedEvent
             arrives: true,
             class: a.class as usize,
             packet: packet_of(a),
-            place: std::num::wrapping_add_usize(place, 8),
+            place: after,
             more,
         },
-        EventRead::SendNext => plain(true, std::num::wrapping_add_usize(place, 1), more),
+        EventRead::SendNext => plain(true, after, more),
         EventRead::Fault(_, _) => plain(false, place, 0),
     }
 }
 
-// All answers in one number: 33 times what it was, and the next.
-fn tallied(tally: u64, next: u64) -> u64 {
-    std::num::wrapping_add_u64(std::num::wrapping_add_u64(tally << 5, tally), next)
-}
-
-// An arrival counts where it is refused.
-fn after_arrival(tally: u64, answer: Arrival) -> u64 {
-    let verdict = answer.verdict;
-    match verdict {
-        Verdict::Passed => tally,
-        Verdict::Refused(_, _) => tallied(tally, 2),
+// The loop of the calls by value, from an event on.
+fn by_value(first: Link, input: &[u8], start: TimedEvent) -> Ran
+    requires { ⌜ SoundLink first ⌝ }
+    ensures { λ r. ⌜ r .tally ≡ tallyOf 0 (madeIn (runOf true first (callsIn (now (input .entry)) start))) ⌝ }
+    ensures { λ r. ⌜ r .link ≡ lastLink first (madeIn (runOf true first (callsIn (now (input .entry)) start))) ⌝ }
+{
+    let mut link = first;
+    let mut event = start;
+    let mut tally: u64 = 0;
+    while event.call {
+        if event.arrives {
+            let answered = link::arrive(link, event.class, event.packet);
+            tally = after_arrival(tally, answered.answer);
+            link = answered.link;
+            event = event_at(input, event.place, event.more);
+            continue;
+        }
+        let gone = link::send(link);
+        tally = after_send(tally, gone.answer);
+        link = gone.link;
+        event = event_at(input, event.place, event.more);
     }
+    Ran { link, tally }
 }
 
-// A send counts by its number.
-fn after_send(tally: u64, d: Departure) -> u64 {
-    tallied(tally, number(d))
+// The first events of a recording by the calls by value; none where the plan is refused.
+fn first_events(input: &[u8], events: usize) -> Ran
+    ensures { λ r. ⌜ r .tally ≡ tallyOf 0 (timedRun events (now (input .entry))) ⌝ }
+    ensures { λ r. ⌜ r .link ≡ lastLink (beginOf (now (input .entry)) .link) (timedRun events (now (input .entry))) ⌝ }
+{
+    let begun = run::begin(input);
+    let link = begun.link;
+    if begun.more {
+        return by_value(link, input, event_at(input, begun.place, events));
+    }
+    Ran { link, tally: 0 }
+}
+
+// The first events of a recording by the calls by value: all answers in one number.
+#[no_mangle]
+pub extern "C" fn speed_by_value(input: &[u8], events: usize) -> u64
+    ensures { λ r. ⌜ r ≡ tallyOf 0 (timedRun events (now (input .entry))) ⌝ }
+{
+    let all = first_events(input, events);
+    all.tally
+}
+
+// One more where it was found sound.
+fn found_so(found: usize, sound: bool) -> usize
+    requires { ⌜ found + 1 < 2 ^ 64 ⌝ }
+    ensures { λ r. ⌜ r ≡ cond sound (found + 1) found ⌝ }
+{
+    if sound {
+        return found + 1;
+    }
+    found
+}
+
+// How often a link is found sound, asked so many times. A tag changes between two times, so that each is asked: tags have no say.
+fn sound_times(first: Link, times: usize) -> usize
+    ensures { λ r. ⌜ SoundTimes first times r ⌝ }
+{
+    let mut link = first;
+    let mut found: usize = 0;
+    let mut n: usize = 0;
+    while n < times {
+        found = found_so(found, sound::is_sound(link));
+        link.tags[n % 32] = 7;
+        n += 1;
+    }
+    found
+}
+
+// The same of the link after the first events of a recording.
+#[no_mangle]
+pub extern "C" fn speed_sound(input: &[u8], events: usize, times: usize) -> usize
+    ensures { λ r. ⌜ SoundTimes (lastLink (beginOf (now (input .entry)) .link) (timedRun events (now (input .entry)))) times r ⌝ }
+{
+    let all = first_events(input, events);
+    sound_times(all.link, times)
+}
+
+// The bytes that a plan uses.
+#[no_mangle]
+pub extern "C" fn speed_plan(input: &[u8]) -> usize
+    ensures { λ r. ⌜ r ≡ planOf (now (input .entry)) .used ⌝ }
+{
+    let read = plan::read_plan(input);
+    read.used
+}
+
+fn wide(x: u16) -> u64
+    ensures { λ r. ⌜ r ≡ x ⌝ }
+{
+    x as u64
+}
+
+// The round size of a plan's fresh link, and a length of a waiting place, which is 0; 0 where the plan is refused.
+#[no_mangle]
+pub extern "C" fn speed_fresh(input: &[u8], at: usize) -> u64
+    ensures { λ r. ⌜ r ≡ freshSize (planOf (now (input .entry)) .verdict) (planOf (now (input .entry))) ⌝ }
+{
+    let read = plan::read_plan(input);
+    let verdict = read.verdict;
+    if let Verdict::Refused(_, _) = verdict {
+        return 0;
+    }
+    let made = link::fresh(read.tree);
+    let link = made.link;
+    let size = link.size;
+    std::num::wrapping_add_u64(size.0, wide(link.lengths[at % 2048]))
 }
 
 // The loop of the lent entries: one record, lent to each call.
-fn serve(first: Link, input: &[u8], start: TimedEvent) -> u64 {
+fn serve(first: Link, input: &[u8], start: TimedEvent) -> u64
+    ensures { λ r. ⌜ (SoundLink first → r ≡ tallyOf 0 (madeIn (runOf true first (callsIn (now (input .entry)) start)))) ⌝ }
+{
     let mut link = first;
     let mut event = start;
     let mut tally: u64 = 0;
@@ -257,12 +265,15 @@ fn serve(first: Link, input: &[u8], start: TimedEvent) -> u64 {
     tally
 }
 
-// The first events of a recording by the lent entries: all sends in one number.
+// The first events of a recording by the lent entries: all answers in one number.
 #[no_mangle]
-pub extern "C" fn speed_lent(input: &[u8], events: usize) -> u64 {
-    let read = plan::read_plan(input);
-    let tree = read.tree;
-    let made = link::fresh(tree);
-    let first = made.link;
-    serve(first, input, event_at(input, read.used, events))
+pub extern "C" fn speed_lent(input: &[u8], events: usize) -> u64
+    ensures { λ r. ⌜ r ≡ tallyOf 0 (timedRun events (now (input .entry))) ⌝ }
+{
+    let begun = run::begin(input);
+    if begun.more {
+        let link = begun.link;
+        return serve(link, input, event_at(input, begun.place, events));
+    }
+    0
 }

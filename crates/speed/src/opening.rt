@@ -6,7 +6,8 @@ ghost use Rattle.sound.specs.Sound.{SoundLink};
 ghost use Rattle.rules.specs.After.{openedLink};
 ghost use Rattle.steps.specs.Fields.{lentLink};
 ghost use Rattle.steps.specs.Rounds.{InFields};
-ghost use Rattle.speed.specs.Openings.{Rest, offeredTo, openedTimes, rootLeft};
+ghost use Rattle.run.specs.Run.{beginOf};
+ghost use Rattle.speed.specs.Openings.{Rest, offeredTo, openedTimes, rootLeft, leftAfter};
 use state::Link;
 use state::Packet;
 use tree::Tree;
@@ -90,16 +91,17 @@ fn root_left(link: Link, times: usize) -> u64
 
 // The same on a plan's fresh link, from the plan's bytes; 0 where the plan is refused, or is one of rule 2.
 #[no_mangle]
-pub extern "C" fn speed_openings(input: &[u8], times: usize) -> u64 {
-    let read = plan::read_plan(input);
-    let made = link::fresh(read.tree);
-    let link = made.link;
+pub extern "C" fn speed_openings(input: &[u8], times: usize) -> u64
+    ensures { λ r. ⌜ r ≡ leftAfter (beginOf (now (input .entry))) times ⌝ }
+{
+    let begun = run::begin(input);
+    let link = begun.link;
     let tree = link.tree;
+    if !begun.more {
+        return 0;
+    }
     if tree.follows {
         return 0;
     }
-    if sound::is_sound(link) {
-        return root_left(link, times);
-    }
-    0
+    root_left(link, times)
 }

@@ -1,100 +1,92 @@
--- `speed::by_value` is safe and ends.
-use mathlib.Core.Path.{_≡_}
-use Prim.Native.Nat.{_≤_, _-_}
-use lib.ListN.{length}
+-- `speed::by_value` meets its contract: what is left from here is what was to do from the start.
+use mathlib.Core.Path.{refl, sym, subst}
+use Prim.Native.Nat.{_<_}
+use denote.Ref.{now}
 use borrow.Author.Needs.{needs}
+use Rattle.calls.specs.Run.{arrival, send, made}
+use Rattle.speed.specs.declared.TimedEvent.{TimedEvent}
+use Rattle.speed.specs.Timed.{callsLeft}
+use Rattle.speed.proofs.Served.{Served, served-starts, served-on, served-tally, served-link, timed-less}
 use Rattle.speed.proofs.by_value.Statement.{statement}
 use Rattle.speed.proofs.by_value.Tie as tie
 
 abbrev Inv-loop : tie.InvT-loop
-Inv-loop input events out₀ link₀ place₀ sent₀ n₀ out link place sent n = (n ≤ events) × (length out ≡ length out₀)
+Inv-loop input link₀ event₀ tally₀ link event tally = Served input link₀ event₀ link event tally
 
 abbrev μ-loop : tie.MeasureT-loop
-μ-loop input events out₀ link₀ place₀ sent₀ n₀ out link place sent n = events - n
-
-read-plan-requires : tie.Need-read-plan-requires Inv-loop μ-loop
-read-plan-requires c κs = search needs
-
-fresh-requires : tie.Need-fresh-requires Inv-loop μ-loop
-fresh-requires c κs = search needs
+μ-loop input link₀ event₀ tally₀ link event tally = callsLeft event
 
 loop-holds : tie.Need-loop-holds Inv-loop μ-loop
-loop-holds c = search needs
-
-add-n : tie.Need-add-n Inv-loop μ-loop
-add-n c = search needs
-
-events-after-requires : tie.Need-events-after-requires Inv-loop μ-loop
-events-after-requires c κs = search needs
-
-read-event-requires : tie.Need-read-event-requires Inv-loop μ-loop
-read-event-requires c κs = search needs
-
-enum-told : tie.Need-enum-told Inv-loop μ-loop
-enum-told c = search needs
-
-same-length : tie.Need-same-length Inv-loop μ-loop
-same-length c = search needs
-
-returns : tie.Need-returns Inv-loop μ-loop
-returns c = search needs
-
-enum-told-2 : tie.Need-enum-told-2 Inv-loop μ-loop
-enum-told-2 c = search needs
-
-same-length-2 : tie.Need-same-length-2 Inv-loop μ-loop
-same-length-2 c = search needs
-
-returns-2 : tie.Need-returns-2 Inv-loop μ-loop
-returns-2 c = search needs
-
-enum-known-event : tie.Need-enum-known-event Inv-loop μ-loop
-enum-known-event c = search needs
-
-cast-arrive : tie.Need-cast-arrive Inv-loop μ-loop
-cast-arrive c = search needs
-
-packet-of-requires : tie.Need-packet-of-requires Inv-loop μ-loop
-packet-of-requires c κs = search needs
+loop-holds c = let a = c .before .args in served-starts (now (a .input)) (a .first) (a .start) (c .before .pre)
 
 arrive-requires : tie.Need-arrive-requires Inv-loop μ-loop
 arrive-requires c κs = search needs
 
-wrapping-add-usize-requires : tie.Need-wrapping-add-usize-requires Inv-loop μ-loop
-wrapping-add-usize-requires c κs = search needs
+after-arrival-requires : tie.Need-after-arrival-requires Inv-loop μ-loop
+after-arrival-requires c κs = search needs
+
+event-at-requires : tie.Need-event-at-requires Inv-loop μ-loop
+event-at-requires c κs = search needs
 
 loop-less : tie.Need-loop-less Inv-loop μ-loop
-loop-less c = search needs
+loop-less c =
+    let h = c .before .before .before .before .before .before in
+    let e = h .loop .event in
+    subst (λ (x : TimedEvent). callsLeft x < callsLeft e) (sym (c .event-at .ensures))
+    (rw (c .before .before .before .before .before .loop-test .taken)
+    (timed-less (e .more) (now (h .before .before .args .input)) (e .place)))
 
 loop-again : tie.Need-loop-again Inv-loop μ-loop
-loop-again c = search needs
-
-enum-told-3 : tie.Need-enum-told-3 Inv-loop μ-loop
-enum-told-3 c = search needs
+loop-again c =
+    let t = c .before .before in
+    let r = t .before in
+    let i = r .before in
+    let h = i .before .before in
+    let a = h .before .before .args in
+    let e = h .loop .event in
+    let x = r .arrive .result in
+    served-on (now (a .input)) (a .first) (a .start) (h .loop .link) e _ (h .loop .tally) (t .after-arrival .result)
+    (made (arrival (e .class) (e .packet)) (x .answer) (x .link)) (h .loop .inv) (i .before .loop-test .taken) (rw (i .if1 .taken) refl)
+    (r .arrive .ensures) (t .after-arrival .ensures) (c .event-at .ensures)
 
 send-requires : tie.Need-send-requires Inv-loop μ-loop
 send-requires c κs = search needs
 
-number-requires : tie.Need-number-requires Inv-loop μ-loop
-number-requires c κs = search needs
+after-send-requires : tie.Need-after-send-requires Inv-loop μ-loop
+after-send-requires c κs = search needs
 
-keep-requires : tie.Need-keep-requires Inv-loop μ-loop
-keep-requires c κs = search needs
-
-wrapping-add-usize-requires-2 : tie.Need-wrapping-add-usize-requires-2 Inv-loop μ-loop
-wrapping-add-usize-requires-2 c κs = search needs
+event-at-requires-2 : tie.Need-event-at-requires-2 Inv-loop μ-loop
+event-at-requires-2 c κs = search needs
 
 loop-less-2 : tie.Need-loop-less-2 Inv-loop μ-loop
-loop-less-2 c = search needs
+loop-less-2 c =
+    let h = c .before .before .before .before .before .before in
+    let e = h .loop .event in
+    subst (λ (x : TimedEvent). callsLeft x < callsLeft e) (sym (c .event-at2 .ensures))
+    (rw (c .before .before .before .before .before .loop-test .taken)
+    (timed-less (e .more) (now (h .before .before .args .input)) (e .place)))
 
 loop-again-2 : tie.Need-loop-again-2 Inv-loop μ-loop
-loop-again-2 c = search needs
+loop-again-2 c =
+    let t = c .before .before in
+    let r = t .before in
+    let i = r .before in
+    let h = i .before .before in
+    let a = h .before .before .args in
+    let e = h .loop .event in
+    let x = r .send .result in
+    served-on (now (a .input)) (a .first) (a .start) (h .loop .link) e _ (h .loop .tally) (t .after-send .result)
+    (made send (x .answer) (x .link)) (h .loop .inv) (i .before .loop-test .taken) (rw (i .if1 .left) refl)
+    (r .send .ensures) (t .after-send .ensures) (c .event-at2 .ensures)
 
-same-length-3 : tie.Need-same-length-3 Inv-loop μ-loop
-same-length-3 c = search needs
-
-returns-3 : tie.Need-returns-3 Inv-loop μ-loop
-returns-3 c = search needs
+returns : tie.Need-returns Inv-loop μ-loop
+returns c =
+    let h = c .before in
+    let a = h .before .before .args in
+    let off = c .loop-test .left in (
+      served-tally (now (a .input)) (a .first) (a .start) (h .loop .link) (h .loop .event) (h .loop .tally) (h .loop .inv) off,
+      served-link (now (a .input)) (a .first) (a .start) (h .loop .link) (h .loop .event) (h .loop .tally) (h .loop .inv) off,
+    )
 
 pub by-value-spec : {M : Type 1} → statement M
 by-value-spec =
@@ -102,31 +94,15 @@ by-value-spec =
     (tie.spec
     Inv-loop
     μ-loop
-    read-plan-requires
-    fresh-requires
     loop-holds
-    add-n
-    events-after-requires
-    read-event-requires
-    enum-told
-    same-length
-    returns
-    enum-told-2
-    same-length-2
-    returns-2
-    enum-known-event
-    cast-arrive
-    packet-of-requires
     arrive-requires
-    wrapping-add-usize-requires
+    after-arrival-requires
+    event-at-requires
     loop-less
     loop-again
-    enum-told-3
     send-requires
-    number-requires
-    keep-requires
-    wrapping-add-usize-requires-2
+    after-send-requires
+    event-at-requires-2
     loop-less-2
     loop-again-2
-    same-length-3
-    returns-3)
+    returns)

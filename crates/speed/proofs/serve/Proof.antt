@@ -1,7 +1,8 @@
--- `speed::serve` is safe and ends: a walk of its code, as `box_loop::serve`'s. The record lies in a local of the loop; each call is lent
--- it, for a lifetime of its own, and the local holds the record at exit. The loop ends because each call is one of those asked for.
+-- `speed::serve` meets its contract: a walk of its code, as `box_loop::serve`'s. The record lies in a local of the loop; each call is lent
+-- it, for a lifetime of its own, and the local holds the record at exit. What is left from each turn is what was to do from the start. The
+-- loop ends because each call is one of those asked for.
 use mathlib.Core.Path.{_≡_, refl, sym, subst}
-use mathlib.Core.Bool.{Bool, true, false, cond as if}
+use mathlib.Core.Bool.{Bool, true, false, not, cond as if}
 use mathlib.Core.WellFounded.{WellFounded, InvImage·wf}
 use Prim.Native.Nat.{ℕ, zero, suc, _<_, _^_}
 use native.Mathlib.Omega.{arith}
@@ -20,7 +21,7 @@ use prog.Memory.{Memory}
 use prog.Routine.{Routine}
 use prog.Wp.{Heap, Out, Env, Calls, Loops, Wp, afterSeq, afterBlock, afterTurn, atReturn, WpFn, Tables}
 use ghost.Atoms.{Atoms, sem}
-use contract.Monad.{Fun, fact, factI}
+use contract.Monad.{Fun, fact}
 use contract.Running.{givenOf, tables, tablesOf}
 use sound.Laws.{∗emp}
 use sound.Loop.{loop-rule}
@@ -45,6 +46,7 @@ use denote.Triple.Call.{calls-at-last}
 use denote.Triple.Entry.{onEntry}
 use denote.Triple.Spec.{Meets, tripleOf}
 use denote.Triple.Table.{entered, cited}
+use denote.Triple.Walked.{says}
 use denote.Triple.Walked.{Stays, stay-none, stay-none-slice, walkOf, AllGo, goes-none, goes-none-slice, Walks, ends-at, walked, walk-meets}
 use denote.Triple.Clauses.{ensured, lasts}
 use denote.Exit.{yes}
@@ -54,7 +56,10 @@ use Rattle.calls.specs.Arrival.{arrivalLeaves, Arrives}
 use Rattle.calls.specs.Send.{sendLeaves, Sends}
 use Rattle.calls.specs.declared.Departure.{Departure}
 use Rattle.speed.specs.declared.TimedEvent.{TimedEvent}
-use Rattle.speed.specs.Turns.{callsLeft}
+use Rattle.calls.specs.Run.{arrival, send as sendCall, made, runOf, madeIn}
+use Rattle.sound.specs.Sound.{SoundLink}
+use Rattle.speed.specs.Timed.{sendNumber, tallied, heardArrival, tallyOf, timedAt, callsIn, callsLeft}
+use Rattle.speed.proofs.Served.{Served, served-starts, served-on, served-tally, timed-less}
 use Rattle.lent.proofs.Lends.{lval, Known}
 use Rattle.lent.proofs.Returns.{returned}
 use Rattle.lent.proofs.Loans.{loan}
@@ -102,13 +107,23 @@ abbrev IsEvent : TimedEvent → Type 0
 IsEvent e = Is Ev.the-row e (vval e ∷ [])
 
 -- what a turn of the loop begins with: the record, the event read, and the answers so far in one number
-pub record Turn : Type 0 where
+pub record Turn (input : List ℕ) (first : Link) (start : TimedEvent) : Type 0 where
   pub link : Link
   pub known : Known link
   pub event : TimedEvent
   pub is-event : IsEvent event
   pub tally : ℕ
   pub fits : tally < 2 ^ 64
+  pub served : SoundLink first → Served input first start link event tally
+
+-- how a test came out
+came-true : (b : Bool) → Holds b → b ≡ true
+came-true true h = refl
+came-true false h = absurd h
+
+came-false : (b : Bool) → Holds (not b) → b ≡ false
+came-false true h = absurd h
+came-false false h = refl
 
 -- ---- the code. The locals: 1 first, 2 input, 3 start, 4 link, 5 event, 6 tally, 7 verdict, 8 departed, 9 the test, 10 and 11 the loans
 abbrev againᴹ : Code
@@ -194,13 +209,25 @@ module _ {M : Type 1} (𝓤 : URA M) (H : Heap 𝓤) (A : Atoms 𝓤) (W : Given
       qed W [] ∵ nothing ! $ owned ! D.the-row (Is D.the-row) (LL.makes D.the-type D′.the-plain 𝓤 H A) d (v ∷ []) isd $ fjoin ! $
       owned ! u64 (Is u64) (uint-makes 𝓤 H A W w64) k (vint w64 k ∷ []) (refl, fits) $ fjoin ! $ nothing ! $ join ! $ frame ! $ done !
 
-  -- of such a call nothing is known but that it gave a number
+  -- what such a call says of its number
+  arrival-said : (k : ℕ) (a : Arrival) (r : ℕ)
+      → ent 𝓤 (ensured 𝓤 H A after-arrival.ended (after-arrival.clauses 𝓤 H A at-mem run) tt (k, (a, tt)) tt r)
+      (fact 𝓤 (r ≡ heardArrival (a .verdict) k))
+  arrival-said k a r =
+      exE 𝓤 _ (λ ws. snd∗ 𝓤 (sem 𝓤 H A (lasts after-arrival.ended tt (k, (a, tt)) ws)) (fact 𝓤 (r ≡ heardArrival (a .verdict) k)))
+
+  send-said : (k : ℕ) (d : Departure) (r : ℕ)
+      → ent 𝓤 (ensured 𝓤 H A after-send.ended (after-send.clauses 𝓤 H A at-mem run) tt (k, (d, tt)) tt r)
+      (fact 𝓤 (r ≡ tallied k (sendNumber (d .verdict) d)))
+  send-said k d r =
+      exE 𝓤 _ (λ ws. snd∗ 𝓤 (sem 𝓤 H A (lasts after-send.ended tt (k, (d, tt)) ws)) (fact 𝓤 (r ≡ tallied k (sendNumber (d .verdict) d))))
+
   module _ {K : Type 0} {Γ : List (Item 𝓤)} {G : Goal 𝓤 H} where
-    counted : K → Soaks G → (v : Val) (P : SProp 𝓤) (E : ℕ → SProp 𝓤)
+    counted : K → Soaks G → (Said : ℕ → Type 0) (v : Val) (P : SProp 𝓤) (E : ℕ → SProp 𝓤)
         → ent 𝓤 P (mean 𝓤 H A (later (some (λ (r : ℕ). (‵ ftrue ⊛ ‵ (u64 .own r (v ∷ []))) ⊛ raw (E r)))))
-        → ((r : ℕ) → Is u64 r (v ∷ []) → Seq K W Γ G) → Seq K W (raw P ∷ Γ) G
-    counted t z v P E opened k =
-        returned t z u64 (λ r. Unit {0}) (‵ ftrue) v P E opened (λ r. factI 𝓤 (Unit {0}) (E r) tt) (λ r e is. drop t $ k r is)
+        → ((r : ℕ) → ent 𝓤 (E r) (fact 𝓤 (Said r)))
+        → ((r : ℕ) → Said r → Is u64 r (v ∷ []) → Seq K W Γ G) → Seq K W (raw P ∷ Γ) G
+    counted t z Said v P E opened said k = returned t z u64 Said (‵ ftrue) v P E opened said (λ r e is. drop t $ k r e is)
 
 module _ {M : Type 1} (𝓤 : URA M) (H : Heap 𝓤) (A : Atoms 𝓤) (W : Given 𝓤 H A) (at-mem : Memory → SProp 𝓤) (run : Routine → Fun 𝓤) (κ : Lft)
     (q : Share) (h₀ : Link) (s : RefT (List ℕ)) (e₀ : TimedEvent)
@@ -223,12 +250,18 @@ module _ {M : Type 1} (𝓤 : URA M) (H : Heap 𝓤) (A : Atoms 𝓤) (W : Given
   abbrev Post : Val → SProp 𝓤
   Post = walkOf 𝓤 H A serve.ended stayed (serve.clauses 𝓤 H A at-mem run) .post (((κ, tt), (q, tt), tt, x, at), tt)
 
-  exits : (k : ℕ) → k < 2 ^ 64 → ent 𝓤 (⋆ 𝓤 H A (‵ Own ∷ ‵ (flft κ q) ∷ [])) (Post (vint w64 k))
-  exits k fits =
+  -- what is promised of the number
+  abbrev Told : ℕ → Type 0
+  Told k = SoundLink h₀ → k ≡ tallyOf 0 (madeIn (runOf true h₀ (callsIn (s .now) e₀)))
+
+  abbrev AtTurn : Type 0
+  AtTurn = Turn (s .now) h₀ e₀
+
+  exits : (k : ℕ) → k < 2 ^ 64 → Told k → ent 𝓤 (⋆ 𝓤 H A (‵ Own ∷ ‵ (flft κ q) ∷ [])) (Post (vint w64 k))
+  exits k fits told =
       qed W (‵ Own ∷ ‵ (flft κ q) ∷ [])
-      ∵ suffices ! _ (via 𝓤 _ (∗emp 𝓤 _)
-      (ends-at 𝓤 H A serve.ended stayed (serve.clauses 𝓤 H A at-mem run) W (((κ, tt), (q, tt), tt, x, at), tt) (vint w64 k) k
-      (tt, (tt, (tt, tt))) (tt, (tt, (tt, tt))))) $
+      ∵ suffices ! _ (ends-at 𝓤 H A serve.ended stayed (serve.clauses 𝓤 H A at-mem run) W (((κ, tt), (q, tt), tt, x, at), tt) (vint w64 k) k
+      (tt, (tt, (tt, tt))) (tt, (tt, (tt, tt)))) $ says ! told $
       nothing ! $ move ! (2 ∷ 0 ∷ []) $ join ! $ frame ! $ nothing ! $
       owned ! Ev.the-row (Is Ev.the-row) (LL.makes Ev.the-type Ev′.the-plain 𝓤 H A) e₀ (vval e₀ ∷ []) ise $ fjoin ! $ move ! (1 ∷ 0 ∷ []) $
       fjoin ! $
@@ -248,19 +281,20 @@ module _ {M : Type 1} (𝓤 : URA M) (H : Heap 𝓤) (A : Atoms 𝓤) (W : Given
       nothing ! $ move ! (3 ∷ 0 ∷ []) $ join ! $ join ! $ use1 W (raw (Reads 𝓤 H A at-mem run .pre (to-event i j))) (∗emp 𝓤 _) $ frame ! $
       done !
 
-  abbrev Less : ℕ → TimedEvent → Type 0
-  Less j e = callsLeft e < suc j
+  abbrev Next : ℕ → ℕ → TimedEvent → Type 0
+  Next i j e = e ≡ timedAt j (s .now) i
 
   event-said : (i j : ℕ) (e : TimedEvent)
-      → ent 𝓤 (ensured 𝓤 H A event-at.ended (event-at.clauses 𝓤 H A at-mem run) (κ, tt) (s, (i, (j, tt))) tt e) (fact 𝓤 (Less j e))
-  event-said i j e = exE 𝓤 _ (λ ws. snd∗ 𝓤 (sem 𝓤 H A (lasts event-at.ended (κ, tt) (s, (i, (j, tt))) ws)) (fact 𝓤 (Less j e)))
+      → ent 𝓤 (ensured 𝓤 H A event-at.ended (event-at.clauses 𝓤 H A at-mem run) (κ, tt) (s, (i, (j, tt))) tt e) (fact 𝓤 (Next i j e))
+  event-said i j e = exE 𝓤 _ (λ ws. snd∗ 𝓤 (sem 𝓤 H A (lasts event-at.ended (κ, tt) (s, (i, (j, tt))) ws)) (fact 𝓤 (Next i j e)))
 
   module _ {K : Type 0} {Γ : List (Item 𝓤)} {G : Goal 𝓤 H} where
-    event-read : K → Soaks G → (i j : ℕ) (u : Val) → ((e : TimedEvent) → Less j e → Is Ev.the-row e (u ∷ []) → Seq K W (‵ (flft κ q) ∷ Γ) G)
+    event-read : K → Soaks G → (i j : ℕ) (u : Val)
+        → ((e : TimedEvent) → Next i j e → Is Ev.the-row e (u ∷ []) → Seq K W (‵ (flft κ q) ∷ Γ) G)
         → Seq K W (raw (Reads 𝓤 H A at-mem run .post (to-event i j) u) ∷ Γ) G
-    event-read t z i j u k = returned t z Ev.the-row (Less j) (‵ (flft κ q) ⊛ ‵ ftrue) u _
+    event-read t z i j u k = returned t z Ev.the-row (Next i j) (‵ (flft κ q) ⊛ ‵ ftrue) u _
         (ensured 𝓤 H A event-at.ended (event-at.clauses 𝓤 H A at-mem run) (κ, tt) (s, (i, (j, tt))) tt) (id⊢ 𝓤 _) (event-said i j)
-        (λ e less is. split t $ move t (1 ∷ []) $ drop t $ k e less is)
+        (λ e next is. split t $ move t (1 ∷ []) $ drop t $ k e next is)
 
   module _ (𝓣 : Tables 𝓤 H) (met : Cites 𝓤 H A at-mem run (𝓣 .C)) (l₀ l₁ l₂ l₃ l₄ l₅ l₆ l₇ l₈ l₉ l₁₀ l₁₁ : ℕ) where
     abbrev C : Calls 𝓤 H
@@ -289,21 +323,21 @@ module _ {M : Type 1} (𝓤 : URA M) (H : Heap 𝓤) (A : Atoms 𝓤) (W : Given
         ∷ ‵ (fat fullShare word l₆ zero (vint w64 k)) ∷ ‵ (froom N′.mir l₇ zero) ∷ ‵ (froom D′.mir l₈ zero)
         ∷ ‵ (froom tyBool l₉ zero) ∷ ‵ (froom loaned l₁₀ zero) ∷ ‵ (froom loaned l₁₁ zero) ∷ ‵ Own ∷ ‵ (flft κ q) ∷ Frame
 
-    abbrev Inv : Turn → List (Item 𝓤)
+    abbrev Inv : AtTurn → List (Item 𝓤)
     Inv t = At (t .link) (t .event) (t .tally)
 
     -- fewer calls are left
-    abbrev Fewer : Turn → Turn → Type 0
+    abbrev Fewer : AtTurn → AtTurn → Type 0
     Fewer t u = callsLeft (t .event) < callsLeft (u .event)
 
     fewer-ends : WellFounded Fewer
-    fewer-ends = InvImage·wf (λ (t : Turn). callsLeft (t .event)) (Nat·lt-wfRel .wf)
+    fewer-ends = InvImage·wf (λ (t : AtTurn). callsLeft (t .event)) (Nat·lt-wfRel .wf)
 
     -- when the loop is left, the rest of the body runs
     abbrev Left : Out → SProp 𝓤
     Left = afterBlock 𝓤 H (afterSeq 𝓤 H (Wp 𝓤 H C Λ En restᴹ (atReturn 𝓤 H En Post)) (atReturn 𝓤 H En Post))
 
-    abbrev Ends : Turn → Out → SProp 𝓤
+    abbrev Ends : AtTurn → Out → SProp 𝓤
     Ends t = afterTurn 𝓤 H (Below 𝓤 H A Fewer Inv t) Left
 
     abbrev typed-event : (e : TimedEvent) (u : Val) → Is Ev.the-row e (u ∷ []) → Holds (hasTy Ev′.mir u) × WT u
@@ -313,10 +347,11 @@ module _ {M : Type 1} (𝓤 : URA M) (H : Heap 𝓤) (A : Atoms 𝓤) (W : Given
     told-event e u is = subst (Is Ev.the-row e) (LL.tells Ev.the-type Ev′.the-laws e (u ∷ []) is) is
 
     -- after a call, at the record m and the number k: the next event is read
-    next-event : (t : Turn) → t .event .call ≡ true → (m : Link) → Known m → (k : ℕ) → k < 2 ^ 64
+    next-event : (t : AtTurn) → t .event .call ≡ true → (m : Link) → Known m → (k : ℕ) → k < 2 ^ 64
+        → ((e : TimedEvent) → Next (t .event .place) (t .event .more) e → SoundLink h₀ → Served (s .now) h₀ e₀ m e k)
         → ent 𝓤 (⋆ 𝓤 H A (At m (t .event) k)) (Wp 𝓤 H C Λ En againᴹ (Ends t))
     unfolding afterTurn
-    next-event t on m ism k fits =
+    next-event t on m ism k fits goes-on =
         let i = t .event .place in
         let j = t .event .more in
         let o = LL.owed Ev.the-type Ev′.the-laws (t .event) _ (t .is-event) in
@@ -328,19 +363,21 @@ module _ {M : Type 1} (𝓤 : URA M) (H : Heap 𝓤) (A : Atoms 𝓤) (W : Given
         (and-then ! (load ! (from ! (stop !)) (look ! 4 refl))
         (and-then ! (load ! (from ! (fld ! {d = 24} refl (stop !))) (look-in ! 3 (sub ! 4 {d = 24} refl (whole !))))
         (and-then ! (load ! (from ! (fld ! {d = 32} refl (stop !))) (look-in ! 3 (sub ! 5 {d = 32} refl (whole !)))) (no-more !)))) (λ u.
-        event-read ! tt i j u (λ e less is.
+        event-read ! tt i j u (λ e next is.
         -- [the token; input; _4; _5; …]
         land-last ! (from ! (stop !)) (store ! 3 refl (typed-event e u is)) $
         rewrite ! 3 (λ (us : List Val). ‵ (fat fullShare Ev′.mir l₅ zero (only us))) (LL.tells Ev.the-type Ev′.the-laws e (u ∷ []) is)
         refl $
         move ! (2 ∷ 3 ∷ 4 ∷ 5 ∷ 6 ∷ 7 ∷ 8 ∷ 9 ∷ 10 ∷ 1 ∷ 0 ∷ []) $
-        again ! Fewer Inv t (record { link = m; known = ism; event = e; is-event = told-event e u is; tally = k; fits = fits })
-        (subst (λ (b : Bool). callsLeft e < if b (suc j) 0) (sym on) less)))
+        again ! Fewer Inv t
+        (record { link = m; known = ism; event = e; is-event = told-event e u is; tally = k; fits = fits; served = goes-on e next })
+        (subst (λ (b : Bool). callsLeft e < if b (suc j) 0) (sym on)
+        (subst (λ (x : TimedEvent). callsLeft x < suc j) (sym next) (timed-less j (s .now) i)))))
 
     -- an arrival
-    arrives : (t : Turn) → t .event .call ≡ true
+    arrives : (t : AtTurn) → t .event .call ≡ true → t .event .arrives ≡ true
         → ent 𝓤 (⋆ 𝓤 H A (Inv t)) (Wp 𝓤 H C Λ En arriveᴹ (afterSeq 𝓤 H (Wp 𝓤 H C Λ En againᴹ (Ends t)) (Ends t)))
-    arrives t on =
+    arrives t on is-arrival =
         let h = t .link in
         let i = t .event .class in
         let p = t .event .packet in
@@ -360,16 +397,19 @@ module _ {M : Type 1} (𝓤 : URA M) (H : Heap 𝓤) (A : Atoms 𝓤) (W : Given
         (goes-arrival 𝓤 H A W at-mem run (t .tally) r v (t .fits) isr) $
         calls-at-last ! fm (HearsArrival 𝓤 H A at-mem run) (met .1 .1 .1 .0) (to-arrival 𝓤 H A W at-mem run (t .tally) r v)
         (and-then ! (load ! (from ! (stop !)) (look ! 4 refl)) (and-then ! (load ! (from ! (stop !)) (look ! 5 refl)) (no-more !))) (λ w.
-        counted 𝓤 H A W at-mem run ! tt w _
-        (ensured 𝓤 H A after-arrival.ended (after-arrival.clauses 𝓤 H A at-mem run) tt (t .tally, (r, tt)) tt) (id⊢ 𝓤 _) (λ k is.
+        counted 𝓤 H A W at-mem run ! tt (λ k. k ≡ heardArrival (r .verdict) (t .tally)) w _
+        (ensured 𝓤 H A after-arrival.ended (after-arrival.clauses 𝓤 H A at-mem run) tt (t .tally, (r, tt)) tt) (id⊢ 𝓤 _)
+        (arrival-said 𝓤 H A W at-mem run (t .tally) r) (λ k told is.
         land-last ! (from ! (stop !)) (store ! 3 refl (uint-lawful 𝓤 H A W w64 .typed k _ is .0)) $
         rewrite ! 3 (λ (us : List Val). ‵ (fat fullShare word l₆ zero (only us))) (uint-tells w64 k (w ∷ []) is) refl $
-        forget ! 4 refl $ forget ! 7 refl $ by ! (next-event t on m ism k (is .1)))))
+        forget ! 4 refl $ forget ! 7 refl $ by ! (next-event t on m ism k (is .1) (λ after next sound.
+        served-on (s .now) h₀ e₀ h (t .event) after (t .tally) k (made (arrival i p) r m) (t .served sound) on (rw is-arrival refl) e told
+        next)))))
 
     -- a send
-    sends : (t : Turn) → t .event .call ≡ true
+    sends : (t : AtTurn) → t .event .call ≡ true → t .event .arrives ≡ false
         → ent 𝓤 (⋆ 𝓤 H A (Inv t)) (Wp 𝓤 H C Λ En sendᴹ (afterSeq 𝓤 H (Wp 𝓤 H C Λ En againᴹ (Ends t)) (Ends t)))
-    sends t on =
+    sends t on is-send =
         let h = t .link in
         qed W (Inv t) ∵ exec ! C Λ En sendᴹ (anyQ (afterSeq 𝓤 H (Wp 𝓤 H C Λ En againᴹ (Ends t)) (Ends t))) $
         assigns ! (addr ! (from ! (stop !))) (from ! (stop !)) (init ! 8 refl (tt, tt)) $
@@ -382,24 +422,27 @@ module _ {M : Type 1} (𝓤 : URA M) (H : Heap 𝓤) (A : Atoms 𝓤) (W : Given
         (goes-send 𝓤 H A W at-mem run (t .tally) d v (t .fits) isd) $
         calls-at-last ! fm (HearsSend 𝓤 H A at-mem run) (met .1 .1 .1 .1) (to-send 𝓤 H A W at-mem run (t .tally) d v)
         (and-then ! (load ! (from ! (stop !)) (look ! 4 refl)) (and-then ! (load ! (from ! (stop !)) (look ! 6 refl)) (no-more !))) (λ w.
-        counted 𝓤 H A W at-mem run ! tt w _ (ensured 𝓤 H A after-send.ended (after-send.clauses 𝓤 H A at-mem run) tt (t .tally, (d, tt)) tt)
-        (id⊢ 𝓤 _) (λ k is.
+        counted 𝓤 H A W at-mem run ! tt (λ k. k ≡ tallied (t .tally) (sendNumber (d .verdict) d)) w _
+        (ensured 𝓤 H A after-send.ended (after-send.clauses 𝓤 H A at-mem run) tt (t .tally, (d, tt)) tt) (id⊢ 𝓤 _)
+        (send-said 𝓤 H A W at-mem run (t .tally) d) (λ k told is.
         land-last ! (from ! (stop !)) (store ! 3 refl (uint-lawful 𝓤 H A W w64 .typed k _ is .0)) $
         rewrite ! 3 (λ (us : List Val). ‵ (fat fullShare word l₆ zero (only us))) (uint-tells w64 k (w ∷ []) is) refl $
-        forget ! 5 refl $ forget ! 8 refl $ by ! (next-event t on m ism k (is .1)))))
+        forget ! 5 refl $ forget ! 8 refl $ by ! (next-event t on m ism k (is .1) (λ after next sound.
+        served-on (s .now) h₀ e₀ h (t .event) after (t .tally) k (made sendCall d m) (t .served sound) on (rw is-send refl) e told next)))))
 
     -- the end: the number is the result, and the locals are freed
-    ends : (t : Turn) → ent 𝓤 (⋆ 𝓤 H A (Inv t)) (Wp 𝓤 H C Λ En restᴹ (atReturn 𝓤 H En Post))
-    ends t =
+    ends : (t : AtTurn) → t .event .call ≡ false → ent 𝓤 (⋆ 𝓤 H A (Inv t)) (Wp 𝓤 H C Λ En restᴹ (atReturn 𝓤 H En Post))
+    ends t off =
         qed W (Inv t) ∵ exec ! C Λ En restᴹ (atRet En Post) $
         assigns ! (of-opd ! (load ! (from ! (stop !)) (look ! 3 refl))) (from ! (stop !)) (init ! 13 refl (tt, record { fits = t .fits })) $
         returns ! (look ! 13 refl) $ forget ! 0 refl $ forget ! 1 refl $ forget ! 2 refl $ forget ! 3 refl $ forget ! 13 refl $
         move ! (13 ∷ 14 ∷ 11 ∷ 15 ∷ 2 ∷ 16 ∷ 12 ∷ 17 ∷ 0 ∷ 18 ∷ 1 ∷ 19 ∷ 3 ∷ 20 ∷ 4 ∷ 21 ∷ 5 ∷ 22 ∷ 6 ∷ 23 ∷ 7 ∷ 24 ∷ 8 ∷ 25 ∷ []) $
         free1 ! $ free1 ! $ free1 ! $ free1 ! $ free1 ! $ free1 ! $ free1 ! $ free1 ! $ free1 ! $ free1 ! $ free1 ! $ free1 ! $ free0 ! $
-        by ! (exits (t .tally) (t .fits))
+        by ! (exits (t .tally) (t .fits)
+        (λ sound. served-tally (s .now) h₀ e₀ (t .link) (t .event) (t .tally) (t .served sound) off))
 
     -- a turn: it ends with fewer calls left, or leaves the loop
-    turn : (t : Turn) → ent 𝓤 (⋆ 𝓤 H A (Inv t)) (Wp 𝓤 H C Λ En turnᴹ (Ends t))
+    turn : (t : AtTurn) → ent 𝓤 (⋆ 𝓤 H A (Inv t)) (Wp 𝓤 H C Λ En turnᴹ (Ends t))
     unfolding afterTurn
     turn t = go (t .event .call) refl
       where
@@ -412,16 +455,16 @@ module _ {M : Type 1} (𝓤 : URA M) (H : Heap 𝓤) (A : Atoms 𝓤) (W : Given
             stays ! (load ! (from ! (stop !)) (look ! 6 refl)) $
             assigns ! (of-opd ! (load ! (from ! (fld ! {d = 1} refl (stop !))) (look-in ! 1 (sub ! 1 {d = 1} refl (whole !)))))
             (from ! (stop !)) (store ! 6 refl (tt, tt)) $
-            first ! $ branches ! (load ! (from ! (stop !)) (look ! 6 refl)) (λ _. forget ! 6 refl $ by ! (arrives t on))
-            (λ _. forget ! 6 refl $ by ! (sends t on))
+            first ! $ branches ! (load ! (from ! (stop !)) (look ! 6 refl)) (λ h. forget ! 6 refl $ by ! (arrives t on (came-true _ h)))
+            (λ h. forget ! 6 refl $ by ! (sends t on (came-false _ h)))
         go false off =
             qed W (Inv t) ∵ exec ! C Λ En turnᴹ (anyQ (Ends t)) $
             assigns ! (of-opd ! (load ! (from ! (fld ! {d = 0} refl (stop !))) (look-in ! 1 (sub ! 0 {d = 0} refl (whole !)))))
             (from ! (stop !)) (init ! 6 refl (tt, tt)) $
             rewrite ! 6 (λ (b : Bool). ‵ (fat fullShare tyBool l₉ zero (vbool b))) off refl $
-            leaves-loop ! (load ! (from ! (stop !)) (look ! 6 refl)) $ forget ! 6 refl $ by ! (ends t)
+            leaves-loop ! (load ! (from ! (stop !)) (look ! 6 refl)) $ forget ! 6 refl $ by ! (ends t off)
 
-    turns : (t : Turn) → ent 𝓤 (⋆ 𝓤 H A (Inv t)) (Wp 𝓤 H C Λ En (loop turnᴹ) Left)
+    turns : (t : AtTurn) → ent 𝓤 (⋆ 𝓤 H A (Inv t)) (Wp 𝓤 H C Λ En (loop turnᴹ) Left)
     turns t = loop-rule 𝓤 H (W .laws) 𝓣 Fewer fewer-ends En turnᴹ Left (λ u. ⋆ 𝓤 H A (Inv u)) turn t
 
   -- the code up to the loop
@@ -445,7 +488,15 @@ module _ {M : Type 1} (𝓤 : URA M) (H : Heap 𝓤) (A : Atoms 𝓤) (W : Given
       forget ! 16 refl $
       keep ! (14 ∷ 12 ∷ 18 ∷ 10 ∷ 8 ∷ 6 ∷ 4 ∷ 2 ∷ 0 ∷ 24 ∷ 25 ∷ 20 ∷ 16 ∷ 22 ∷ 23 ∷ 21 ∷ 19 ∷ 17 ∷ 15 ∷ 13 ∷ 11 ∷ 9 ∷ 7 ∷ 5 ∷ 3 ∷ 1 ∷ []) $
       by ! (turns 𝓣 met l₀ l₁ l₂ l₃ l₄ l₅ l₆ l₇ l₈ l₉ l₁₀ l₁₁
-      (record { link = h₀; known = is₀; event = e₀; is-event = ise; tally = 0; fits = none }))))))))))))))
+      (record {
+        link = h₀;
+        known = is₀;
+        event = e₀;
+        is-event = ise;
+        tally = 0;
+        fits = none;
+        served = served-starts (s .now) h₀ e₀;
+      }))))))))))))))
 
 module _ {M : Type 1} (𝓤 : URA M) (H : Heap 𝓤) (A : Atoms 𝓤) (W : Given 𝓤 H A) (at-mem : Memory → SProp 𝓤) (run : Routine → Fun 𝓤)
     (𝓣 : Tables 𝓤 H) (met : Cites 𝓤 H A at-mem run (𝓣 .C)) where

@@ -16,8 +16,11 @@ open-round-requires : tie.Need-open-round-requires
 open-round-requires c κs =
     let w = c .before .before in
     let a = w .before in
-    let s = a .before .pre .0 .1 in
-    (fields-can _ _ s (opened-covers _ (s .sound) (s .wide) (a .before .pre .1)) _ (a .round-active .ensures ∙ active-meaning _ (s .sound .state .fits .tree)), w .weight-sums .ensures)
+    let s = a .before .pre .0 .1 in (
+      fields-can _ _ s (opened-covers _ (s .sound) (s .wide) (a .before .pre .1))
+          _ (a .round-active .ensures ∙ active-meaning _ (s .sound .state .fits .tree)),
+      w .weight-sums .ensures,
+    )
 
 returns : tie.Need-returns
 returns c =

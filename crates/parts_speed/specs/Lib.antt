@@ -1,0 +1,2 @@
+-- What the timed run by parts lays.
+pub mod Laid
