@@ -4,7 +4,7 @@
 #   cases/link_cases.py            checks that both files are what the text packs to, and each line of the text what the model says
 #   cases/link_cases.py --write    puts the model's lines into the text and packs it anew
 # It says what differs, by the names of the cases. Its status is 1 where something differs, 2 where the text cannot be read.
-# The model works the rules (R86 to R164, R276 and R277) in plain whole numbers, and judges nothing by what the crates answer. It was
+# The model works the rules (R86 to R164, R276, R277 and R308 to R311) in plain whole numbers, and judges nothing by what the crates answer. It was
 # written beside our definitions and the program's source: a second computation, and not the independent reading, which is
 # second/second.rs.
 import difflib
@@ -20,6 +20,7 @@ MOST_BYTES = 131072
 # Class numbers are 0 to 63, the root is 0; a class has 32 waiting places.
 NUMBERS = 64
 PLACES = 32
+WRAP = 1 << 64
 NOT_SOUND, NO_LEAF, BAD_LENGTH, FULL, NONE_WAITS = 11, 12, 13, 14, 15
 
 
@@ -46,6 +47,8 @@ class Link:
         self.tag = [0] * (NUMBERS * PLACES)
         self.packets = [0] * NUMBERS
         self.bytes = [0] * NUMBERS
+        self.mark = [0] * (NUMBERS * PLACES)
+        self.charged = 0
 
     def copy(self):
         other = Link.__new__(Link)
@@ -85,20 +88,24 @@ class Link:
             self.packets[k] += packets
             self.bytes[k] += charges
 
-    # A packet joins the queue of a class, and its totals.
+    # A packet joins the queue of a class, and its totals; its mark is the running total.
     def put_last(self, i, length, tag):
         at = self.waiting_place(i, self.held[i])
-        self.length[at], self.tag[at] = length, tag
+        self.length[at], self.tag[at], self.mark[at] = length, tag, self.charged
         self.held[i] += 1
         self.count_up(i, 1, charge(length))
 
-    # The first packet of a class leaves its queue, and its totals: its length and its tag.
+    # The first packet of a class leaves its queue, and its totals: its length, its tag and its mark.
     def take_first(self, i):
         at = self.waiting_place(i, 0)
         self.start[i] = (self.start[i] + 1) % PLACES
         self.held[i] -= 1
         self.count_up(i, -1, -charge(self.length[at]))
-        return self.length[at], self.tag[at]
+        return self.length[at], self.tag[at], self.mark[at]
+
+    # The running total has 64 bits, and wraps.
+    def charge_more(self, charges):
+        self.charged = (self.charged + charges) % WRAP
 
 
 # What a packet takes of the wire (R15 to R17): balances, Q and every comparison count charges, all else is bare lengths.
@@ -355,7 +362,7 @@ def next_leaf(link):
 
 
 def send(before):
-    refused = "out %d 0 class 0 length 0 tag 0 rounds 0 same"
+    refused = "out %d 0 class 0 length 0 tag 0 rounds 0 waited 0 same"
     if not is_sound(before):
         return before, refused % NOT_SOUND
     if not any(before.held):
@@ -363,14 +370,16 @@ def send(before):
     link = before.copy()
     i, rounds = next_leaf(link)
     link.place = i
-    length, tag = link.take_first(i)
+    length, tag, mark = link.take_first(i)
     link.balance[i] -= charge(length)
     link.balance[0] += charge(length)
+    link.charge_more(charge(length))
     if link.held[i] == 0:
         turn_inactive(link, i)
     # A state stays sound: the model holds itself to it.
     assert is_sound(link), "the model's record is not sound after a send"
-    went = "out 0 0 class %d length %d tag %d rounds %d" % (i, length, tag, rounds)
+    waited = (link.charged - mark) % WRAP
+    went = "out 0 0 class %d length %d tag %d rounds %d waited %d" % (i, length, tag, rounds, waited)
     return link, "%s %s" % (went, same(before, link))
 
 
@@ -382,7 +391,7 @@ def take(before, i):
     if i >= NUMBERS or before.held[i] == 0 or before.start[i] >= PLACES:
         return before, "took nothing"
     link = before.copy()
-    took = "took %d %d" % link.take_first(i)
+    took = "took %d %d mark %d" % link.take_first(i)
     return fit(link), took
 
 
@@ -412,6 +421,8 @@ FIELDS = (
     ("rule", "rule", 64),
     ("packets", "class", 64),
     ("bytes", "class", 64),
+    ("mark", "waiting", 64),
+    ("charged", "", 64),
 )
 FIELD_NUMBER = {name: number for number, (name, _, _) in enumerate(FIELDS)}
 
@@ -442,10 +453,11 @@ def store(before, field, index, value):
     return link
 
 
-# The books: place, active set as a number, the size in force, and balance and residual of each class from the root on.
+# The books: place, active set as a number, the size in force, the running total, and balance and residual of each class from the root on.
 def books(link):
     accounts = ["%d+%d" % (link.balance[i], link.residual[i]) for i in range(min(link.count, 63) + 1)]
-    return "books place %d active %d size %d accounts %s" % (link.place, bits(link.active), link.size, " ".join(accounts))
+    numbers = (link.place, bits(link.active), link.size, link.charged)
+    return "books place %d active %d size %d charged %d accounts %s" % (*numbers, " ".join(accounts))
 
 
 # The totals of each class from the root on, packets/bytes.

@@ -96,7 +96,7 @@ function question() {
   if (answer.number >= 20) refused(answer.number);
 }
 
-// A run, its reasons, the bound of each packet by the formula, and none beyond it.
+// A run, its reasons, the bound of each packet by the formula, what it waited by the charges from its acceptance on, and none beyond it.
 function run() {
   input = ask("generate", [String(seed)]);
   const ours = lib.run(input);
@@ -106,7 +106,11 @@ function run() {
   counts.events += told.lines.length - 2;
   counts.packets += told.packets.length;
   const { tree, size } = lib.open(input);
+  const charged = Array(told.lines.length).fill(0);
+  for (const p of told.packets) charged[p.event] = p.charge;
+  charged.forEach((charge, event) => { charged[event] = charge + (charged[event - 1] ?? 0); });
   for (const p of told.packets) {
+    same(`what tag ${p.tag} in class ${p.class} waited`, p.waited, charged[p.event] - charged[p.accepted]);
     same(`the bound of tag ${p.tag} in class ${p.class}`, p.bound, (Math.ceil(p.held / tree.weight[p.class]) + 1) * size);
     if (p.waited > p.bound) differs(`packet of class ${p.class}, tag ${p.tag}, beyond its bound`, p.waited, p.bound);
     counts.nearest = Math.max(counts.nearest, p.waited / p.bound);

@@ -185,8 +185,8 @@ for (const name of ["gateway", "63", "deep"]) {
 await setText("\uFEFF" + gateway.replace(/\n/g, "\r\n") + "\r\nin 1 100 1\r\nsend\r\n");
 await drawn();
 check("a pasted text with CRLF and events", [await verdict(), await p.run('state.plan.rows[3].name'),
-    (await p.run('$("lines").textContent')).split("\n").slice(0, 3).map((l) => l.split(" ").slice(0, 4).join(" "))],
-  ["The plan is taken", "gate", ["link 7 6822", "in 1 100 1", "out 1 100 1"]]);
+    (await p.run('$("lines").textContent')).split("\n").slice(0, 3)],
+  ["The plan is taken", "gate", ["link 7 6822", "in 1 100 1 124", "out 1 100 1 1 124"]]);
 await setText("class 1: leaf, parent 0, weight 1,000, longest 10\n");
 check("a text that cannot be read", [(await text("verdict")).slice(0, 57), await wrongLine()],
     ["The text cannot be read. Line 1: a number is digits alone", "▶ 1"]);
@@ -245,7 +245,7 @@ check("its reason is the library's", await p.run('lib.why(state.input.bytes.suba
 await p.run('$("moment").value = 9; document.querySelector("#classes [data-leaf=\\"4\\"]").click()');
 check("why leaf 4 is silent at the end", await text("reason"),
     "After event 9 of 9: class 4 leaf holds no packet, so there is nothing to send. Look at its sender. (silent 4 empty 0)");
-check("lines with more numbers at their end", await p.run(`(() => {
+check("the last numbers of the lines are shown", await p.run(`(() => {
   const { packets } = readRun(lib, state.input.bytes, "link 4 262\\nin 2 2 1 500\\nout 2 2 1 1 777\\nend 0\\n");
   return [packets[0].held, packets[0].waited, packets[0].bound];
 })()`), [500, 777, 262 * 501]);

@@ -1,5 +1,5 @@
 // A run as it is drawn: the library's lines, packet by packet and round by round. No part of the page is touched from here.
-// A line may have more numbers at its end than are read here: `in` the bytes then waiting in its queue, `out` the bytes that it waited.
+// The last number of an `in` line is the bytes then waiting in its queue, that of an `out` line the bytes that the packet waited.
 
 // The events of a text, a line each; what follows a # is a remark.
 function readEvents(text) {
@@ -45,22 +45,20 @@ function readRun(lib, input, text, bounds = true) {
   return run;
 }
 function classOf(run, c) {
-  if (!run.classes.has(c)) run.classes.set(c, { taken: 0, refused: 0, sent: 0, queue: [], held: 0, wait: 0, bound: 0 });
+  if (!run.classes.has(c)) run.classes.set(c, { taken: 0, refused: 0, sent: 0, queue: [], wait: 0, bound: 0 });
   return run.classes.get(c);
 }
 function takenIn(run, [c, length, tag, held], event, charge) {
   const q = classOf(run, c);
   q.taken += 1;
-  q.held += charge;
-  q.queue.push({ class: c, length, tag, charge, accepted: event, held: held ?? q.held, mark: run.total });
+  q.queue.push({ class: c, length, tag, charge, accepted: event, held });
 }
 function sentOut(run, [c, , , rounds, waited], event, boundOf) {
   const q = classOf(run, c), packet = q.queue.shift();
   run.rounds += rounds;
   run.total += packet.charge;
-  q.held -= packet.charge;
   q.sent += 1;
-  Object.assign(packet, { event, round: run.rounds, waited: waited ?? run.total - packet.mark, bound: boundOf(packet.held) });
+  Object.assign(packet, { event, round: run.rounds, waited, bound: boundOf(packet.held) });
   if (packet.waited > q.wait) Object.assign(q, { wait: packet.waited, bound: packet.bound });
   run.packets.push(packet);
 }

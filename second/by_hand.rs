@@ -267,8 +267,9 @@ impl Page {
 
     /// The packet goes; gives the words for it.
     fn sent(&mut self, link: &mut Link, leaf: usize) -> String {
-        let packet = link.queues[leaf].remove(0);
-        let cost = packet.charge();
+        let cost = link.queues[leaf][0].charge();
+        charged_on_the_link(link, cost);
+        link.queues[leaf].remove(0);
         totals::left(link, leaf, cost);
         let (of_leaf, of_root) = (link.accounts[leaf].balance, link.accounts[ROOT].balance);
         link.accounts[leaf].balance = sub(of_leaf, cost);
@@ -383,7 +384,7 @@ pub fn worked(tree: &Tree, events: &[Event], from: usize, to: usize, table: usiz
             Event::Send => {
                 sends += 1;
                 let line = match siblings.send(&mut link) {
-                    Ok(sent) => format!("out {} {} {} {}", sent.class, sent.length, sent.tag, sent.rounds),
+                    Ok(sent) => sent.line(),
                     Err(_) => "none".to_string(),
                 };
                 if position + 1 >= from {
@@ -397,14 +398,16 @@ pub fn worked(tree: &Tree, events: &[Event], from: usize, to: usize, table: usiz
     page.lines
 }
 
-/// A packet on its way: its row so far, and the charges of what was sent since it was accepted.
+/// A packet on its way: its row so far, none where it is not to be shown, and the charges of what was sent since it was accepted.
 struct Waiting {
+    class: usize,
     tag: u64,
-    row: String,
+    row: Option<String>,
     since: Vec<u64>,
 }
 
-/// The rows of the table of waits, for packets accepted from event `from` on, in the order in which they go.
+/// The rows of the table of waits, for packets accepted from event `from` on, in the order in which they go. Every packet of the run is
+/// followed, one charge after the other, and what its send answered must be the sum of them.
 pub fn waits(input: &[u8], from: usize) -> Vec<String> {
     let (tree, events) = parts_of(input);
     let (mut link, _) = fresh_link(&tree);
@@ -414,23 +417,22 @@ pub fn waits(input: &[u8], from: usize) -> Vec<String> {
         match *event {
             Event::Arrival { class, length, tag } => {
                 let Ok(all) = arrival(&mut link, class, length, tag) else { continue };
-                if position + 1 >= from {
-                    let charges: Vec<u64> = link.queues[class].iter().map(Packet::charge).collect();
-                    assert_eq!(all, charges.iter().sum::<u64>(), "D, as the arrival answered it");
-                    let weight = link.tree.classes[class].weight;
-                    let (mains, size) = (all.div_ceil(weight), link.size);
-                    let bound = mul(add(mains, 1), size);
-                    let row = format!("| {tag} | {class} | {} | {weight} | ({mains} + 1) × {size} = {bound} |", sum(&charges));
-                    waiting.push(Waiting { tag, row, since: Vec::new() });
-                }
+                let charges: Vec<u64> = link.queues[class].iter().map(Packet::charge).collect();
+                assert_eq!(all, charges.iter().sum::<u64>(), "D, as the arrival answered it");
+                let weight = link.tree.classes[class].weight;
+                let (mains, size) = (all.div_ceil(weight), link.size);
+                let bound = mul(add(mains, 1), size);
+                let row = format!("| {tag} | {class} | {} | {weight} | ({mains} + 1) × {size} = {bound} |", sum(&charges));
+                waiting.push(Waiting { class, tag, row: Some(row).filter(|_| position + 1 >= from), since: Vec::new() });
             }
             Event::Send => {
                 let Ok(sent) = siblings.send(&mut link) else { continue };
                 waiting.iter_mut().for_each(|w| w.since.push(charge(sent.length)));
-                if let Some(gone) = waiting.iter().position(|w| w.tag == sent.tag) {
-                    let gone = waiting.remove(gone);
-                    rows.push(format!("{} {} |", gone.row, sum(&gone.since)));
-                }
+                let gone = waiting.iter().position(|w| w.class == sent.class).expect("a packet left that never came");
+                let gone = waiting.remove(gone);
+                let waited = gone.since.iter().sum::<u64>();
+                assert_eq!((gone.tag, waited), (sent.tag, sent.wait), "the bytes from acceptance on, as the send answered them");
+                rows.extend(gone.row.map(|row| format!("{row} {} |", sum(&gone.since))));
             }
         }
     }

@@ -136,7 +136,7 @@ fn link_after(tree: &Tree, events: &[Event]) -> (Link, String) {
                 Err(refusal) => format!("no {class} {length} {tag} {}", refusal.number),
             },
             Event::Send => match siblings.send(&mut link) {
-                Ok(sent) => format!("out {} {} {} {}", sent.class, sent.length, sent.tag, sent.rounds),
+                Ok(sent) => sent.line(),
                 Err(_) => "none".to_string(),
             },
         };
@@ -234,7 +234,7 @@ mod tests {
     #[test]
     fn the_listing_after_its_first_send() {
         let lines = asked_of(&["state", "5"], include_bytes!("tree_p.bin"));
-        assert_eq!(lines[0..2], ["After event 5 of 9: out 4 10 4 1", "Q 262, place 4; waiting: packets 3, charged bytes 252"]);
+        assert_eq!(lines[0..2], ["After event 5 of 9: out 4 10 4 1 84", "Q 262, place 4; waiting: packets 3, charged bytes 252"]);
         assert_eq!(lines[4], "0 root                       87        64  yes           3    252");
         assert_eq!(lines[7], "│   └── 3 leaf       2       74            yes           2    168     84");
     }

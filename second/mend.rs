@@ -162,7 +162,7 @@ pub fn program(words: &[String], input: &[u8]) -> Output {
 #[cfg(test)]
 mod tests {
     use super::*;
-    use crate::random_plans::{Random, damaged_plan, root_alone, random_tree, PLAN_FAULTS};
+    use super::super::random_plans::{Random, damaged_plan, root_alone, random_tree, PLAN_FAULTS};
 
     /// A plan of classes (parent, weight, is it a leaf), each leaf's longest 10.
     fn plan(classes: &[(u8, u32, bool)]) -> Vec<u8> {
@@ -336,7 +336,7 @@ mod tests {
             for class in tree.iter_mut().skip(1) {
                 (class.weight, class.longest) = (random.from_to(1, 3), u64::from(class.leaf));
             }
-            let input = crate::random_plans::plan(&tree);
+            let input = super::super::random_plans::plan(&tree);
             let Ok(mended) = mend(&input) else { continue };
             let (read, _) = read_records(&input).unwrap();
             // no leaf weighs more than 3 and there are at most 6, so no inner class needs more than 15

@@ -5,7 +5,7 @@
 //! With words it prints a run worked step by step, for docs/by-hand.md (see by_hand.rs) and for the desk's own runs (see desk.rs), why
 //! leaves are silent (see silent.rs), what waits under each class (see totals.rs), how far apart two siblings are (see siblings.rs), a
 //! plan's bytes written back (see write.rs), a plan whose shares don't add up mended (see mend.rs), or another box's recording checked
-//! (see claims.rs).
+//! (see claims.rs). The program of waited.rs has this one as a part and reads its lines.
 //! Build: rustc -O --edition 2021 second.rs; test: rustc -O --edition 2021 --test second.rs -o second_test
 
 #[path = "by_hand.rs"]
@@ -48,11 +48,15 @@ struct Account {
     residual: u64,
 }
 
-/// A waiting packet: "each a length and a tag".
+/// A waiting packet: "each a length and a tag". "Each waiting place gains a mark: the running total of bytes charged on the link when the
+/// packet was accepted": this program keeps no total and no mark. `since` is a sum of its own for each packet, the charges of all that was
+/// sent since it was accepted, to which every send adds; so it is "the total less the mark, modulo 2 to the power 64". As "any values of
+/// them are sound", any sum is, and the soundness list below does not speak of it.
 #[derive(Clone, Copy, PartialEq, Eq, Debug)]
 struct Packet {
     length: u64,
     tag: u64,
+    since: u64,
 }
 
 impl Packet {
@@ -77,17 +81,26 @@ struct Link {
     totals: Vec<totals::Total>,
 }
 
-/// The answer to a send: "class, length, tag and the number of rounds opened in that call"; the length is bare.
+/// The answer to a send: "class, length, tag and the number of rounds opened in that call"; the length is bare. "A send also answers the
+/// bytes charged from acceptance to the end of that packet": `wait`.
 #[derive(Clone, PartialEq, Eq, Debug)]
 struct Sent {
     class: usize,
     length: u64,
     tag: u64,
     rounds: usize,
+    wait: u64,
     /// Which of the opened rounds were surplus rounds, in order (for the tests and the counts).
     surplus: Vec<bool>,
     /// Each moment at which a round has closed (for two siblings, side by side).
     closings: Vec<Closing>,
+}
+
+impl Sent {
+    /// `out` class length tag rounds, and the bytes from acceptance on: "`out` lines gain it as a last field".
+    fn line(&self) -> String {
+        format!("out {} {} {} {} {}", self.class, self.length, self.tag, self.rounds, self.wait)
+    }
 }
 
 /// "the round has closed at that moment, and a new one is opened in the same call": all balances then, and the quotas of the new one.
@@ -302,7 +315,8 @@ fn arrival(link: &mut Link, class: usize, length: u64, tag: u64) -> Result<u64, 
         return refuse(14, class);
     }
     // the leaf isn't made active here: "A new arrival to such a leaf waits for the next round."
-    let waiting = add_to_queue(link, class, Packet { length, tag });
+    // nothing was charged since its acceptance
+    let waiting = add_to_queue(link, class, Packet { length, tag, since: 0 });
     link.assert_sound("an arrival");
     Ok(waiting)
 }
@@ -335,7 +349,8 @@ fn send(link: &mut Link) -> Result<Sent, Refusal> {
         if let Some(leaf) = search(link) {
             let packet = send_first(link, leaf);
             link.assert_sound("a send");
-            return Ok(Sent { class: leaf, length: packet.length, tag: packet.tag, rounds: surplus.len(), surplus, closings });
+            let (rounds, wait) = (surplus.len(), packet.since);
+            return Ok(Sent { class: leaf, length: packet.length, tag: packet.tag, rounds, wait, surplus, closings });
         }
         // "a main round always sends", so no other round is opened after one in the same call.
         assert!(surplus.last() != Some(&false), "a main round sent nothing");
@@ -364,8 +379,18 @@ fn search(link: &mut Link) -> Option<usize> {
     }
 }
 
+/// So many bytes are "charged on the link": each packet that waits has waited for them, and the one that they are charged for still waits,
+/// as its own bytes count "to the end of that packet".
+fn charged_on_the_link(link: &mut Link, bytes: u64) {
+    for packet in link.queues.iter_mut().flatten() {
+        // "modulo 2 to the power 64"; that no sum of a run from a fresh link gets there is checked by the run (`Run::left`)
+        packet.since = packet.since.wrapping_add(bytes);
+    }
+}
+
 /// Step 1's sending: the leaf loses the charge, "the root's balance gains it, the place becomes that leaf".
 fn send_first(link: &mut Link, leaf: usize) -> Packet {
+    charged_on_the_link(link, link.queues[leaf][0].charge());
     let packet = link.queues[leaf].remove(0);
     totals::left(link, leaf, packet.charge());
     link.accounts[leaf].balance = sub(link.accounts[leaf].balance, packet.charge());
@@ -540,10 +565,10 @@ struct Watched {
     sent_before: u64,
 }
 
-/// The lines of a run and what was counted on the way.
+/// The lines of a run (which waited.rs reads too) and what was counted on the way.
 #[derive(Default)]
-struct Run {
-    lines: Vec<String>,
+pub struct Run {
+    pub lines: Vec<String>,
     counts: Counts,
     /// All bytes charged so far, and each class's waiting packets in order, for the bounded wait.
     sent: u64,
@@ -582,7 +607,7 @@ impl Run {
         }
     }
 
-    /// Runs one send and prints `out` or, "for refusal 15", `none`.
+    /// Runs one send and prints `out`, with the bytes from acceptance on "as a last field", or, "for refusal 15", `none`.
     fn send(&mut self, link: &mut Link) {
         self.counts.events += 1;
         let in_force = link.in_force;
@@ -590,8 +615,8 @@ impl Run {
             Ok(sent) => {
                 self.counts.size_changes += u64::from(link.in_force != in_force);
                 self.count_rounds(&sent);
-                self.left(sent.class, sent.length);
-                self.lines.push(format!("out {} {} {} {}", sent.class, sent.length, sent.tag, sent.rounds));
+                self.left(&sent);
+                self.lines.push(sent.line());
             }
             Err(refusal) => {
                 assert_eq!(refusal.number, 15, "a send was refused with {refusal:?}");
@@ -609,10 +634,12 @@ impl Run {
         self.watched.entry(class).or_default().push_back(Watched { bound, sent_before: self.sent });
     }
 
-    /// The first packet of a class has left.
-    fn left(&mut self, class: usize, length: u64) {
-        self.sent = add(self.sent, charge(length));
-        let first = self.watched.get_mut(&class).and_then(|waiting| waiting.pop_front()).expect("a packet left that never came");
+    /// The first packet of a class has left. "in every run from a fresh link it is the true sum of charges": what the send answered is held
+    /// to all bytes charged in this run, which no sum here may wrap round, less those charged before the packet came.
+    fn left(&mut self, sent: &Sent) {
+        self.sent = add(self.sent, charge(sent.length));
+        let first = self.watched.get_mut(&sent.class).and_then(|waiting| waiting.pop_front()).expect("a packet left that never came");
+        assert_eq!(sent.wait, sub(self.sent, first.sent_before), "a send answers other bytes than were charged from acceptance on");
         self.counts.wait_thousandths = self.counts.wait_thousandths.max(waited(&first, self.sent));
     }
 
@@ -679,7 +706,7 @@ fn waited(watched: &Watched, sent: u64) -> u64 {
 }
 
 /// The whole run over an input of which at most 65,537 bytes were read.
-fn run(input: &[u8]) -> Run {
+pub fn run(input: &[u8]) -> Run {
     // "The program checks 10 before all else and then runs nothing."
     if input.len() > MOST_INPUT {
         return Run::default().stop(Refusal { number: 10, place: MOST_INPUT });
@@ -688,7 +715,7 @@ fn run(input: &[u8]) -> Run {
 }
 
 /// The run of an input of any length: without number 10, which is the program's.
-fn run_of_any_length(input: &[u8]) -> Run {
+pub fn run_of_any_length(input: &[u8]) -> Run {
     let mut run = Run::default();
     // "`stop` is the only line where the plan is refused"; "the program makes no link".
     let (tree, used) = match read_plan(input) {
@@ -1020,7 +1047,8 @@ mod tests {
     #[test]
     fn rule_2_listing_of_tree_p() {
         let input = [&[3, 2][..], include_bytes!("tree_p.bin")].concat();
-        let outs = ["out 4 10 4 1", "out 3 10 2 1", "out 2 2 1 1", "out 3 10 3 0", "none", "end 0"];
+        // all four were accepted before the first send, and each is charged 84: 84, and 84 more with each send
+        let outs = ["out 4 10 4 1 84", "out 3 10 2 1 168", "out 2 2 1 1 252", "out 3 10 3 0 336", "none", "end 0"];
         let run = run(&input);
         assert_eq!(run.lines[0], "link 4 262");
         assert_eq!(run.lines[5..], outs);
@@ -1193,9 +1221,80 @@ mod tests {
 
     #[test]
     fn listing_of_tree_p() {
+        // The last fields of the four `out` lines by hand. Lengths 2 and 10 have 6 and 14 bytes with the check sequence, are padded to 64, and
+        // 20 more make the charge 84 of each packet. All four are accepted before any send, so nothing was charged before any of them, and
+        // each waits for all that goes up to its own end:
+        //   send 1, tag 4: its own 84                       84
+        //   send 2, tag 1: tag 4 and its own, 84 + 84      168
+        //   send 3, tag 2: tags 4, 1 and its own           252
+        //   send 4, tag 3: tags 4, 1, 2 and its own        336
+        // The fifth send finds no packet: `none`, as before.
         let input = include_bytes!("tree_p.bin");
         assert_eq!(input.len(), 31 + 4 * 8 + 5);
         assert_eq!(run(input).lines.join("\n") + "\n", include_str!("tree_p.txt"));
+        let mut link = loaded_p();
+        assert_eq!([1, 2, 3, 4].map(|_| send(&mut link).unwrap().wait), [84, 168, 252, 336]);
+        assert_eq!(send(&mut link), refuse(15, 0));
+    }
+
+    #[test]
+    fn bytes_from_acceptance_on() {
+        // The run of `bytes_of_the_queue`: 60 bytes are charged 84, 61 are 85, 1 is 84, 1,500 are 1,524, 100 are 124. Q is 2 + 1,524 + 85, of
+        // which each leaf has 805.
+        let (tree, _) = read_plan(&[leaf(0, 1, 1_500), leaf(0, 1, 61), vec![0]].concat()).unwrap();
+        let mut link = arrivals(fresh_link(&tree).0, &[(1, 60, 1), (1, 61, 2), (2, 61, 3), (1, 1_500, 4), (2, 1, 5)]);
+        let next = |link: &mut Link| send(link).map(|sent| (sent.tag, sent.wait));
+        assert_eq!(next(&mut link), Ok((1, 84)));
+        assert_eq!(next(&mut link), Ok((2, 84 + 85)));
+        // tag 8 is accepted now and does not wait for these two; refused arrivals have no part in it
+        assert_eq!(arrival(&mut link, 1, 100, 8), Ok(1_524 + 124));
+        assert_eq!(arrival(&mut link, 2, 62, 9), refuse(13, 2));
+        assert_eq!(next(&mut link), Ok((3, 84 + 85 + 85)));
+        assert_eq!(next(&mut link), Ok((5, 84 + 85 + 85 + 84)));
+        // leaf 1 has 636 and gets the root's 339 and 636: 1,611 cover 1,524
+        assert_eq!(next(&mut link), Ok((4, 84 + 85 + 85 + 84 + 1_524)));
+        assert_eq!(next(&mut link), Ok((8, 85 + 84 + 1_524 + 124)));
+        assert_eq!(next(&mut link), refuse(15, 0));
+        // a packet that comes to an empty link waits for its own bytes alone, whatever was charged before; sends that find none charge nothing
+        assert_eq!(arrival(&mut link, 2, 61, 10), Ok(85));
+        assert_eq!(next(&mut link), Ok((10, 85)));
+        // M7: tag 5 comes after the first send, and goes fourth from there
+        let mut link = loaded_p();
+        assert_eq!(next(&mut link), Ok((4, 84)));
+        arrival(&mut link, 2, 1, 5).unwrap();
+        assert_eq!([1, 2, 3, 4].map(|_| next(&mut link).unwrap()), [(1, 168), (2, 252), (3, 336), (5, 336)]);
+    }
+
+    #[test]
+    fn any_sums_are_sound() {
+        // "any values of them are sound": nothing else that a call answers, or does to a state, depends on them
+        let starts = [0, 1, 83, 84, 1 << 32, (1 << 63) - 1, 1 << 63, u64::MAX - 84, u64::MAX - 83, u64::MAX];
+        for sends in 0..4 {
+            let mut plain = loaded_p();
+            (0..sends).for_each(|_| drop(send(&mut plain).unwrap()));
+            for (position, first) in starts.into_iter().enumerate() {
+                let mut link = plain.clone();
+                for (packet, step) in link.queues.iter_mut().flatten().zip(0..) {
+                    packet.since = first.wrapping_add(starts[(position + step) % starts.len()]);
+                }
+                assert_eq!(link.broken_rule(), None);
+                let mut other = plain.clone();
+                assert_eq!(arrival(&mut link, 4, 10, 9), arrival(&mut other, 4, 10, 9));
+                let before: Vec<u64> = link.queues.iter().map(|queue| queue.first().map_or(0, |packet| packet.since)).collect();
+                let (sent, like) = (send(&mut link).unwrap(), send(&mut other).unwrap());
+                // the answer is what was there and the packet's own 84, "modulo 2 to the power 64"; all else is as without
+                assert_eq!(sent.wait, before[sent.class].wrapping_add(84));
+                assert_eq!(Sent { wait: 0, ..sent }, Sent { wait: 0, ..like });
+                assert_eq!(link.broken_rule(), None);
+                for state in [&mut link, &mut other] {
+                    state.queues.iter_mut().flatten().for_each(|packet| packet.since = 0);
+                }
+                assert_eq!(link, other);
+            }
+        }
+        let mut link = loaded_p();
+        link.queues[4][0].since = u64::MAX - 83;
+        assert_eq!(send(&mut link).unwrap().line(), "out 4 10 4 1 0");
     }
 
     #[test]
@@ -1267,7 +1366,7 @@ mod tests {
             |l| l.size = 263,
             |l| l.accounts[0].balance = 261,
             |l| l.active[2] = true,
-            |l| l.queues[1].push(Packet { length: 1, tag: 1 }),
+            |l| l.queues[1].push(Packet { length: 1, tag: 1, since: 0 }),
             |l| l.accounts[4] = Account { balance: 0, residual: 1 },
         ];
         for broken in breaks {

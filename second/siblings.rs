@@ -200,7 +200,7 @@ pub fn program(input: &[u8], i: usize, j: usize) -> Output {
 #[cfg(test)]
 mod tests {
     use super::*;
-    use crate::random_plans::{any_leaf, good_tree, plan, rule_record, Random, SHAPES};
+    use super::super::random_plans::{any_leaf, good_tree, plan, rule_record, Random, SHAPES};
 
     /// Leaves below the root, (weight, longest) each.
     fn flat(leaves: &[(u32, u16)]) -> Vec<u8> {

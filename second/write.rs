@@ -104,7 +104,7 @@ pub fn program(words: &[String], input: &[u8]) -> Output {
 #[cfg(test)]
 mod tests {
     use super::*;
-    use crate::random_plans::{good_tree, plan, rule_record, Random, SHAPES};
+    use super::super::random_plans::{good_tree, plan, rule_record, Random, SHAPES};
 
     /// Tree P's plan.
     const PLAN_P: &[u8] = include_bytes!("tree_p.bin").split_at(31).0;

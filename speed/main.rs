@@ -240,7 +240,7 @@ fn in_a_run(amount: &Amount, name: &str, made: &Recording) -> [f64; 2] {
     let (mut part, mut part_now) = (vec![0; PART], vec![0; PART]);
     let time = nanoseconds(processor_time, &mut || _ = black_box(run_text(first, usize::MAX, &mut part_now)));
     let (input, pairs) = if time > 2_000.0 * amount.slow as f64 { (first, amount.slow) } else { (&made.input[..], made.pairs) };
-    let mut expected = vec![0; 32 * (made.filling + 2 * pairs) + PART];
+    let mut expected = vec![0; 40 * (made.filling + 2 * pairs) + PART];
     let mut found = expected.clone();
     let many = plain::text(input, &mut expected);
     let laid = run_text(input, 1, &mut found);

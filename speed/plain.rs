@@ -3,18 +3,20 @@
 // found by trailing zeros, a class turns off without a walk because each parent keeps the set of its children, and the leaves that hold a
 // packet are kept as a set too. The active set and its weight sums are worked out at an opening only where that last set has changed
 // since the opening before. Permits go down in two passes, inner classes first. What waits below each class is kept as its totals (R276),
-// which each packet changes on its way up, and that nothing waits is read from the root's. Indexes are cut to the arrays' lengths, so that
-// none is checked on the way. Other shapes were tried and were slower: the place in place of the set to visit, lengths and tags apart, the
-// first packet's cost kept, one pass over all classes. It shares no line with the library or with the second program.
+// which each packet changes on its way up, and that nothing waits is read from the root's. What was charged on the link is a running total,
+// and each waiting packet keeps what it was when it came (R308 to R311). Indexes are cut to the arrays' lengths, so that none is checked on
+// the way. Other shapes were tried and were slower: the place in place of the set to visit, lengths and tags apart, the first packet's
+// cost kept, one pass over all classes. It shares no line with the library or with the second program.
 
 const CLASSES: usize = 64;
 const PLACES: usize = 32;
 
-// A waiting packet.
+// A waiting packet, and what had been charged on the link when it came.
 #[derive(Clone, Copy)]
 struct Packet {
     length: u16,
     tag: u32,
+    mark: u64,
 }
 
 // What waits at the leaves at or below a class: packets, and their costs.
@@ -49,6 +51,8 @@ pub struct Plain {
     held: [u8; CLASSES],
     packets: [Packet; CLASSES * PLACES],
     totals: [Total; CLASSES],
+    // what was charged on the link, modulo 2 to the power 64
+    charged: u64,
 }
 
 // What a send gives.
@@ -58,6 +62,7 @@ pub struct Sent {
     pub length: u16,
     pub tag: u32,
     pub rounds: u32,
+    pub waited: u64,
 }
 
 // An event of a recording.
@@ -72,11 +77,14 @@ fn cost(length: u16) -> u64 {
     (length as u64 + 4).max(64) + 20
 }
 
-// A send as one number; 1 where nothing waits.
+// A send as one number; 1 where nothing waits. What it waited is not in it, but is worked out all the same.
 #[inline(always)]
 pub fn number(sent: Option<Sent>) -> u64 {
     match sent {
-        Some(s) => (s.class as u64) << 50 | (s.length as u64) << 34 | (s.rounds as u64) << 32 | s.tag as u64,
+        Some(s) => {
+            std::hint::black_box(s.waited);
+            (s.class as u64) << 50 | (s.length as u64) << 34 | (s.rounds as u64) << 32 | s.tag as u64
+        }
         None => 1,
     }
 }
@@ -118,8 +126,9 @@ impl Plain {
             sums: [0; CLASSES],
             start: [0; CLASSES],
             held: [0; CLASSES],
-            packets: [Packet { length: 0, tag: 0 }; CLASSES * PLACES],
+            packets: [Packet { length: 0, tag: 0, mark: 0 }; CLASSES * PLACES],
             totals: [Total { packets: 0, bytes: 0 }; CLASSES],
+            charged: 0,
         };
         let mut at = 0;
         loop {
@@ -180,7 +189,7 @@ impl Plain {
             return Err(14);
         }
         let at = class * PLACES + (self.start[class] as usize + held) % PLACES;
-        self.packets[at] = Packet { length, tag };
+        self.packets[at] = Packet { length, tag, mark: self.charged };
         self.held[class] += 1;
         self.waiting |= 1 << class;
         let cost = cost(length);
@@ -312,10 +321,11 @@ impl Plain {
                 }
             }
         };
-        let Packet { length, tag } = self.packets[self.first(i)];
+        let Packet { length, tag, mark } = self.packets[self.first(i)];
         let cost = cost(length);
         self.balance[i] -= cost;
         self.balance[0] += cost;
+        self.charged = self.charged.wrapping_add(cost);
         self.start[i] = (self.start[i] + 1) % PLACES as u8;
         self.held[i] -= 1;
         self.change_up(i, |total| {
@@ -327,7 +337,7 @@ impl Plain {
             self.left &= !(1 << i);
             self.turn_off(i);
         }
-        Some(Sent { class: i, length, tag, rounds })
+        Some(Sent { class: i, length, tag, rounds, waited: self.charged.wrapping_sub(mark) })
     }
 
     // What is left with the root.
@@ -372,7 +382,7 @@ pub fn openings(input: &[u8], times: usize) -> u64 {
 }
 
 // A line is laid where there is room for so many bytes; the longest has fewer.
-const LINE: usize = 96;
+const LINE: usize = 112;
 
 // A text's bytes from a place of the line on; the place after them.
 #[inline(always)]
@@ -401,6 +411,13 @@ fn digits(line: &mut [u8; LINE], at: usize, number: u32) -> usize {
         return at + 2;
     }
     let end = at + 2 + number.ilog10() as usize;
+    by_twos(line, end, number as u64);
+    end
+}
+
+// The digits of a number up to a place.
+#[inline(always)]
+fn by_twos(line: &mut [u8; LINE], end: usize, number: u64) {
     let (mut left, mut place) = (number as usize, end);
     while left >= 100 {
         place -= 2;
@@ -412,16 +429,44 @@ fn digits(line: &mut [u8; LINE], at: usize, number: u32) -> usize {
     } else {
         line[place - 1] = b'0' + left as u8;
     }
-    end
+}
+
+// The same for a number that is seldom above 32 bits.
+#[inline(always)]
+fn long_digits(line: &mut [u8; LINE], at: usize, number: u64) -> usize {
+    match u32::try_from(number) {
+        Ok(number) => digits(line, at, number),
+        Err(_) => {
+            line[at] = b' ';
+            let end = at + 2 + number.ilog10() as usize;
+            by_twos(line, end, number);
+            end
+        }
+    }
+}
+
+// A line up to its last number: a word and numbers; the place after them.
+#[inline(always)]
+fn words<const N: usize, const M: usize>(line: &mut [u8; LINE], text: &[u8; N], numbers: [u32; M]) -> usize {
+    let mut at = word(line, 0, text);
+    for number in numbers {
+        at = digits(line, at, number);
+    }
+    at
 }
 
 // A whole line: a word, its numbers and the end of the line; how many bytes.
 #[inline(always)]
 fn line<const N: usize, const M: usize>(line: &mut [u8; LINE], text: &[u8; N], numbers: [u32; M]) -> usize {
-    let mut at = word(line, 0, text);
-    for number in numbers {
-        at = digits(line, at, number);
-    }
+    let at = words(line, text, numbers);
+    word(line, at, b"\n")
+}
+
+// The line of a packet that went; how many bytes.
+#[inline(always)]
+fn out_line(line: &mut [u8; LINE], s: Sent) -> usize {
+    let at = words(line, b"out", [s.class as u32, s.length as u32, s.tag, s.rounds]);
+    let at = long_digits(line, at, s.waited);
     word(line, at, b"\n")
 }
 
@@ -447,7 +492,7 @@ pub fn text(input: &[u8], out: &mut [u8]) -> usize {
                 Err(number) => line(room, b"no", [class as u32, length as u32, tag, number]),
             },
             Event::Send => match link.send() {
-                Some(s) => line(room, b"out", [s.class as u32, s.length as u32, s.tag, s.rounds]),
+                Some(s) => out_line(room, s),
                 None => line(room, b"none", []),
             },
         };

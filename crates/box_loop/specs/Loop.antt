@@ -7,13 +7,14 @@ use lib.ListN.{length, drop}
 use Rattle.plan.specs.declared.EventRead.{EventRead}
 use Rattle.plan.specs.declared.EventRead.the-variants.{NoMore, Arrive, SendNext, Fault}
 use Rattle.plan.specs.Event.{usedOf, eventAt}
+use Rattle.state.specs.Mark.{unmarked}
 use Rattle.state.specs.Queue.{noPacket}
 use Rattle.run.specs.Event.{packetIn}
 use Rattle.box_loop.specs.declared.Event.{Event}
 
 -- an event that is no arrival: a call or none, and the place after it
 abbrev pub plainEvent : Bool → ℕ → EventRead → Event
-plainEvent call place read = record { call = call; arrives = false; class = 0; packet = noPacket; place = place; read = read }
+plainEvent call place read = record { call = call; arrives = false; class = 0; packet = unmarked noPacket; place = place; read = read }
 
 -- an event that was read at a place: an arrival and a send are calls, and the place moves on by what they use; the end of input and a
 -- refused record are none

@@ -13,7 +13,8 @@ use borrow.Author.Tests.{leb-false, ltb-false, not-false}
 use Rattle.checks.specs.declared.Verdict.{Verdict}
 use Rattle.checks.specs.declared.Verdict.the-variants.{Passed, Refused}
 use Rattle.checks.specs.Check.{check, firstBroken, Exactly}
-use Rattle.checks.proofs.Laws.{not-both, not-true-and-false, refused-or-passed, decides, pass-over, none-broken, passed-parts, exactly-unique}
+use Rattle.checks.proofs.Laws.{not-both, not-true-and-false, refused-or-passed, decides, pass-over}
+use Rattle.checks.proofs.Laws.{none-broken, passed-parts, exactly-unique}
 use Rattle.units.specs.Cost.{costOf}
 use Rattle.tree.specs.Class.{longestOf, isLeaf}
 use Rattle.tree.proofs.Classes.{neither-true}
@@ -25,7 +26,9 @@ use Rattle.state.specs.WayUp.{changed}
 use Rattle.state.proofs.Bytes.{bytes-more}
 use Rattle.state.specs.declared.Link.{Link}
 use Rattle.state.specs.declared.Packet.{Packet}
+use Rattle.state.specs.declared.Waiting.{Waiting}
 use Rattle.state.specs.Account.{balanceOf}
+use Rattle.state.specs.Mark.{markedWith}
 use Rattle.state.specs.Queue.{Shaped, noPacket, heldOf, queueOf, bytesIn, putLast}
 use Rattle.state.specs.State.{State, meaning, queueAt}
 use Rattle.tree.proofs.Tables.{table-length}
@@ -71,7 +74,8 @@ unfolding arrivalOf
 arrival-refused sound l i p e = ap (λ (v : Verdict). arrivalGives v l i p) e
 
 pub arrival-taken : (sound : Bool) (l : Link) (i : ℕ) (p : Packet) → firstBroken (arrivalChecks sound (meaning l) i p) ≡ Passed
-    → arrivalOf sound l i p ≡ arrivalLeaves (arrivalAnswer Passed (bytesAfter (meaning l) i p)) (putLast l i p)
+    → arrivalOf sound l i p ≡ arrivalLeaves (arrivalAnswer Passed (bytesAfter (meaning l) i p))
+    (putLast l i (markedWith (l .totals .charged) p))
 unfolding arrivalOf
 arrival-taken sound l i p e = ap (λ (v : Verdict). arrivalGives v l i p) e
 
@@ -126,26 +130,27 @@ no-leaf-refused sound l i p f = go (refused-or-passed (firstBroken (arrivalCheck
 
 -- the queues after it
 module _ (s : State) (i : ℕ) (p : Packet) (u : i < length (s .queues)) where
-  pub queue-arrived : queueAt (arrived s i p) i ≡ queueAt s i ++ (p ∷ [])
-  queue-arrived = getD-set-same (s .queues) i (queueAt s i ++ (p ∷ [])) [] u
+  pub queue-arrived : queueAt (arrived s i p) i ≡ queueAt s i ++ (markedWith (s .totals .charged) p ∷ [])
+  queue-arrived = getD-set-same (s .queues) i (queueAt s i ++ (markedWith (s .totals .charged) p ∷ [])) [] u
 
   pub queue-other : (k : ℕ) → (k ≡ i → ⊥) → queueAt (arrived s i p) k ≡ queueAt s k
-  queue-other k ne = getD-set-other (s .queues) i k (queueAt s i ++ (p ∷ [])) [] ne
+  queue-other k ne = getD-set-other (s .queues) i k (queueAt s i ++ (markedWith (s .totals .charged) p ∷ [])) [] ne
 
   pub length-arrived : length (queueAt (arrived s i p) i) ≡ length (queueAt s i) + 1
-  length-arrived = ap length queue-arrived ∙ length-append (queueAt s i) (p ∷ [])
+  length-arrived = ap length queue-arrived ∙ length-append (queueAt s i) (markedWith (s .totals .charged) p ∷ [])
 
 -- a packet of the queue, or the new one
-packet-in : (s : State) (i : ℕ) (p : Packet) → InRange (s .tree) i p
+packet-in : (s : State) (i : ℕ) (p : Packet) → InRange (s .tree) i (markedWith (s .totals .charged) p)
     → ((j : ℕ) → j < length (queueAt s i) → InRange (s .tree) i (getD (queueAt s i) j noPacket))
-    → (j : ℕ) → j < length (queueAt s i) + 1 → InRange (s .tree) i (getD (queueAt s i ++ (p ∷ [])) j noPacket)
+    → (j : ℕ) → j < length (queueAt s i) + 1 → InRange (s .tree) i (getD (queueAt s i ++ (markedWith (s .totals .charged) p ∷ [])) j
+    noPacket)
 packet-in s i p new old j h = go (decLt j (length (queueAt s i)))
   where
-    go : Dec (j < length (queueAt s i)) → InRange (s .tree) i (getD (queueAt s i ++ (p ∷ [])) j noPacket)
-    go (yes l) = rw (List·getD-append (queueAt s i) (p ∷ []) noPacket j l) (old j l)
+    go : Dec (j < length (queueAt s i)) → InRange (s .tree) i (getD (queueAt s i ++ (markedWith (s .totals .charged) p ∷ [])) j noPacket)
+    go (yes l) = rw (List·getD-append (queueAt s i) (markedWith (s .totals .charged) p ∷ []) noPacket j l) (old j l)
     go (no l) =
         let e : length (queueAt s i) ≡ j = omega arith in
-        rw (getD-at (queueAt s i) p [] noPacket j e) new
+        rw (getD-at (queueAt s i) (markedWith (s .totals .charged) p) [] noPacket j e) new
 
 pub arrival-keeps : (s : State) (i : ℕ) (p : Packet) → i < 64 → length (s .queues) ≡ 64 → Sound s → Taken true s i p → Sound (arrived s i p)
 arrival-keeps s i p u many sound t = record {
@@ -167,7 +172,8 @@ arrival-keeps s i p u many sound t = record {
       });
   waiting = λ k v. record {
     waits = λ f a.
-        at (λ (q : List Packet). 1 ≤ length q) k (ℕ-discrete k i) (λ e. rw (length-append (queueAt s i) (p ∷ [])) (omega arith))
+        at (λ (q : List Waiting). 1 ≤ length q) k (ℕ-discrete k i) (λ e. rw (length-append (queueAt s i)
+        (markedWith (s .totals .charged) p ∷ [])) (omega arith))
         (sound .waiting k v .waits f a);
   };
   past = record { word = sound .past .word; past = sound .past .past };
@@ -177,19 +183,23 @@ arrival-keeps s i p u many sound t = record {
   place = record { low = sound .place .low; high = sound .place .high };
   behind = λ k v. record {
     lacks = λ f a b.
-        at (λ (q : List Packet). balanceOf (s .accounts) k < costOf (getD q 0 noPacket .length)) k (ℕ-discrete k i)
+        at (λ (q : List Waiting). balanceOf (s .accounts) k < costOf (getD q 0 noPacket .length)) k (ℕ-discrete k i)
         (λ e.
-        rw (List·getD-append (queueAt s i) (p ∷ []) noPacket 0 (rw (ap (queueAt s) e) at (sound .waiting k v .waits f a)), ← e)
+        rw (
+          List·getD-append (queueAt s i) (markedWith (s .totals .charged) p ∷ []) noPacket 0
+              (rw (ap (queueAt s) e) at (sound .waiting k v .waits f a)),
+          ← e,
+        )
         (sound .behind k v .lacks f a b))
         (sound .behind k v .lacks f a b);
   };
-  totals = queues-totals s (set (s .queues) i (queueAt s i ++ (p ∷ [])));
+  totals = queues-totals s (set (s .queues) i (queueAt s i ++ (markedWith (s .totals .charged) p ∷ [])));
 }
   where
     inside : i < length (s .queues)
     inside = omega (arith, many)
 
-    here : queueAt (arrived s i p) i ≡ queueAt s i ++ (p ∷ [])
+    here : queueAt (arrived s i p) i ≡ queueAt s i ++ (markedWith (s .totals .charged) p ∷ [])
     here = queue-arrived s i p inside
 
     len : length (queueAt (arrived s i p) i) ≡ length (queueAt s i) + 1
@@ -203,23 +213,29 @@ arrival-keeps s i p u many sound t = record {
     both k (yes e) new old = rw e new
     both k (no ne) new old = old ne
 
-    at : (P : List Packet → Type 0) (k : ℕ) → Dec (k ≡ i) → (k ≡ i → P (queueAt s i ++ (p ∷ []))) → P (queueAt s k)
+    at : (P : List Waiting → Type 0) (k : ℕ) → Dec (k ≡ i) → (k ≡ i → P (queueAt s i ++ (markedWith (s .totals .charged) p ∷ []))) → P
+        (queueAt s k)
         → P (queueAt (arrived s i p) k)
     at P k (yes e) new old = rw (e, here) (new e)
     at P k (no ne) new old = rw (there k ne) old
 
 -- the record after it means the state after it, and is sound
 pub arrival-means : (l : Link) (i : ℕ) (p : Packet) → Shaped l → SoundLink l → isLeaf (l .tree) i ≡ true → heldOf l i < 32
-    → meaning (putLast l i p) ≡ arrived (meaning l) i p
+    → meaning (putLast l i (markedWith (l .totals .charged) p)) ≡ arrived (meaning l) i p
 arrival-means l i p shape sound leaf room =
-    meaning-put l i p shape (record { rules = sound .state .fits .tree; leaf = leaf; totals = sound .state .totals }) room
+    meaning-put l i (markedWith (l .totals .charged) p) shape (record {
+      rules = sound .state .fits .tree;
+      leaf = leaf;
+      totals = sound
+          .state .totals;
+    }) room
 
 -- an accepted arrival's class is one of the 64 class numbers
 pub taken-number : (s : State) (i : ℕ) (p : Packet) → Sound s → firstBroken (arrivalChecks true s i p) ≡ Passed → i < 64
 taken-number s i p sound e = leaf-number (s .tree) i (sound .fits .tree) (taken true s i p e .leaf)
 
 pub arrival-sound : (l : Link) (i : ℕ) (p : Packet) → Shaped l → SoundLink l → firstBroken (arrivalChecks true (meaning l) i p) ≡ Passed
-    → SoundLink (putLast l i p)
+    → SoundLink (putLast l i (markedWith (l .totals .charged) p))
 arrival-sound l i p shape sound e =
     let t = taken true (meaning l) i p e in
     let u = taken-number (meaning l) i p (sound .state) e in
@@ -236,7 +252,7 @@ unfolding arrivalOf
 arrival-shaped sound l i p shape = go (firstBroken (arrivalChecks sound (meaning l) i p))
   where
     go : (v : Verdict) → Shaped (arrivalGives v l i p .link)
-    go Passed = shaped-put l i p shape
+    go Passed = shaped-put l i (markedWith (l .totals .charged) p) shape
     go (Refused n q) = shape
 
 -- ---- the contract determines the answer
@@ -266,17 +282,20 @@ accepted-sound l i p r x accepted = x .exactly .sound (go (x .sound) refl)
 -- those that an accepted one answers are what the link after it counts at its leaf: one read
 pub bytes-read : (l : Link) (i : ℕ) (p : Packet) → length (l .totals .bytes) ≡ 64 → SoundLink l
     → firstBroken (arrivalChecks true (meaning l) i p) ≡ Passed
-    → getD (putLast l i p .totals .bytes) i 0 ≡ bytesAfter (meaning l) i p
+    → getD (putLast l i (markedWith (l .totals .charged) p) .totals .bytes) i 0 ≡ bytesAfter (meaning l) i p
 bytes-read l i p long sound passes =
     let t = taken true (meaning l) i p passes in
     let u = taken-number (meaning l) i p (sound .state) passes in
     let rules = sound .state .fits .tree in
     let cost = costOf (p .length) in
     let more = changed-up (l .tree) rules (changed false cost) i (l .totals .bytes) i u long in
-    let here : getD (putLast l i p .totals .bytes) i 0 ≡ getD (l .totals .bytes) i 0 + cost = rw (below-self (l .tree) rules i u) at more in
+    let here : getD (putLast l i (markedWith (l .totals .charged) p) .totals .bytes) i 0 ≡ getD (l .totals .bytes) i 0 + cost =
+    rw (below-self (l .tree) rules i u) at more
+    in
     let before = sound .state .totals i u .bytes ∙ leaf-sum (l .tree) rules (λ j. bytesIn (queueAt (meaning l) j)) i (t .leaf) in
     let inside : i < length (meaning l .queues) = omega (arith, u, table-length (queueOf l) 64) in
-    let after = ap bytesIn (queue-arrived (meaning l) i p inside) ∙ bytes-more (queueAt (meaning l) i) p in
+    let after = ap bytesIn (queue-arrived (meaning l) i p inside) ∙ bytes-more (queueAt (meaning l) i) (markedWith (l .totals .charged) p)
+    in
     omega (arith, here, before, after)
 
 -- an accepted one answers those of its leaf's queue then

@@ -13,9 +13,9 @@ use Rattle.tree.proofs.Leaves.{past-sum}
 use Rattle.tree.proofs.Tables.{table-length, table-at}
 use Rattle.tree.proofs.Rules.{few-classes}
 use Rattle.state.specs.declared.Link.{Link}
-use Rattle.state.specs.declared.Packet.{Packet}
+use Rattle.state.specs.declared.Waiting.{Waiting}
 use Rattle.state.specs.Queue.{bytesIn}
-use Rattle.state.specs.State.{meaning, waitingBelow, totalsOf}
+use Rattle.state.specs.State.{meaning, waitingBelow, totalsOf, countsOf}
 use Rattle.sound.specs.Sound.{SoundLink}
 use Rattle.calls.specs.declared.PanelTotals.{PanelTotals}
 use Rattle.calls.specs.declared.ClassTotals.{ClassTotals}
@@ -23,7 +23,7 @@ use Rattle.calls.specs.Panel.{panelGives, TellsTotals, classGives, Tells
 
 module _ (l : Link) (sound : SoundLink l) where
   -- one of the two tables
-  table-is : (count : List Packet → ℕ) (xs : List ℕ) → length xs ≡ 64
+  table-is : (count : List Waiting → ℕ) (xs : List ℕ) → length xs ≡ 64
       → ((i : ℕ) → i < 64 → getD xs i 0 ≡ waitingBelow count (l .tree) (meaning l .queues) i)
       → xs ≡ table (waitingBelow count (l .tree) (meaning l .queues)) 64
   table-is count xs long right =
@@ -32,18 +32,20 @@ module _ (l : Link) (sound : SoundLink l) where
       (λ i u. let v : i < 64 = omega (arith, u, long) in right i v ∙ sym (table-at f 0 64 i v))
 
   -- the totals in a sound record are the sums over the leaves
-  pub sound-totals : length (l .totals .packets) ≡ 64 → length (l .totals .bytes) ≡ 64 → l .totals ≡ totalsOf (l .tree) (meaning l .queues)
-  unfolding totalsOf
+  pub sound-totals : length (l .totals .packets) ≡ 64 → length (l .totals .bytes) ≡ 64
+      → l .totals ≡ totalsOf (l .tree) (meaning l .queues) (l .totals .charged)
+  unfolding countsOf
   sound-totals packets bytes = λ k. record {
     packets = table-is length (l .totals .packets) packets (λ i u. sound .state .totals i u .packets) k;
     bytes = table-is bytesIn (l .totals .bytes) bytes (λ i u. sound .state .totals i u .bytes) k;
+    charged = l .totals .charged;
   }
 
   -- a number that is no class has none
-  pub past-none : (count : List Packet → ℕ) (i : ℕ) → l .tree .count < i → waitingBelow count (l .tree) (meaning l .queues) i ≡ 0
+  pub past-none : (count : List Waiting → ℕ) (i : ℕ) → l .tree .count < i → waitingBelow count (l .tree) (meaning l .queues) i ≡ 0
   past-none count i h = past-sum (l .tree) (sound .state .fits .tree) _ i h
 
-  pub wide-none : (count : List Packet → ℕ) (i : ℕ) → 63 < i → waitingBelow count (l .tree) (meaning l .queues) i ≡ 0
+  pub wide-none : (count : List Waiting → ℕ) (i : ℕ) → 63 < i → waitingBelow count (l .tree) (meaning l .queues) i ≡ 0
   wide-none count i h = past-none count i (omega (arith, h, few-classes (l .tree) (sound .state .fits .tree)))
 
 -- any two answers are equal

@@ -4,13 +4,14 @@ use mathlib.Core.List.{List, _∷_}
 use mathlib.Core.Path.{_≡_, refl, sym, ap, subst, _∙_}
 use Prim.Native.Nat.{ℕ}
 use Rattle.state.specs.declared.Link.{Link}
-use Rattle.state.specs.declared.Packet.{Packet}
+use Rattle.state.specs.declared.Waiting.{Waiting}
+use Rattle.state.specs.Mark.{since}
 use Rattle.state.specs.Queue.{Shaped}
 use Rattle.state.specs.State.{State, meaning, queueAt}
 use Rattle.sound.specs.Sound.{SoundLink}
 use Rattle.rules.specs.Active.{someWaits}
 use Rattle.rules.specs.Sending.{traceOf}
-use Rattle.rules.proofs.Traces.{after-means, trace-leaf, trace-queue, trace-others}
+use Rattle.rules.proofs.Traces.{after-means, trace-leaf, trace-queue, trace-others, trace-charged}
 use Rattle.calls.specs.declared.AfterSend.{AfterSend}
 use Rattle.calls.specs.Send.{departs, sendOf, Sends}
 use Rattle.calls.specs.Progress.{SendsFirst, Progress}
@@ -25,9 +26,13 @@ module _ (l : Link) (shape : Shaped l) (sound : SoundLink l) (waits : someWaits 
   sends-first = subst (SendsFirst l) (sym (send-goes l waits)) (record {
     passes = refl;
     leaf = trace-leaf l shape sound waits;
+    packet = traceOf (meaning l) .packet;
+    answered = refl;
+    charged = ap (λ (s : State). s .totals .charged) (after-means l shape sound waits) ∙ trace-charged l shape sound waits;
+    waited = refl;
     queue =
         trace-queue l shape sound waits
-        ∙ ap (λ (q : List Packet). traceOf (meaning l) .packet ∷ q) (queue-after (traceOf (meaning l) .class));
+        ∙ ap (λ (q : List Waiting). traceOf (meaning l) .packet ∷ q) (queue-after (traceOf (meaning l) .class));
     others = λ k ne. sym (queue-after k) ∙ trace-others l shape sound waits k ne;
   })
 

@@ -11,6 +11,7 @@ use Rattle.checks.specs.Check.{Check, check, firstBroken, Exactly}
 use Rattle.tree.specs.Class.{longestOf, isLeaf}
 use Rattle.state.specs.declared.Link.{Link}
 use Rattle.state.specs.declared.Packet.{Packet}
+use Rattle.state.specs.Mark.{markedWith}
 use Rattle.state.specs.Queue.{Shaped, bytesIn, putLast}
 use Rattle.state.specs.State.{State, meaning, queueAt, withQueue}
 use Rattle.sound.specs.Sound.{SoundLink}
@@ -34,9 +35,10 @@ abbrev pub arrivalChecks : Bool → State → ℕ → Packet → List Check
 arrivalChecks sound s class p =
     check 11 (not sound) 0 ∷ check 12 (noLeaf s class) class ∷ check 13 (badLength s class p) class ∷ check 14 (full s class) class ∷ []
 
--- an accepted packet waits last in its leaf's queue, and nothing else changes: not even the active set (R144, R158)
+-- an accepted packet waits last in its leaf's queue, marked with the running total, and nothing else changes: not even the active set
+-- (R144, R158, R309)
 abbrev pub arrived : State → ℕ → Packet → State
-arrived s class p = withQueue s class (queueAt s class ++ (p ∷ []))
+arrived s class p = withQueue s class (queueAt s class ++ (markedWith (s .totals .charged) p ∷ []))
 
 -- the charged bytes that wait in that leaf then, the new packet included: demand 3's D (R201, R283)
 abbrev pub bytesAfter : State → ℕ → Packet → ℕ
@@ -53,7 +55,8 @@ arrivalLeaves answer link = record { answer = answer; link = link }
 -- a refused arrival gives the very same record, and 0 bytes; an accepted one puts the packet last (R158, R162, R163, R197, R283; `putLast`
 -- means `arrived`: proofs/Arrivals)
 abbrev pub arrivalGives : Verdict → Link → ℕ → Packet → AfterArrival
-arrivalGives Passed l class p = arrivalLeaves (arrivalAnswer Passed (bytesAfter (meaning l) class p)) (putLast l class p)
+arrivalGives Passed l class p =
+    arrivalLeaves (arrivalAnswer Passed (bytesAfter (meaning l) class p)) (putLast l class (markedWith (l .totals .charged) p))
 arrivalGives (Refused n q) l class p = arrivalLeaves (arrivalAnswer (Refused n q) 0) l
 
 unfoldable pub arrivalOf : Bool → Link → ℕ → Packet → AfterArrival

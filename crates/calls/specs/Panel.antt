@@ -12,9 +12,10 @@ use Rattle.sound.specs.Sound.{SoundLink}
 use Rattle.calls.specs.declared.PanelTotals.{PanelTotals}
 use Rattle.calls.specs.declared.ClassTotals.{ClassTotals}
 
--- of a sound link, what waits at the leaves at or below each class number; of any other, 11 at 0, and all numbers 0 (R280, R281)
+-- of a sound link, what waits at the leaves at or below each class number, and the running total; of any other, 11 at 0, and all numbers 0
+-- (R280, R281, R308)
 abbrev pub panelGives : Bool → Link → PanelTotals
-panelGives true l = record { verdict = Passed; totals = totalsOf (l .tree) (meaning l .queues) }
+panelGives true l = record { verdict = Passed; totals = totalsOf (l .tree) (meaning l .queues) (l .totals .charged) }
 panelGives false l = record { verdict = Refused 11 0; totals = noTotals }
 
 pub record TellsTotals (l : Link) (r : PanelTotals) : Type 0 where

@@ -8,7 +8,8 @@ use Rattle.checks.specs.declared.Verdict.{Verdict}
 use Rattle.checks.specs.declared.Verdict.the-variants.{Passed, Refused}
 use Rattle.checks.specs.Check.{Check, check, firstBroken, Exactly}
 use Rattle.state.specs.declared.Link.{Link}
-use Rattle.state.specs.declared.Packet.{Packet}
+use Rattle.state.specs.declared.Waiting.{Waiting}
+use Rattle.state.specs.Mark.{since}
 use Rattle.state.specs.Queue.{Shaped}
 use Rattle.state.specs.State.{State, meaning}
 use Rattle.sound.specs.Sound.{SoundLink}
@@ -22,21 +23,30 @@ use Rattle.calls.specs.declared.AfterSend.{AfterSend}
 abbrev pub sendChecks : Bool → State → List Check
 sendChecks sound s = check 11 (not sound) 0 ∷ check 15 (not (someWaits s)) 0 ∷ []
 
--- the answer: class, length, tag and the number of rounds opened in the call (R161)
-abbrev pub goes : ℕ → Packet → ℕ → Departure
-goes class p rounds = record { verdict = Passed; class = class; length = p .length; tag = p .tag; rounds = rounds }
+-- the answer: class, length, tag, the number of rounds opened in the call (R161), and the running total then, less the packet's mark (R311)
+abbrev pub goes : ℕ → Waiting → ℕ → ℕ → Departure
+goes class p rounds total = record {
+  verdict = Passed;
+  class = class;
+  length = p .length;
+  tag = p .tag;
+  rounds = rounds;
+  waited = since total (p .mark);
+}
 
--- all other numbers of a refused send are 0 (R163)
+-- all other numbers of a refused send are 0 (R163, R311)
 abbrev pub refusedSend : Verdict → Departure
-refusedSend verdict = record { verdict = verdict; class = 0; length = 0; tag = 0; rounds = 0 }
+refusedSend verdict = record { verdict = verdict; class = 0; length = 0; tag = 0; rounds = 0; waited = 0 }
 
 -- an answer and the link after it (R164)
 abbrev pub sendLeaves : Departure → Link → AfterSend
 sendLeaves answer link = record { answer = answer; link = link }
 
--- a send that goes is read off its trace; the link after it is in the trace's state (R17, R161)
+-- a send that goes is read off its trace; the link after it is in the trace's state, and the total is that link's (R17, R161, R311)
 abbrev pub departs : Link → Trace → AfterSend
-departs l trace = sendLeaves (goes (trace .class) (trace .packet) (length (trace .turns))) (linkAfter l trace)
+departs l trace =
+    let after = linkAfter l trace in
+    sendLeaves (goes (trace .class) (trace .packet) (length (trace .turns)) (after .totals .charged)) after
 
 -- a refused send gives the very same record (R162, R163, R197)
 abbrev pub sendGives : Verdict → Link → AfterSend

@@ -23,14 +23,15 @@ pub struct AfterArrival {
     pub link: Link,
 }
 
-// What a send answers: a verdict, the packet that goes with its class, and the rounds opened in the call. All numbers of a refused one
-// are 0.
+// What a send answers: a verdict, the packet that goes with its class, the rounds opened in the call, and the bytes charged on the link
+// from the packet's acceptance to its end. All numbers of a refused one are 0.
 pub struct Departure {
     pub verdict: Verdict,
     pub class: usize,
     pub length: u16,
     pub tag: u32,
     pub rounds: usize,
+    pub waited: u64,
 }
 
 // What a send gives: its answer and the link after it.

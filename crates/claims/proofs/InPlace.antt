@@ -13,6 +13,7 @@ use Rattle.plan.specs.declared.EntryRead.the-variants.{Arrives, Claims}
 use Rattle.plan.specs.Entry.{entryAt}
 use Rattle.state.specs.declared.Link.{Link}
 use Rattle.state.specs.declared.Packet.{Packet}
+use Rattle.state.specs.declared.Waiting.{Waiting}
 use Rattle.state.specs.Queue.{Shaped}
 use Rattle.state.specs.State.{meaning}
 use Rattle.sound.specs.Sound.{SoundLink}
@@ -38,7 +39,7 @@ use Rattle.claims.specs.Steps.{claimOf, didGoOn, didDecide, claimDid, ch
 
 -- ---- what has gone is what the call answers
 
-abbrev claimWhere : Bool → ℕ → Packet → Claim
+abbrev claimWhere : Bool → ℕ → Waiting → Claim
 claimWhere some class p = cond some (Sent (record { class = class; length = p .length; tag = p .tag })) Idle
 
 went-claim : (l : Link) (w : Went) (after : Link) → Departs l w after → claimOf w ≡ trueClaim (sendOf true l .answer)
@@ -70,22 +71,23 @@ module _ (l : Link) (place claims : ℕ) (rest : List ℕ) (sound : SoundLink l)
   }
 
   -- no call is made
-  pub decides-in-place : (e : EntryRead) (j : Judged) (active visit : ℕ) (size : Bytes) → entryAt rest ≡ e
+  pub decides-in-place : (e : EntryRead) (j : Judged) (active visit charged : ℕ) (size : Bytes) → entryAt rest ≡ e
       → decides j l place claims ≡ entryGives l place claims e
-      → Enters l place claims (entryAt rest) (didDecide j place claims active visit size) l
-  decides-in-place e j active visit size told same = record {
+      → Enters l place claims (entryAt rest) (didDecide j place claims active visit size charged) l
+  decides-in-place e j active visit charged size told same = record {
     gives = same ∙ ap (entryGives l place claims) (sym told);
     sound = sound;
     shape = shape;
   }
 
-  pub arrival-in-place : (a : Arrived) (answer : Arrival) (after : Link) (class active visit : ℕ) (size : Bytes) → entryAt rest ≡ Arrives a
+  pub arrival-in-place : (a : Arrived) (answer : Arrival) (after : Link) (class active visit charged : ℕ) (size : Bytes) → entryAt rest
+      ≡ Arrives a
       → class ≡ a .class → ArrivesOn true l class (record { length = a .length; tag = a .tag }) answer after
-      → Enters l place claims (entryAt rest) (didGoOn (place + 8) claims active visit size) after
-  arrival-in-place a answer after class active visit size told wide is =
+      → Enters l place claims (entryAt rest) (didGoOn (place + 8) claims active visit size charged) after
+  arrival-in-place a answer after class active visit charged size told wide is =
       let p : Packet = record { length = a .length; tag = a .tag } in
       let left : after ≡ callGives l a .link = ap (λ (x : AfterArrival). x .link) is ∙ ap (λ (i : ℕ). arrivalOf true l i p .link) wide in
-      called (arrival (a .class) p) (Arrives a) (didGoOn (place + 8) claims active visit size) after told left
+      called (arrival (a .class) p) (Arrives a) (didGoOn (place + 8) claims active visit size charged) after told left
       (arrival-shaped true l (a .class) p shape)
       (ap (λ (k : Link). goesOn k (place + 8) claims) left ∙ sym (arrival-on l a place claims))
 

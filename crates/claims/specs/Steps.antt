@@ -27,13 +27,29 @@ abbrev pub claimOf : Went → Claim
 claimOf w = cond (w .some) (Sent (packetOf w)) Idle
 
 -- an entry beside the arrays: the check goes on, or it has been decided
-abbrev pub didGoOn : ℕ → ℕ → ℕ → ℕ → Bytes → Did
-didGoOn place claims active visit size =
-    record { judged = Good claims; more = true; place = place; claims = claims; active = active; visit = visit; size = size }
+abbrev pub didGoOn : ℕ → ℕ → ℕ → ℕ → Bytes → ℕ → Did
+didGoOn place claims active visit size charged = record {
+  judged = Good claims;
+  more = true;
+  place = place;
+  claims = claims;
+  active = active;
+  visit = visit;
+  size = size;
+  charged = charged;
+}
 
-abbrev pub didDecide : Judged → ℕ → ℕ → ℕ → ℕ → Bytes → Did
-didDecide j place claims active visit size =
-    record { judged = j; more = false; place = place; claims = claims; active = active; visit = visit; size = size }
+abbrev pub didDecide : Judged → ℕ → ℕ → ℕ → ℕ → Bytes → ℕ → Did
+didDecide j place claims active visit size charged = record {
+  judged = j;
+  more = false;
+  place = place;
+  claims = claims;
+  active = active;
+  visit = visit;
+  size = size;
+  charged = charged;
+}
 
 -- a claim compared with what has gone
 abbrev pub claimDid : Bool → Claim → Went → ℕ → ℕ → Did
@@ -45,6 +61,7 @@ claimDid same c w place claims = record {
   active = w .active;
   visit = w .place;
   size = w .size;
+  charged = w .charged;
 }
 
 -- with the link whose fields are lent it is what a check gives

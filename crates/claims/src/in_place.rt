@@ -8,7 +8,7 @@ ghost use lib.ListN.{length};
 ghost use Rattle.plan.specs.Entry.{entryAt, claimUses, longestEntry};
 ghost use Rattle.state.specs.Queue.{Shaped};
 ghost use Rattle.sound.specs.Sound.{SoundLink};
-ghost use Rattle.steps.specs.Fields.{lentLink, lentTree};
+ghost use Rattle.steps.specs.Fields.{lentLink, lentTotals, lentTree};
 ghost use Rattle.claims.specs.Recording.{samePacket, sameClaim};
 ghost use Rattle.claims.specs.Steps.{packetOf, claimOf, didGoOn, didDecide, claimDid, Enters, PartDone};
 use crate::Checked;
@@ -23,7 +23,7 @@ use steps::Went;
 use units::Bytes;
 
 // What an entry gives beside the arrays: what the recording is judged to be so far, whether the check goes on, at which place, after how
-// many claims, who is active, the round's place, the size in force.
+// many claims, who is active, the round's place, the size in force, the running total.
 pub struct Did {
     pub judged: Judged,
     pub more: bool,
@@ -32,11 +32,12 @@ pub struct Did {
     pub active: u64,
     pub visit: usize,
     pub size: Bytes,
+    pub charged: u64,
 }
 
 // The check goes on.
-fn goes_on(place: usize, claims: usize, active: u64, visit: usize, size: Bytes) -> Did
-    ensures { λ r. ⌜ r ≡ didGoOn place claims active visit size ⌝ }
+fn goes_on(place: usize, claims: usize, active: u64, visit: usize, size: Bytes, charged: u64) -> Did
+    ensures { λ r. ⌜ r ≡ didGoOn place claims active visit size charged ⌝ }
 {
     let judged = Judged::Good(claims);
     Did {
@@ -47,6 +48,7 @@ fn goes_on(place: usize, claims: usize, active: u64, visit: usize, size: Bytes) 
         active,
         visit,
         size,
+        charged,
     }
 }
 
@@ -58,8 +60,9 @@ fn decides(
     active: u64,
     visit: usize,
     size: Bytes,
+    charged: u64,
 ) -> Did
-    ensures { λ r. ⌜ r ≡ didDecide judged place claims active visit size ⌝ }
+    ensures { λ r. ⌜ r ≡ didDecide judged place claims active visit size charged ⌝ }
 {
     Did {
         judged,
@@ -69,6 +72,7 @@ fn decides(
         active,
         visit,
         size,
+        charged,
     }
 }
 
@@ -127,6 +131,7 @@ fn compared(claim: Claim, went: Went, place: usize, claims: usize) -> Did
             went.active,
             went.place,
             went.size,
+            went.charged,
         );
     }
     goes_on(
@@ -135,6 +140,7 @@ fn compared(claim: Claim, went: Went, place: usize, claims: usize) -> Did
         went.active,
         went.place,
         went.size,
+        went.charged,
     )
 }
 
@@ -156,6 +162,8 @@ fn entry(
     held: &mut [u8; 64],
     lengths: &mut [u16; 2048],
     tags: &mut [u32; 2048],
+    marks: &mut [u64; 2048],
+    charged: u64,
     packets: &mut [u64; 64],
     bytes: &mut [u64; 64],
     rest: &[u8],
@@ -163,22 +171,33 @@ fn entry(
     claims: usize,
 ) -> Did
     requires { ⌜ SoundLink (lentLink (lentTree count leaves (now parent) (now weight) (now longest) follows) size active visit
-        (now balance) (now residual) (now start) (now held) (now lengths) (now tags) (now packets) (now bytes))
+        (now balance) (now residual) (now start) (now held) (now lengths) (now tags) (now marks)
+        (lentTotals (now packets) (now bytes) charged))
         × Shaped (lentLink (lentTree count leaves (now parent) (now weight) (now longest) follows) size active visit
-        (now balance) (now residual) (now start) (now held) (now lengths) (now tags) (now packets) (now bytes))
+        (now balance) (now residual) (now start) (now held) (now lengths) (now tags) (now marks)
+        (lentTotals (now packets) (now bytes) charged))
         × (place + length (now rest) < 2 ^ 64) × (claims + length (now rest) < 2 ^ 64) ⌝ }
     ensures { λ r. ⌜ Enters (lentLink
         (lentTree count leaves (now (parent .entry)) (now (weight .entry)) (now (longest .entry)) follows) size active visit
         (now (balance .entry)) (now (residual .entry)) (now (start .entry)) (now (held .entry)) (now (lengths .entry)) (now (tags .entry))
-        (now (packets .entry)) (now (bytes .entry)))
+        (now (marks .entry))
+        (lentTotals (now (packets .entry)) (now (bytes .entry)) charged))
         place claims (entryAt (now (rest .entry))) r
         (lentLink (lentTree count leaves (now (parent .entry)) (now (weight .entry)) (now (longest .entry)) follows) (r .size) (r .active)
         (r .visit) (now (balance .exit)) (now (residual .exit)) (now (start .exit)) (now (held .exit)) (now (lengths .exit))
-        (now (tags .exit)) (now (packets .exit)) (now (bytes .exit))) ⌝ }
+        (now (tags .exit)) (now (marks .exit)) (lentTotals (now (packets .exit)) (now (bytes .exit)) (r .charged))) ⌝ }
 {
     let read = plan::read_entry(rest);
     match read {
-        EntryRead::Ended => decides(Judged::Good(claims), place, claims, active, visit, size),
+        EntryRead::Ended => decides(
+            Judged::Good(claims),
+            place,
+            claims,
+            active,
+            visit,
+            size,
+            charged,
+        ),
         EntryRead::Arrives(a) => {
             let len = a.length;
             let tag = a.tag;
@@ -194,10 +213,12 @@ fn entry(
                 held,
                 lengths,
                 tags,
+                marks,
+                charged,
                 packets,
                 bytes,
             );
-            goes_on(place + 8, claims, active, visit, size)
+            goes_on(place + 8, claims, active, visit, size, charged)
         }
         EntryRead::Claims(c) => {
             let went = steps::send(
@@ -218,6 +239,8 @@ fn entry(
                 held,
                 lengths,
                 tags,
+                marks,
+                charged,
                 packets,
                 bytes,
             );
@@ -230,6 +253,7 @@ fn entry(
             active,
             visit,
             size,
+            charged,
         ),
     }
 }
@@ -258,11 +282,19 @@ pub fn entries(link: Link, part: &[u8], place: usize, claims: usize, last: bool)
     let mut held = link.held;
     let mut lengths = link.lengths;
     let mut tags = link.tags;
+    let mut marks = link.marks;
     let totals = link.totals;
     let mut packets = totals.packets;
     let mut bytes = totals.bytes;
     let kept = [0u32; 64];
-    let mut s = goes_on(place, claims, link.active, link.place, link.size);
+    let mut s = goes_on(
+        place,
+        claims,
+        link.active,
+        link.place,
+        link.size,
+        totals.charged,
+    );
     while takes_one(s.more, last, part.len() - (s.place - place)) {
         let at = s.place - place;
         s = entry(
@@ -282,6 +314,8 @@ pub fn entries(link: Link, part: &[u8], place: usize, claims: usize, last: bool)
             &mut held,
             &mut lengths,
             &mut tags,
+            &mut marks,
+            s.charged,
             &mut packets,
             &mut bytes,
             &part[at..],
@@ -301,7 +335,12 @@ pub fn entries(link: Link, part: &[u8], place: usize, claims: usize, last: bool)
         held,
         lengths,
         tags,
-        totals: Totals { packets, bytes },
+        marks,
+        totals: Totals {
+            packets,
+            bytes,
+            charged: s.charged,
+        },
     };
     let judged = s.judged;
     Checked {

@@ -27,6 +27,7 @@ pub fn arrive(link: &mut Link, class: usize, packet: Packet) -> Arrival
         link.totals,
         &mut link.lengths,
         &mut link.tags,
+        &mut link.marks,
         class,
         packet,
     );
@@ -50,6 +51,7 @@ pub fn send(link: &mut Link) -> Departure
         link.totals,
         &link.lengths,
         &link.tags,
+        &link.marks,
     );
     link.active = went.active;
     link.place = went.place;

@@ -37,8 +37,8 @@ bytesOf (Link classes size) = textOf (108 ∷ 105 ∷ 110 ∷ 107 ∷ []) (class
 bytesOf (In class len tag bytes) = textOf (105 ∷ 110 ∷ []) (class ∷ len ∷ tag ∷ bytes ∷ [])
 -- `no` (R169)
 bytesOf (No class len tag number) = textOf (110 ∷ 111 ∷ []) (class ∷ len ∷ tag ∷ number ∷ [])
--- `out` (R170)
-bytesOf (Out class len tag rounds) = textOf (111 ∷ 117 ∷ 116 ∷ []) (class ∷ len ∷ tag ∷ rounds ∷ [])
+-- `out` (R170, R314)
+bytesOf (Out class len tag rounds waited) = textOf (111 ∷ 117 ∷ 116 ∷ []) (class ∷ len ∷ tag ∷ rounds ∷ waited ∷ [])
 -- `none` (R171)
 bytesOf Nothing = textOf (110 ∷ 111 ∷ 110 ∷ 101 ∷ []) []
 -- `end` (R172)
@@ -54,7 +54,7 @@ bytesOf (NotTold class number) = textOf (110 ∷ 111 ∷ []) (class ∷ number �
 
 -- the room that a buffer must have for one more line: no line has more bytes (R203)
 abbrev pub lineRoom : ℕ
-lineRoom = 96
+lineRoom = 112
 
 -- the answer is the line's length, and the buffer holds the line and then what it held from there on before
 abbrev pub Lays : Line → List ℕ → ℕ → List ℕ → Type 0

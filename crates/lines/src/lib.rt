@@ -25,8 +25,8 @@ pub enum Line {
     In(u64, u64, u64, u64),
     // class, length, tag, number: a refused arrival
     No(u64, u64, u64, u64),
-    // class, length, tag, rounds
-    Out(u64, u64, u64, u64),
+    // class, length, tag, rounds, the bytes charged from its acceptance to its end
+    Out(u64, u64, u64, u64, u64),
     // refusal 15
     Nothing,
     // the packets still waiting
@@ -42,7 +42,7 @@ pub enum Line {
 }
 
 // The room that a buffer must have for one more line; no line has more bytes.
-pub const ROOM: usize = 96;
+pub const ROOM: usize = 112;
 
 // Lays one space and a number.
 fn put_number(n: u64, at: usize, out: &mut [u8]) -> usize
@@ -102,7 +102,7 @@ fn put_last_three(a: u64, b: u64, c: u64, at: usize, out: &mut [u8]) -> usize
     put_last_two(b, c, next, out)
 }
 
-// Lays the last four: no line has more.
+// Lays the last four.
 fn put_last_four(a: u64, b: u64, c: u64, d: u64, at: usize, out: &mut [u8]) -> usize
     requires { ⌜ at + 85 ≤ length (now out) ⌝ }
     ensures { λ r. ⌜ LaidAt at (endOf (a ∷ b ∷ c ∷ d ∷ [])) (now (out .entry)) r (now (out .exit)) ⌝ }
@@ -110,6 +110,16 @@ fn put_last_four(a: u64, b: u64, c: u64, d: u64, at: usize, out: &mut [u8]) -> u
 {
     let next = put_number(a, at, out);
     put_last_three(b, c, d, next, out)
+}
+
+// Lays the last five: no line has more.
+fn put_last_five(a: u64, b: u64, c: u64, d: u64, e: u64, at: usize, out: &mut [u8]) -> usize
+    requires { ⌜ at + 106 ≤ length (now out) ⌝ }
+    ensures { λ r. ⌜ LaidAt at (endOf (a ∷ b ∷ c ∷ d ∷ e ∷ [])) (now (out .entry)) r (now (out .exit)) ⌝ }
+    ensures { λ r. ⌜ r ≤ at + 106 ⌝ }
+{
+    let next = put_number(a, at, out);
+    put_last_four(b, c, d, e, next, out)
 }
 
 // Lays the line of an accepted arrival from a place on where the longest line has room, and answers the place after it. A run lays the
@@ -124,13 +134,21 @@ pub fn lay_in(class: u64, len: u64, tag: u64, bytes: u64, at: usize, out: &mut [
 }
 
 // Lays the line of a packet that was sent.
-pub fn lay_out(class: u64, len: u64, tag: u64, rounds: u64, at: usize, out: &mut [u8]) -> usize
+pub fn lay_out(
+    class: u64,
+    len: u64,
+    tag: u64,
+    rounds: u64,
+    waited: u64,
+    at: usize,
+    out: &mut [u8],
+) -> usize
     requires { ⌜ at + lineRoom ≤ length (now out) ⌝ }
-    ensures { λ r. ⌜ LaidAt at (bytesOf (Out class len tag rounds)) (now (out .entry)) r (now (out .exit)) ⌝ }
+    ensures { λ r. ⌜ LaidAt at (bytesOf (Out class len tag rounds waited)) (now (out .entry)) r (now (out .exit)) ⌝ }
     ensures { λ r. ⌜ r ≤ at + lineRoom ⌝ }
 {
     let next = digits::put(b"out", at, out);
-    put_last_four(class, len, tag, rounds, next, out)
+    put_last_five(class, len, tag, rounds, waited, next, out)
 }
 
 // Lays a word and two numbers.
@@ -189,7 +207,15 @@ pub fn lay_at(line: Line, at: usize, out: &mut [u8]) -> usize
         Line::Link(classes, size) => lay_two(b"link", classes, size, at, out),
         Line::In(class, len, tag, bytes) => lay_in(class, len, tag, bytes, at, out),
         Line::No(class, len, tag, number) => lay_four(b"no", class, len, tag, number, at, out),
-        Line::Out(class, len, tag, rounds) => lay_out(class, len, tag, rounds, at, out),
+        Line::Out(class, len, tag, rounds, waited) => lay_out(
+            class,
+            len,
+            tag,
+            rounds,
+            waited,
+            at,
+            out,
+        ),
         Line::Nothing => digits::put(b"none\n", at, out),
         Line::End(waiting) => {
             let next = digits::put(b"end", at, out);
@@ -211,7 +237,7 @@ pub fn lay_at(line: Line, at: usize, out: &mut [u8]) -> usize
 }
 
 // Lays a line at the buffer's start, and answers how many bytes it has. The last clause is what a caller needs to lend that part.
-pub fn lay(line: Line, out: &mut [u8; 96]) -> usize
+pub fn lay(line: Line, out: &mut [u8; 112]) -> usize
     ensures { λ r. ⌜ Lays line (now (out .entry)) r (now (out .exit)) ⌝ }
     ensures { λ r. ⌜ Counts r (now (out .exit)) ⌝ }
 {

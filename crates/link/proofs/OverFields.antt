@@ -68,7 +68,7 @@ module _ (l : Link) (flag : Bool) (exactly : Exactly flag (SoundLink l)) (r : Ch
     sound = flag;
     exactly = exactly;
     gives = ap (λ (x : Changed). sendLeaves (x .answer) (changedLink l x)) said
-        ∙ ap (λ (x : Sent). sendLeaves (goes (x .class) (x .packet) (x .rounds)) (x .link))
+        ∙ ap (λ (x : Sent). sendLeaves (goes (x .class) (x .packet) (x .rounds) (x .link .totals .charged)) (x .link))
         (moves .sent ∙ ap (λ (b : Bool). sentWhere b l) some)
         ∙ sym (ap (λ (b : Bool). sendOf b l) on ∙ send-goes l (sym (moves .some) ∙ some));
   }

@@ -14,7 +14,7 @@ use Rattle.tree.proofs.Tables.{table-at}
 use Rattle.state.specs.declared.Link.{Link}
 use Rattle.state.specs.declared.Packet.{Packet}
 use Rattle.state.specs.Queue.{bytesIn}
-use Rattle.state.specs.State.{meaning, waitingBelow, totalsOf, noTotals}
+use Rattle.state.specs.State.{meaning, waitingBelow, countsOf, noTotals}
 use Rattle.sound.specs.Sound.{SoundLink}
 use Rattle.calls.specs.declared.PanelTotals.{PanelTotals}
 use Rattle.calls.specs.declared.ClassTotals.{ClassTotals}
@@ -39,7 +39,7 @@ zero-entry i = go (decLt 63 i)
     go (no h) = rw (le-ltb 63 i (omega arith)) (getD-replicate {A = ℕ} 64 i 0 0 (omega arith))
 
 class-of : (sound : Bool) (l : Link) (i : ℕ) → (sound ≡ true → SoundLink l) → classIn (panelGives sound l) i ≡ classGives sound l i
-unfolding totalsOf
+unfolding countsOf
 class-of true l i is = λ k. record {
   verdict = Passed;
   packets = entry (waitingBelow length (l .tree) (meaning l .queues)) i (wide-none l (is refl) length i) k;

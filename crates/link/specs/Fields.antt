@@ -44,13 +44,14 @@ changedTo answer active place accounts start held size totals = record {
 -- a packet that goes, and the fields of the link after it
 abbrev pub goesBy : Moved → Changed
 goesBy m =
-    changedTo (goes (m .class) (m .packet) (m .rounds)) (m .active) (m .place) (m .accounts) (m .start) (m .held) (m .size) (m .totals)
+    changedTo (goes (m .class) (m .packet) (m .rounds) (m .totals .charged)) (m .active) (m .place) (m .accounts) (m .start) (m .held)
+    (m .size) (m .totals)
 
 -- the link with the fields that a send may change
 abbrev pub changedLink : Link → Changed → Link
 changedLink l r =
     withTotals (queued (linkInRound l (r .size .0) (r .active) (r .place) (r .accounts)) (r .start) (r .held) (l .lengths)
-    (l .tags)) (r .totals)
+    (l .tags) (l .marks)) (r .totals)
 
 -- a send over the fields of a link
 pub record SendsIn (l : Link) (r : Changed) : Type 0 where

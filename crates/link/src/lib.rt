@@ -25,13 +25,13 @@ use state::Account;
 use state::Link;
 use state::Packet;
 use state::Totals;
+use state::mark::since;
 use steps::Moved;
 use tree::Tree;
 use units::Bytes;
 
 // An arrival over the fields of a link: the packets held and the totals after it, and its answer. The answer stands last, here and
-// below: the
-// walks of the lent entries count bytes, and no other place moves when it gets a field.
+// below: the walks of the lent entries count bytes, and no other place moves when it gets a field.
 pub struct Placed {
     pub held: [u8; Link::CLASSES],
     pub totals: Totals,
@@ -76,12 +76,15 @@ pub fn arrive_in<'a>(
     totals: Totals,
     lengths: &'a mut [u16; 2048],
     tags: &'a mut [u32; 2048],
+    marks: &'a mut [u64; 2048],
     class: usize,
     packet: Packet,
 ) -> Placed
     ensures { λ r. ⌜ ArrivesIn
-        (linkOf tree size active place accounts start held (now (lengths .entry)) (now (tags .entry)) totals) class packet
-        (r .answer) (linkOf tree size active place accounts start (r .held) (now (lengths .exit)) (now (tags .exit)) (r .totals)) ⌝ }
+        (linkOf tree size active place accounts start held (now (lengths .entry)) (now (tags .entry)) (now (marks .entry)) totals)
+        class packet (r .answer)
+        (linkOf tree size active place accounts start (r .held) (now (lengths .exit)) (now (tags .exit)) (now (marks .exit)) (r .totals))
+        ⌝ }
 {
     let sound = sound::is_sound_of(
         tree,
@@ -110,12 +113,18 @@ pub fn arrive_in<'a>(
         &mut after,
         lengths,
         tags,
+        marks,
+        totals.charged,
         &mut packets,
         &mut bytes,
     );
     Placed {
         held: after,
-        totals: Totals { packets, bytes },
+        totals: Totals {
+            packets,
+            bytes,
+            charged: totals.charged,
+        },
         answer,
     }
 }
@@ -131,6 +140,7 @@ pub fn arrive(link: Link, class: usize, packet: Packet) -> AfterArrival
     let held = link.held;
     let mut lengths = link.lengths;
     let mut tags = link.tags;
+    let mut marks = link.marks;
     let totals = link.totals;
     let placed = arrive_in(
         tree,
@@ -143,6 +153,7 @@ pub fn arrive(link: Link, class: usize, packet: Packet) -> AfterArrival
         totals,
         &mut lengths,
         &mut tags,
+        &mut marks,
         class,
         packet,
     );
@@ -153,6 +164,7 @@ pub fn arrive(link: Link, class: usize, packet: Packet) -> AfterArrival
     after.held = held_after;
     after.lengths = lengths;
     after.tags = tags;
+    after.marks = marks;
     after.totals = totals_after;
     AfterArrival {
         answer,
@@ -180,6 +192,7 @@ fn stays(
         length: 0,
         tag: 0,
         rounds: 0,
+        waited: 0,
     };
     Changed {
         answer,
@@ -198,6 +211,7 @@ fn goes(moved: Moved) -> Changed
     ensures { λ r. ⌜ r ≡ goesBy moved ⌝ }
 {
     let packet = moved.packet;
+    let totals = moved.totals;
     let verdict = Verdict::Passed;
     let answer = Departure {
         verdict,
@@ -205,12 +219,12 @@ fn goes(moved: Moved) -> Changed
         length: packet.length,
         tag: packet.tag,
         rounds: moved.rounds,
+        waited: since(totals.charged, packet.mark),
     };
     let accounts = moved.accounts;
     let start = moved.start;
     let held = moved.held;
     let size = moved.size;
-    let totals = moved.totals;
     Changed {
         answer,
         active: moved.active,
@@ -235,8 +249,10 @@ pub fn send_of<'a>(
     totals: Totals,
     lengths: &'a [u16; 2048],
     tags: &'a [u32; 2048],
+    marks: &'a [u64; 2048],
 ) -> Changed
-    ensures { λ r. ⌜ SendsIn (linkOf tree size active place accounts start held (now (lengths .entry)) (now (tags .entry)) totals) r ⌝ }
+    ensures { λ r. ⌜ SendsIn
+        (linkOf tree size active place accounts start held (now (lengths .entry)) (now (tags .entry)) (now (marks .entry)) totals) r ⌝ }
 {
     if !sound::is_sound_of(
         tree,
@@ -270,6 +286,7 @@ pub fn send_of<'a>(
         held,
         lengths,
         tags,
+        marks,
         totals,
     );
     let some = moved.some;
@@ -309,6 +326,7 @@ pub fn send(link: Link) -> AfterSend
         totals,
         &link.lengths,
         &link.tags,
+        &link.marks,
     );
     let answer = went.answer;
     let accounts_after = went.accounts;
@@ -330,7 +348,7 @@ pub fn send(link: Link) -> AfterSend
     }
 }
 
-// What the panel is told of the link that these fields make up: every class number's totals. Its tags have no say.
+// What the panel is told of the link that these fields make up: every class number's totals. Its tags and its marks have no say.
 pub fn totals_of(
     tree: Tree,
     size: Bytes,
@@ -342,8 +360,8 @@ pub fn totals_of(
     totals: Totals,
     lengths: &[u16; 2048],
 ) -> PanelTotals
-    ensures { λ r. ⌜ ((tags : List ℕ)
-        → TellsTotals (linkOf tree size active place accounts start held (now (lengths .entry)) tags totals) r) ⌝ }
+    ensures { λ r. ⌜ ((tags marks : List ℕ)
+        → TellsTotals (linkOf tree size active place accounts start held (now (lengths .entry)) tags marks totals) r) ⌝ }
 {
     if !sound::is_sound_of(
         tree,
@@ -401,8 +419,8 @@ pub fn class_totals_of(
     lengths: &[u16; 2048],
     class: usize,
 ) -> ClassTotals
-    ensures { λ r. ⌜ ((tags : List ℕ)
-        → TellsClass (linkOf tree size active place accounts start held (now (lengths .entry)) tags totals) class r) ⌝ }
+    ensures { λ r. ⌜ ((tags marks : List ℕ)
+        → TellsClass (linkOf tree size active place accounts start held (now (lengths .entry)) tags marks totals) class r) ⌝ }
 {
     let told = totals_of(
         tree,

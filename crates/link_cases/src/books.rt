@@ -1,4 +1,5 @@
-// The books of a link record on a line: its place, active set and size in force, and B and R of each class; and its totals on another. They
+// The books of a link record on a line: its place, active set, size in force and running total, and B and R of each class; and its totals
+// on another. They
 // run, and are compared with the written-down ones.
 use shown::number;
 use shown::word;
@@ -26,9 +27,11 @@ fn accounts(held: [Account; 64], last: usize) {
 pub(crate) fn show(link: Link) -> Link {
     let tree = link.tree;
     let held = link.accounts;
+    let totals = link.totals;
     number(b"books place ", link.place as u64);
     number(b" active ", link.active);
     number(b" size ", link.size.0);
+    number(b" charged ", totals.charged);
     word(b" accounts");
     accounts(held, tree.count);
     word(b"\n");

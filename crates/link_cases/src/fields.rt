@@ -30,6 +30,14 @@ fn with_place(mut link: Link, place: usize) -> Link {
     link
 }
 
+// The link with another running total.
+fn with_charged(mut link: Link, charged: u64) -> Link {
+    let mut totals = link.totals;
+    totals.charged = charged;
+    link.totals = totals;
+    link
+}
+
 // Fields 8 to 11: balance, residual, start or count of packets at a class number.
 fn class_number(mut link: Link, field: u64, i: usize, value: u64) -> Link {
     if 63 < i {
@@ -66,7 +74,7 @@ fn total(mut link: Link, field: u64, i: usize, value: u64) -> Link {
     link
 }
 
-// Fields 12 and 13: length or tag in a waiting place.
+// Fields 12, 13 and 17: length, tag or mark in a waiting place.
 fn place_number(mut link: Link, field: u64, i: usize, value: u64) -> Link {
     if 2_047 < i {
         return link;
@@ -75,7 +83,11 @@ fn place_number(mut link: Link, field: u64, i: usize, value: u64) -> Link {
         link.lengths[i] = cut_16(value);
         return link;
     }
-    link.tags[i] = cut_32(value);
+    if field == 13 {
+        link.tags[i] = cut_32(value);
+        return link;
+    }
+    link.marks[i] = value;
     link
 }
 
@@ -87,8 +99,9 @@ pub(crate) fn stored(link: Link, field: u64, i: usize, value: u64) -> Link {
         6 => with_active(link, value),
         7 => with_place(link, value as usize),
         8 | 9 | 10 | 11 => class_number(link, field, i, value),
-        12 | 13 => place_number(link, field, i, value),
+        12 | 13 | 17 => place_number(link, field, i, value),
         15 | 16 => total(link, field, i, value),
+        18 => with_charged(link, value),
         _ => link,
     }
 }

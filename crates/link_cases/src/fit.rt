@@ -65,7 +65,12 @@ fn fitting(link: Link) -> Totals {
         pass_up(i, tree.parent[i], &mut bytes);
         i -= 1;
     }
-    Totals { packets, bytes }
+    let held = link.totals;
+    Totals {
+        packets,
+        bytes,
+        charged: held.charged,
+    }
 }
 
 // The link with totals that fit.

@@ -22,6 +22,7 @@ use shown::pair;
 use shown::word;
 use state::Link;
 use state::Packet;
+use state::Waiting;
 use state::queue;
 use tree::Tree;
 
@@ -127,8 +128,9 @@ fn arrive(before: Link, command: &[u8]) -> Link {
 }
 
 // A packet that left.
-fn took(packet: Packet) {
+fn took(packet: Waiting) {
     pair(b"took ", packet.length as u64, packet.tag as u64);
+    number(b" mark ", packet.mark);
     word(b"\n");
 }
 
@@ -146,7 +148,8 @@ fn left(mut link: Link, class: usize) -> Link
     let mut held = link.held;
     let lengths = link.lengths;
     let tags = link.tags;
-    took(queue::first(class, &start, &lengths, &tags));
+    let marks = link.marks;
+    took(queue::first(class, &start, &lengths, &tags, &marks));
     queue::take(class, &mut start, &mut held);
     link.start = start;
     link.held = held;
@@ -195,6 +198,7 @@ fn sent(answer: Departure) {
     number(b" length ", answer.length as u64);
     number(b" tag ", answer.tag as u64);
     number(b" rounds ", answer.rounds as u64);
+    number(b" waited ", answer.waited);
 }
 
 // A send, and whether the record came back the very same.

@@ -46,7 +46,7 @@ fn same_totals(a: Totals, b: Totals) -> bool {
 // The same in every waiting place.
 fn same_places(a: Link, b: Link) -> bool {
     for i in 0..2048 {
-        if (a.lengths[i] != b.lengths[i]) | (a.tags[i] != b.tags[i]) {
+        if (a.lengths[i] != b.lengths[i]) | (a.tags[i] != b.tags[i]) | (a.marks[i] != b.marks[i]) {
             return false;
         }
     }
@@ -69,7 +69,9 @@ pub(crate) fn same_link(a: Link, b: Link) -> bool {
     if !same_classes(a, b) {
         return false;
     }
-    if !same_totals(a.totals, b.totals) {
+    let x = a.totals;
+    let y = b.totals;
+    if (x.charged != y.charged) | !same_totals(x, y) {
         return false;
     }
     same_places(a, b)

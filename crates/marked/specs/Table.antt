@@ -39,11 +39,12 @@ taken bytes = record { verdict = Passed; bytes = record { 0 = bytes } }
 abbrev refused : ℕ → ℕ → Arrival
 refused number place = record { verdict = Refused number place; bytes = record { 0 = 0 } }
 
-abbrev out : ℕ → ℕ → ℕ → ℕ → Departure
-out class length tag rounds = record { verdict = Passed; class = class; length = length; tag = tag; rounds = rounds }
+abbrev out : ℕ → ℕ → ℕ → ℕ → ℕ → Departure
+out class length tag rounds waited =
+    record { verdict = Passed; class = class; length = length; tag = tag; rounds = rounds; waited = waited }
 
 abbrev none : Departure
-none = record { verdict = Refused 15 0; class = 0; length = 0; tag = 0; rounds = 0 }
+none = record { verdict = Refused 15 0; class = 0; length = 0; tag = 0; rounds = 0; waited = 0 }
 
 -- who is active, and the accounts
 abbrev shown : List ℕ → Accounts → Shown
@@ -70,18 +71,18 @@ treeWith weight =
 abbrev m1 : Entry
 m1 = record { input = treeWith 3; read = accepted 4 262 31; exchanges = [] }
 
--- The listing: four arrivals, five sends, and no packet left.
+-- The listing: four arrivals, five sends, and no packet left. Each packet costs 84, and all four were accepted before the first send.
 abbrev arrivals : List Exchange
 arrivals = arrival 2 2 1 ⟶ taken 84 ∷ arrival 3 10 2 ⟶ taken 84 ∷ arrival 3 10 3 ⟶ taken 168 ∷ arrival 4 10 4 ⟶ taken 84 ∷ []
 
 abbrev firstSend : List Exchange
-firstSend = send ⟶ out 4 10 4 1 ∷ []
+firstSend = send ⟶ out 4 10 4 1 84 ∷ []
 
 abbrev twoMore : List Exchange
-twoMore = send ⟶ out 2 2 1 1 ∷ send ⟶ out 3 10 2 0 ∷ []
+twoMore = send ⟶ out 2 2 1 1 168 ∷ send ⟶ out 3 10 2 0 252 ∷ []
 
 abbrev fourthSend : List Exchange
-fourthSend = send ⟶ out 3 10 3 0 ∷ []
+fourthSend = send ⟶ out 3 10 3 0 336 ∷ []
 
 abbrev lastSend : List Exchange
 lastSend = send ⟶ none ∷ []
@@ -163,7 +164,7 @@ mainOpening = record {
 }
 
 abbrev twoRounds : Entry
-twoRounds = m7 then (look (opening 0) ⟶ (surplusOpening ∷ []) ∷ look (opening 1) ⟶ (mainOpening ∷ []) ∷ send ⟶ out 2 1 5 2 ∷ [])
+twoRounds = m7 then (look (opening 0) ⟶ (surplusOpening ∷ []) ∷ look (opening 1) ⟶ (mainOpening ∷ []) ∷ send ⟶ out 2 1 5 2 336 ∷ [])
 
 -- A leaf that turned inactive: an arrival (class 4, length 10, tag 5) after the first send leaves class 4 inactive, and waits for the
 -- next round. That one opens in the next send, with class 4 in it: quotas 21 and 21, class 4 B 84.
@@ -181,8 +182,8 @@ nextRound = m1 then arrivals then firstSend then
     (arrival 4 10 5 ⟶ taken 84
     ∷ look show ⟶ afterFirst
     ∷ look (opening 0) ⟶ (rejoins ∷ [])
-    ∷ send ⟶ out 3 10 2 1
-    ∷ send ⟶ out 4 10 5 0
+    ∷ send ⟶ out 3 10 2 1 168
+    ∷ send ⟶ out 4 10 5 0 168
     ∷ [])
 
 -- A surplus round that sends: what class 3 gave back when it turned inactive covers the second packet of class 2.
@@ -200,10 +201,10 @@ surplusRound = m1 then
     (arrival 2 10 1 ⟶ taken 84
     ∷ arrival 3 10 2 ⟶ taken 84
     ∷ arrival 2 10 3 ⟶ taken 168
-    ∷ send ⟶ out 2 10 1 1
-    ∷ send ⟶ out 3 10 2 0
+    ∷ send ⟶ out 2 10 1 1 84
+    ∷ send ⟶ out 3 10 2 0 168
     ∷ look (opening 0) ⟶ (surplusSends ∷ [])
-    ∷ send ⟶ out 2 10 3 1
+    ∷ send ⟶ out 2 10 3 1 252
     ∷ [])
 
 -- M8 empty input: 1 at 0.
@@ -231,7 +232,7 @@ m11 = m1 then
 abbrev m12 : Entry
 m12 = m1 then table (λ tag. arrival 4 10 tag ⟶ taken (84 * suc tag)) 32 then
     (arrival 4 10 32 ⟶ refused 14 4
-    ∷ send ⟶ out 4 10 0 1
+    ∷ send ⟶ out 4 10 0 1 84
     ∷ arrival 4 10 33 ⟶ taken 2_688
     ∷ [])
 
@@ -240,7 +241,8 @@ abbrev ruleOne : Entry
 ruleOne = record { input = 3 ∷ 1 ∷ treeWith 3; read = accepted 4 262 33; exchanges = listing .exchanges }
 
 -- Rule 2, tree P with the record 3 2 before it: the same four arrivals. The sends give tags 4, 2, 1, 3 with 1, 1, 1 and 0 rounds, all main
--- rounds, with the sizes in force 262, 174 and 174. In the second the root has 87 + 64 + 174 − 262 = 63 to share out. At the end root B 168,
+-- rounds, with the sizes in force 262, 174 and 174. In the second the root has 87 + 64 + 174 − 262 = 63 to share out. At the end root B
+-- 168,
 -- R 6, which are the 174 in force.
 abbrev smallerOpening : OpenedRound
 smallerOpening = record {
@@ -265,9 +267,9 @@ ruleTwo = record { input = 3 ∷ 2 ∷ treeWith 3; read = accepted 4 262 33; exc
     (look (opening 0) ⟶ (firstOpening ∷ []) ∷ [])
     then firstSend then
     (look (opening 0) ⟶ (smallerOpening ∷ [])
-    ∷ send ⟶ out 3 10 2 1
+    ∷ send ⟶ out 3 10 2 1 168
     ∷ look (opening 0) ⟶ (sameSizeOpening ∷ [])
-    ∷ send ⟶ out 2 2 1 1
+    ∷ send ⟶ out 2 2 1 1 252
     ∷ [])
     then fourthSend then lastSend then
     (look show ⟶ shown [] (record { B = these (168 ∷ 0 ∷ 0 ∷ 0 ∷ 0 ∷ []); R = these (6 ∷ 0 ∷ 0 ∷ 0 ∷ 0 ∷ []) }) ∷ look end ⟶ 0 ∷ [])

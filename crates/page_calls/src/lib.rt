@@ -367,7 +367,7 @@ pub extern "C" fn page_charge(length: u16) -> u64
 
 // Lays the first line of a run, and answers its bytes.
 #[no_mangle]
-pub extern "C" fn page_begin(input: &[u8], out: &mut [u8; 96]) -> usize
+pub extern "C" fn page_begin(input: &[u8], out: &mut [u8; 112]) -> usize
     ensures { λ r. ⌜ Lays (programBegins (now (input .entry)) .line) (now (out .entry)) r (now (out .exit)) ⌝ }
 {
     let step = run::first(input);
@@ -406,7 +406,7 @@ pub extern "C" fn page_events(input: &[u8], said: &mut [u64; 2], out: &mut [u8])
 
 // Lays the line of a class when a run has ended: why it is silent, or that it is no leaf; and answers its bytes.
 #[no_mangle]
-pub extern "C" fn page_why(input: &[u8], class: usize, out: &mut [u8; 96]) -> usize
+pub extern "C" fn page_why(input: &[u8], class: usize, out: &mut [u8; 112]) -> usize
     ensures { λ r. ⌜ TellsWhy (now (input .entry)) class (now (out .entry)) r (now (out .exit)) ⌝ }
 {
     let end = desk::last_step(input);

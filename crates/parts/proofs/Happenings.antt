@@ -11,7 +11,8 @@ use Rattle.plan.specs.declared.Arrived.{Arrived}
 use Rattle.plan.specs.declared.EventRead.the-variants.{NoMore, Arrive, SendNext, Fault}
 use Rattle.plan.specs.Event.{usedOf, eventAt}
 use Rattle.state.specs.declared.Link.{Link}
-use Rattle.state.specs.declared.Packet.{Packet}
+use Rattle.state.specs.declared.Waiting.{Waiting}
+use Rattle.state.specs.Mark.{since}
 use Rattle.state.specs.Queue.{Shaped}
 use Rattle.state.specs.State.{meaning}
 use Rattle.sound.specs.Sound.{SoundLink}
@@ -32,7 +33,7 @@ use Rattle.steps.specs.declared.Went.{Went}
 use Rattle.steps.specs.Arrivals.{ArrivesOn}
 use Rattle.steps.specs.Rounds.{sentWhere, Departs}
 use Rattle.run.specs.Event.{arrivalLine, sendLine, packetIn, callLine, stepBy}
-use Rattle.parts.specs.Steps.{LaysLine, ArrivesAs, wentSays, DepartsAs, Happens}
+use Rattle.parts.specs.Steps.{LaysLine, ArrivesAs, wentSays, DepartsAs, didBy, Happens}
 use Rattle.run.proofs.Events.{gives-by}
 
 -- ---- an arrival
@@ -49,15 +50,15 @@ arrives-in-place sound l a r line at before n out after is e lays = (
 -- ---- a send
 
 -- what the call gives, of what the step gives
-abbrev answerOf : Bool → ℕ → Packet → ℕ → Departure
-answerOf true class p rounds = goes class p rounds
-answerOf false class p rounds = refusedSend (Refused 15 0)
+abbrev answerOf : Bool → ℕ → Waiting → ℕ → ℕ → Departure
+answerOf true class p rounds total = goes class p rounds total
+answerOf false class p rounds total = refusedSend (Refused 15 0)
 
 abbrev departureOf : Bool → Went → Link → AfterSend
-departureOf some w after = sendLeaves (answerOf some (w .class) (w .packet) (w .rounds)) after
+departureOf some w after = sendLeaves (answerOf some (w .class) (w .packet) (w .rounds) (after .totals .charged)) after
 
 abbrev asDeparture : Bool → Sent → AfterSend
-asDeparture some s = sendLeaves (answerOf some (s .class) (s .packet) (s .rounds)) (s .link)
+asDeparture some s = sendLeaves (answerOf some (s .class) (s .packet) (s .rounds) (s .link .totals .charged)) (s .link)
 
 departs-is : (l : Link) (w : Went) (after : Link) → Departs l w after → departureOf (w .some) w after ≡ sendOf true l
 departs-is l w after d = ap (asDeparture (w .some)) (d .sent) ∙ go (w .some) (d .some)
@@ -67,15 +68,18 @@ departs-is l w after d = ap (asDeparture (w .some)) (d .sent) ∙ go (w .some) (
     go false e = sym (send-nothing l (sym e))
 
 -- its line
-went-line : (some : Bool) (class : ℕ) (p : Packet) (rounds : ℕ)
-    → cond some (Out class (p .length) (p .tag) rounds) Nothing ≡ sendLine (answerOf some class p rounds)
-went-line true class p rounds = refl
-went-line false class p rounds = refl
+went-line : (some : Bool) (class : ℕ) (p : Waiting) (rounds total : ℕ)
+    → cond some (Out class (p .length) (p .tag) rounds (since total (p .mark))) Nothing ≡ sendLine (answerOf some class p rounds total)
+went-line true class p rounds total = refl
+went-line false class p rounds total = refl
 
-pub departs-in-place : (l : Link) (w : Went) (after : Link) → Departs l w after → DepartsAs true l w after
-departs-in-place l w after d =
+pub departs-in-place : (l : Link) (w : Went) (after : Link) → w .charged ≡ after .totals .charged → Departs l w after
+    → DepartsAs true l w after
+departs-in-place l w after total d =
     let is = departs-is l w after d in (
-      went-line (w .some) (w .class) (w .packet) (w .rounds) ∙ ap (λ (x : AfterSend). sendLine (x .answer)) is,
+      went-line (w .some) (w .class) (w .packet) (w .rounds) (w .charged)
+          ∙ ap (λ (n : ℕ). sendLine (answerOf (w .some) (w .class) (w .packet) (w .rounds) n)) total
+          ∙ ap (λ (x : AfterSend). sendLine (x .answer)) is,
       ap (λ (x : AfterSend). x .link) is,
     )
 
@@ -95,10 +99,10 @@ call-shaped l send false exactly shape = subst (λ (x : AfterSend). Shaped (x .l
 
 module _ (l : Link) (input : List ℕ) (place : ℕ) (shape : Shaped l) (at : ℕ) (before : List ℕ) (r : ℕ) (out : List ℕ) where
   -- the normal end, and a refused record
-  pub end-in-place : (n active visit : ℕ) (size : Bytes) → eventAt (drop place input) place ≡ NoMore → n ≡ waitingIn (meaning l)
+  pub end-in-place : (n active visit charged : ℕ) (size : Bytes) → eventAt (drop place input) place ≡ NoMore → n ≡ waitingIn (meaning l)
       → LaysLine at (End n) before r out
-      → Happens l input place at before (record { laid = r; more = false; place = place; active = active; visit = visit; size = size }) out l
-  end-in-place n active visit size told e lays = record {
+      → Happens l input place at before (didBy r false place active visit size charged) out l
+  end-in-place n active visit charged size told e lays = record {
     line = End n;
     lays = lays;
     goes = gives-by l input place NoMore _ told
@@ -106,9 +110,10 @@ module _ (l : Link) (input : List ℕ) (place : ℕ) (shape : Shaped l) (at : �
     shape = shape;
   }
 
-  pub stop-in-place : (n p active visit : ℕ) (size : Bytes) → eventAt (drop place input) place ≡ Fault n p → LaysLine at (Stop n p) before r out
-      → Happens l input place at before (record { laid = r; more = false; place = place; active = active; visit = visit; size = size }) out l
-  stop-in-place n p active visit size told lays = record {
+  pub stop-in-place : (n p active visit charged : ℕ) (size : Bytes) → eventAt (drop place input) place ≡ Fault n p → LaysLine at
+      (Stop n p) before r out
+      → Happens l input place at before (didBy r false place active visit size charged) out l
+  stop-in-place n p active visit charged size told lays = record {
     line = Stop n p;
     lays = lays;
     goes = gives-by l input place (Fault n p) _ told refl;
@@ -117,11 +122,11 @@ module _ (l : Link) (input : List ℕ) (place : ℕ) (shape : Shaped l) (at : �
 
   module _ (sound : Bool) (exactly : Exactly sound (SoundLink l)) (after : Link) where
     -- an arrival
-    pub arrival-in-place : (a : Arrived) (active visit n : ℕ) (size : Bytes) → eventAt (drop place input) place ≡ Arrive a
+    pub arrival-in-place : (a : Arrived) (active visit charged n : ℕ) (size : Bytes) → eventAt (drop place input) place ≡ Arrive a
         → n ≡ usedOf (Arrive a) → ArrivesAs sound l a at before r out after
         → Happens l input place at before
-        (record { laid = r; more = true; place = place + n; active = active; visit = visit; size = size }) out after
-    arrival-in-place a active visit n size told used is =
+        (didBy r true (place + n) active visit size charged) out after
+    arrival-in-place a active visit charged n size told used is =
         let call = arrival (a .class) (packetIn a) in
         record {
           line = callLine (makes sound l call);
@@ -140,7 +145,7 @@ module _ (l : Link) (input : List ℕ) (place : ℕ) (shape : Shaped l) (at : �
     pub send-in-place : (w : Went) (n : ℕ) → eventAt (drop place input) place ≡ SendNext → n ≡ usedOf SendNext → DepartsAs sound l w after
         → LaysLine at (wentSays w) before r out
         → Happens l input place at before
-        (record { laid = r; more = true; place = place + n; active = w .active; visit = w .place; size = w .size }) out after
+        (didBy r true (place + n) (w .active) (w .place) (w .size) (w .charged)) out after
     send-in-place w n told used is lays = record {
       line = wentSays w;
       lays = lays;

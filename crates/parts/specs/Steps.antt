@@ -5,7 +5,9 @@ use mathlib.Core.List.{List}
 use Prim.Native.Nat.{ℕ, _+_, _≤_}
 use lib.ListN.{length}
 use Rattle.checks.specs.Check.{Exactly}
+use Rattle.units.specs.declared.Bytes.{Bytes}
 use Rattle.state.specs.declared.Link.{Link}
+use Rattle.state.specs.Mark.{since}
 use Rattle.state.specs.Queue.{Shaped}
 use Rattle.sound.specs.Sound.{SoundLink}
 use Rattle.plan.specs.declared.Arrived.{Arrived}
@@ -32,10 +34,24 @@ ArrivesAs sound l a at before r out after =
 
 -- a send: what the step gives has its line, and the link after it
 abbrev pub wentSays : Went → Line
-wentSays w = cond (w .some) (Out (w .class) (w .packet .length) (w .packet .tag) (w .rounds)) Nothing
+wentSays w =
+    let waited = since (w .charged) (w .packet .mark) in
+    cond (w .some) (Out (w .class) (w .packet .length) (w .packet .tag) (w .rounds) waited) Nothing
 
 abbrev pub DepartsAs : Bool → Link → Went → Link → Type 0
 DepartsAs sound l w after = let m = makes sound l send in (wentSays w ≡ callLine m) × (after ≡ linkLeft m)
+
+-- what an event gives beside the arrays and the buffer
+abbrev pub didBy : ℕ → Bool → ℕ → ℕ → ℕ → Bytes → ℕ → Did
+didBy laid more place active visit size charged = record {
+  laid = laid;
+  more = more;
+  place = place;
+  active = active;
+  visit = visit;
+  size = size;
+  charged = charged;
+}
 
 -- an event: its line is laid, what it gives, and the link after it, whose lists have the lengths of its arrays
 pub record Happens (l : Link) (input : List ℕ) (place at : ℕ) (before : List ℕ) (r : Did) (out : List ℕ) (after : Link) : Type 0 where

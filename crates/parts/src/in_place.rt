@@ -12,9 +12,9 @@ ghost use Rattle.state.specs.Queue.{Shaped};
 ghost use Rattle.state.specs.WayUp.{Climbs};
 ghost use Rattle.sound.specs.Sound.{SoundLink};
 ghost use Rattle.steps.specs.Arrivals.{lentWaiting, TakesOn};
-ghost use Rattle.steps.specs.Fields.{lentLink, lentTree};
+ghost use Rattle.steps.specs.Fields.{lentLink, lentTotals, lentTree};
 ghost use Rattle.steps.specs.Rounds.{Kept};
-ghost use Rattle.parts.specs.Steps.{LaysLine, wentSays, Taken, ArrivesAs, DepartsAs, Happens};
+ghost use Rattle.parts.specs.Steps.{LaysLine, wentSays, Taken, ArrivesAs, DepartsAs, didBy, Happens};
 use crate::PartRun;
 use checks::Verdict;
 use lines::Line;
@@ -23,12 +23,13 @@ use plan::EventRead;
 use state::Link;
 use state::Packet;
 use state::Totals;
+use state::mark::since;
 use steps::Went;
 use tree::Tree;
 use units::Bytes;
 
 // What an event gives beside the arrays and the buffer: where its line ends, whether the run goes on and at which place of the input, who
-// is active, the round's place, the size in force.
+// is active, the round's place, the size in force, the running total.
 pub struct Did {
     pub laid: usize,
     pub more: bool,
@@ -36,6 +37,7 @@ pub struct Did {
     pub active: u64,
     pub visit: usize,
     pub size: Bytes,
+    pub charged: u64,
 }
 
 // An arrival is judged, and put where it is taken; its line is laid.
@@ -49,6 +51,8 @@ fn arrives(
     held: &mut [u8; 64],
     lengths: &mut [u16; 2048],
     tags: &mut [u32; 2048],
+    marks: &mut [u64; 2048],
+    charged: u64,
     packets: &mut [u64; 64],
     bytes: &mut [u64; 64],
     at: usize,
@@ -58,11 +62,13 @@ fn arrives(
     ensures { λ r. ⌜ ((l : Link) → l .tree .leaves ≡ leaves → l .tree .parent ≡ now (parent .entry) → l .tree .longest
         ≡ now (longest .entry)
         → (sound ≡ true → TakesOn (lentWaiting l (now (start .entry)) (now (held .entry)) (now (lengths .entry)) (now (tags .entry))
-        (now (packets .entry)) (now (bytes .entry))))
+        (now (marks .entry))
+        (lentTotals (now (packets .entry)) (now (bytes .entry)) charged)))
         → ArrivesAs sound (lentWaiting l (now (start .entry)) (now (held .entry)) (now (lengths .entry)) (now (tags .entry))
-        (now (packets .entry)) (now (bytes .entry))) a at (now (out .entry)) r (now (out .exit))
-        (lentWaiting l (now (start .entry)) (now (held .exit)) (now (lengths .exit)) (now (tags .exit))
-        (now (packets .exit)) (now (bytes .exit)))) ⌝ }
+        (now (marks .entry))
+        (lentTotals (now (packets .entry)) (now (bytes .entry)) charged)) a at (now (out .entry)) r (now (out .exit))
+        (lentWaiting l (now (start .entry)) (now (held .exit)) (now (lengths .exit)) (now (tags .exit)) (now (marks .exit))
+        (lentTotals (now (packets .exit)) (now (bytes .exit)) charged))) ⌝ }
 {
     let class = a.class as usize;
     let len = a.length;
@@ -78,6 +84,8 @@ fn arrives(
         held,
         lengths,
         tags,
+        marks,
+        charged,
         packets,
         bytes,
     );
@@ -116,24 +124,29 @@ fn departs(
     held: &mut [u8; 64],
     lengths: &[u16; 2048],
     tags: &[u32; 2048],
+    marks: &[u64; 2048],
+    charged: u64,
     packets: &mut [u64; 64],
     bytes: &mut [u64; 64],
 ) -> Went
-    requires { ⌜ Exactly sound (SoundLink (lentLink (lentTree count leaves (now parent) (now weight) (now longest) follows) size active visit
-        (now balance) (now residual) (now start) (now held) (now lengths) (now tags) (now packets) (now bytes)))
+    requires { ⌜ Exactly sound (SoundLink (lentLink (lentTree count leaves (now parent) (now weight) (now longest) follows) size active
+        visit
+        (now balance) (now residual) (now start) (now held) (now lengths) (now tags) (now marks)
+        (lentTotals (now packets) (now bytes) charged)))
         × Shaped (lentLink (lentTree count leaves (now parent) (now weight) (now longest) follows) size active visit (now balance)
-        (now residual) (now start) (now held) (now lengths) (now tags) (now packets) (now bytes))
+        (now residual) (now start) (now held) (now lengths) (now tags) (now marks) (lentTotals (now packets) (now bytes) charged))
         × (sound ≡ true → Kept (lentTree count leaves (now parent) (now weight) (now longest) follows) known (now kept)) ⌝ }
     ensures { λ r. ⌜ DepartsAs sound (lentLink
         (lentTree count leaves (now (parent .entry)) (now (weight .entry)) (now (longest .entry)) follows) size active visit
         (now (balance .entry)) (now (residual .entry)) (now (start .entry)) (now (held .entry)) (now (lengths .entry)) (now (tags .entry))
-        (now (packets .entry)) (now (bytes .entry)))
+        (now (marks .entry))
+        (lentTotals (now (packets .entry)) (now (bytes .entry)) charged))
         r (lentLink (lentTree count leaves (now (parent .entry)) (now (weight .entry)) (now (longest .entry)) follows) (r .size) (r .active)
         (r .place) (now (balance .exit)) (now (residual .exit)) (now (start .exit)) (now (held .exit)) (now (lengths .entry))
-        (now (tags .entry)) (now (packets .exit)) (now (bytes .exit))) ⌝ }
+        (now (tags .entry)) (now (marks .entry)) (lentTotals (now (packets .exit)) (now (bytes .exit)) (r .charged))) ⌝ }
 {
     if !sound {
-        return steps::nothing(size, active, visit);
+        return steps::nothing(size, active, visit, charged);
     }
     steps::send(
         count,
@@ -153,6 +166,8 @@ fn departs(
         held,
         lengths,
         tags,
+        marks,
+        charged,
         packets,
         bytes,
     )
@@ -172,14 +187,23 @@ fn lay_went(went: Went, at: usize, out: &mut [u8]) -> usize
         packet.length as u64,
         packet.tag as u64,
         went.rounds as u64,
+        since(went.charged, packet.mark),
         at,
         out,
     )
 }
 
 // What an event gives, as one record.
-fn outcome(laid: usize, more: bool, place: usize, active: u64, visit: usize, size: Bytes) -> Did
-    ensures { λ r. ⌜ r ≡ record { laid = laid; more = more; place = place; active = active; visit = visit; size = size } ⌝ }
+fn outcome(
+    laid: usize,
+    more: bool,
+    place: usize,
+    active: u64,
+    visit: usize,
+    size: Bytes,
+    charged: u64,
+) -> Did
+    ensures { λ r. ⌜ r ≡ didBy laid more place active visit size charged ⌝ }
 {
     Did {
         laid,
@@ -188,6 +212,7 @@ fn outcome(laid: usize, more: bool, place: usize, active: u64, visit: usize, siz
         active,
         visit,
         size,
+        charged,
     }
 }
 
@@ -211,6 +236,8 @@ fn event(
     held: &mut [u8; 64],
     lengths: &mut [u16; 2048],
     tags: &mut [u32; 2048],
+    marks: &mut [u64; 2048],
+    charged: u64,
     packets: &mut [u64; 64],
     bytes: &mut [u64; 64],
     input: &[u8],
@@ -218,20 +245,23 @@ fn event(
     at: usize,
     out: &mut [u8],
 ) -> Did
-    requires { ⌜ Exactly sound (SoundLink (lentLink (lentTree count leaves (now parent) (now weight) (now longest) follows) size active visit
-        (now balance) (now residual) (now start) (now held) (now lengths) (now tags) (now packets) (now bytes)))
+    requires { ⌜ Exactly sound (SoundLink (lentLink (lentTree count leaves (now parent) (now weight) (now longest) follows) size active
+        visit
+        (now balance) (now residual) (now start) (now held) (now lengths) (now tags) (now marks)
+        (lentTotals (now packets) (now bytes) charged)))
         × Shaped (lentLink (lentTree count leaves (now parent) (now weight) (now longest) follows) size active visit (now balance)
-        (now residual) (now start) (now held) (now lengths) (now tags) (now packets) (now bytes))
+        (now residual) (now start) (now held) (now lengths) (now tags) (now marks) (lentTotals (now packets) (now bytes) charged))
         × (sound ≡ true → Kept (lentTree count leaves (now parent) (now weight) (now longest) follows) known (now kept))
         × (at + lineRoom ≤ length (now out)) ⌝ }
     ensures { λ r. ⌜ Happens (lentLink
         (lentTree count leaves (now (parent .entry)) (now (weight .entry)) (now (longest .entry)) follows) size active visit
         (now (balance .entry)) (now (residual .entry)) (now (start .entry)) (now (held .entry)) (now (lengths .entry)) (now (tags .entry))
-        (now (packets .entry)) (now (bytes .entry)))
+        (now (marks .entry))
+        (lentTotals (now (packets .entry)) (now (bytes .entry)) charged))
         (now (input .entry)) place at (now (out .entry)) r (now (out .exit))
         (lentLink (lentTree count leaves (now (parent .entry)) (now (weight .entry)) (now (longest .entry)) follows) (r .size) (r .active)
         (r .visit) (now (balance .exit)) (now (residual .exit)) (now (start .exit)) (now (held .exit)) (now (lengths .exit))
-        (now (tags .exit)) (now (packets .exit)) (now (bytes .exit))) ⌝ }
+        (now (tags .exit)) (now (marks .exit)) (lentTotals (now (packets .exit)) (now (bytes .exit)) (r .charged))) ⌝ }
 {
     let rest = plan::events_after(input, place);
     let read = plan::read_event(rest, place);
@@ -239,7 +269,7 @@ fn event(
     match read {
         EventRead::NoMore => {
             let laid = lines::lay_at(Line::End(packets[0]), at, out);
-            outcome(laid, false, place, active, visit, size)
+            outcome(laid, false, place, active, visit, size, charged)
         }
         EventRead::Arrive(a) => {
             let laid = arrives(
@@ -252,12 +282,14 @@ fn event(
                 held,
                 lengths,
                 tags,
+                marks,
+                charged,
                 packets,
                 bytes,
                 at,
                 out,
             );
-            outcome(laid, true, after, active, visit, size)
+            outcome(laid, true, after, active, visit, size, charged)
         }
         EventRead::SendNext => {
             let went = departs(
@@ -279,15 +311,25 @@ fn event(
                 held,
                 lengths,
                 tags,
+                marks,
+                charged,
                 packets,
                 bytes,
             );
             let laid = lay_went(went, at, out);
-            outcome(laid, true, after, went.active, went.place, went.size)
+            outcome(
+                laid,
+                true,
+                after,
+                went.active,
+                went.place,
+                went.size,
+                went.charged,
+            )
         }
         EventRead::Fault(n, p) => {
             let laid = lines::lay_at(Line::Stop(n as u64, p as u64), at, out);
-            outcome(laid, false, place, active, visit, size)
+            outcome(laid, false, place, active, visit, size, charged)
         }
     }
 }
@@ -331,6 +373,7 @@ pub fn part_of(sound: bool, link: Link, input: &[u8], place: usize, out: &mut [u
     let mut held = link.held;
     let mut lengths = link.lengths;
     let mut tags = link.tags;
+    let mut marks = link.marks;
     let totals = link.totals;
     let mut packets = totals.packets;
     let mut bytes = totals.bytes;
@@ -339,6 +382,7 @@ pub fn part_of(sound: bool, link: Link, input: &[u8], place: usize, out: &mut [u
     let mut size = link.size;
     let mut active = link.active;
     let mut visit = link.place;
+    let mut charged = totals.charged;
     let mut laid: usize = 0;
     let mut more = true;
     let mut from = place;
@@ -362,6 +406,8 @@ pub fn part_of(sound: bool, link: Link, input: &[u8], place: usize, out: &mut [u
             &mut held,
             &mut lengths,
             &mut tags,
+            &mut marks,
+            charged,
             &mut packets,
             &mut bytes,
             input,
@@ -375,6 +421,7 @@ pub fn part_of(sound: bool, link: Link, input: &[u8], place: usize, out: &mut [u
         active = did.active;
         visit = did.visit;
         size = did.size;
+        charged = did.charged;
     }
     let accounts = state::lent_accounts::zipped(&balance, &residual);
     let after = Link {
@@ -387,7 +434,12 @@ pub fn part_of(sound: bool, link: Link, input: &[u8], place: usize, out: &mut [u
         held,
         lengths,
         tags,
-        totals: Totals { packets, bytes },
+        marks,
+        totals: Totals {
+            packets,
+            bytes,
+            charged,
+        },
     };
     PartRun {
         laid,

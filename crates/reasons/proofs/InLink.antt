@@ -9,7 +9,7 @@ use Rattle.units.specs.Cost.{costOf}
 use Rattle.tree.specs.Class.{isLeaf}
 use Rattle.tree.proofs.Rules.{leaf-number}
 use Rattle.state.specs.declared.Link.{Link}
-use Rattle.state.specs.declared.Packet.{Packet}
+use Rattle.state.specs.declared.Waiting.{Waiting}
 use Rattle.state.specs.Account.{balanceOf}
 use Rattle.state.specs.Queue.{startOf, heldOf, slot}
 use Rattle.state.specs.State.{meaning}
@@ -42,7 +42,7 @@ module _ (l : Link) (sound : SoundLink l) (i : ℕ) (leaf : isLeaf (l .tree) i �
     first-is =
         let some : 1 ≤ heldOf l i = omega (arith, meaning-held l i leaf-low, sound .state .waiting i leaf-low .waits leaf on) in
         ap (λ (k : ℕ). getD (l .lengths) k 0) here
-        ∙ sym (ap (λ (p : Packet). p .length) (meaning-first l i leaf-low some ∙ packet-first l i start-low))
+        ∙ sym (ap (λ (p : Waiting). p .length) (meaning-first l i leaf-low some ∙ packet-first l i start-low))
 
     pub lacks-in : balanceOf (l .accounts) i < costOf (getD (l .lengths) at 0)
     lacks-in = rw first-is (lacks-some (meaning l) (sound .state) i leaf on below)

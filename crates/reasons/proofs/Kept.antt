@@ -17,6 +17,8 @@ use Rattle.tree.specs.Class.{isLeaf}
 use Rattle.state.specs.declared.Account.{Account}
 use Rattle.state.specs.declared.Link.{Link}
 use Rattle.state.specs.declared.Packet.{Packet}
+use Rattle.state.specs.declared.Waiting.{Waiting}
+use Rattle.state.specs.Mark.{markedWith}
 use Rattle.state.specs.Account.{balanceOf}
 use Rattle.state.specs.Queue.{noPacket}
 use Rattle.state.specs.State.{State, meaning, queueAt}
@@ -69,13 +71,13 @@ arrived-kept s i j p wide u = record {
     inside = omega (arith, wide .queues)
 
     more : Dec (i ≡ j) → length (queueAt s i) ≤ length (queueAt (arrived s j p) i)
-    more (yes e) = rw (e, queue-arrived s j p inside) (omega (arith, length-append (queueAt s j) (p ∷ [])))
+    more (yes e) = rw (e, queue-arrived s j p inside) (omega (arith, length-append (queueAt s j) (markedWith (s .totals .charged) p ∷ [])))
     more (no ne) = rw (queue-other s j p inside i ne) (omega arith)
 
     first : Dec (i ≡ j) → 1 ≤ length (queueAt s i) → firstOf (arrived s j p) i ≡ firstOf s i
     first (yes e) h =
-        rw (e, queue-arrived s j p inside) (List·getD-append (queueAt s j) (p ∷ []) noPacket 0 (rw e at h))
-    first (no ne) h = ap (λ (q : List Packet). getD q 0 noPacket) (queue-other s j p inside i ne)
+        rw (e, queue-arrived s j p inside) (List·getD-append (queueAt s j) (markedWith (s .totals .charged) p ∷ []) noPacket 0 (rw e at h))
+    first (no ne) h = ap (λ (q : List Waiting). getD q 0 noPacket) (queue-other s j p inside i ne)
 
 -- what holds before an arrival, and of the state with the packet where it is accepted, holds after it
 pub by-arrival : (P : State → Type 0) (l : Link) (j : ℕ) (p : Packet) (a : AfterArrival) → SoundLink l → Arrives l j p a → P (meaning l)
@@ -107,7 +109,7 @@ sent-kept s i j sound wide is leaf ne =
       active = books .leaves i leaf ne;
       balance = ap (λ (a : Account). a .balance .0) (books .accounts i leaf ne);
       more = omega (arith, ap length queue);
-      first = λ h. ap (λ (q : List Packet). getD q 0 noPacket) queue;
+      first = λ h. ap (λ (q : List Waiting). getD q 0 noPacket) queue;
       onward = is .onward;
     }
 

@@ -18,6 +18,7 @@ use Rattle.tree.specs.Class.{isLeaf}
 use Rattle.tree.proofs.Rules.{leaf-number}
 use Rattle.state.specs.declared.Link.{Link}
 use Rattle.state.specs.declared.Packet.{Packet}
+use Rattle.state.specs.declared.Waiting.{Waiting}
 use Rattle.state.specs.Account.{balanceOf}
 use Rattle.state.specs.State.{State, meaning, queueAt}
 use Rattle.sound.specs.Sound.{Sound, SoundLink}
@@ -85,7 +86,7 @@ lacks-kept i n s r k w = (
     in-round = k .active ∙ w .1 .in-round;
     below = omega (arith, k .onward, w .1 .below);
     some = w .1 .some;
-    exact = ap (λ (b : ℕ). b + n) (k .balance) ∙ w .1 .exact ∙ ap (λ (p : Packet). costOf (p .length)) (sym (k .first (w .0)));
+    exact = ap (λ (b : ℕ). b + n) (k .balance) ∙ w .1 .exact ∙ ap (λ (p : Waiting). costOf (p .length)) (sym (k .first (w .0)));
   },
 )
 

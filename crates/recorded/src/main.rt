@@ -50,7 +50,7 @@ fn none() -> Tally {
 
 // A line more.
 fn with_line(tally: Tally, line: Line) -> Tally {
-    let mut text = [0u8; 96];
+    let mut text = [0u8; 112];
     let n = lines::lay(line, &mut text);
     with_text(tally, &text[..n])
 }

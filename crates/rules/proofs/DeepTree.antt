@@ -41,7 +41,7 @@ tree rule =
     (class 0 4 70 true)
 
 arrive : State → ℕ → ℕ → ℕ → State
-arrive s i length tag = withQueue s i (queueAt s i ++ (record { length = length; tag = tag } ∷ []))
+arrive s i length tag = withQueue s i (queueAt s i ++ (record { length = length; tag = tag; mark = s .totals .charged } ∷ []))
 
 -- six arrivals on a fresh link: class, length, tag
 start : Bool → State
@@ -64,7 +64,8 @@ shownIn : List Turn → List (List ℕ)
 shownIn [] = []
 shownIn (x ∷ xs) = (x .size ∷ []) ∷ table (x .quotas) 3 ∷ balances (x .after) ∷ residuals (x .after) ∷ shownIn xs
 
--- of the send that follows n others: class, length, tag and rounds; the place, the active set and the size after it; balances; residuals; and its
+-- of the send that follows n others: class, length, tag and rounds; the place, the active set and the size after it; balances; residuals;
+-- and its
 -- rounds
 seenOf : Bool → ℕ → List (List ℕ)
 seenOf rule n =
@@ -130,11 +131,13 @@ six-sends : table (seenOf false) 6
     ∷ (0 ∷ 0 ∷ 0 ∷ 0 ∷ 0 ∷ 0 ∷ 0 ∷ [])
     ∷ [])
     ∷ []
-unfolding class none tree arrive start after seenOf shownIn balances residuals roundSize allWeights allLongest longestCost sumTo someTo isClass
+unfolding class none tree arrive start after seenOf shownIn balances residuals roundSize allWeights allLongest longestCost sumTo someTo
+    isClass
     isLeaf isInner isChild has with without costOf table queueOf climbs atOrBelow waits someBelow setOf upward roundActive activeChild
     ofChild childrenSum
     activeWeight weightSum surplusAt hasSurplus kindOf quotaIn quota due handsDown openedLeaf openedInner openedAccount openedAccounts
-    nextKind nextSize mainSize resizedAccounts openedWith ready firstFrom nextLeaf givenUp turnsOff paid booksAfter sentState turnOf sends traceOf
+    nextKind nextSize mainSize resizedAccounts openedWith ready firstFrom nextLeaf givenUp turnsOff paid booksAfter sentState turnOf sends
+    traceOf
 six-sends = refl
 
 -- rule 2: the first round has all classes; when leaves 5 and 6 have gone the main round after a surplus round has 249, and the last 133
@@ -191,9 +194,11 @@ six-sends-active : table (seenOf true) 6
     ∷ (0 ∷ 0 ∷ 0 ∷ 0 ∷ 0 ∷ 0 ∷ 0 ∷ [])
     ∷ [])
     ∷ []
-unfolding class none tree arrive start after seenOf shownIn balances residuals roundSize allWeights allLongest longestCost sumTo someTo isClass
+unfolding class none tree arrive start after seenOf shownIn balances residuals roundSize allWeights allLongest longestCost sumTo someTo
+    isClass
     isLeaf isInner isChild has with without costOf table queueOf climbs atOrBelow waits someBelow setOf upward roundActive activeChild
-    ofChild childrenSum activeWeight weightSum surplusAt hasSurplus kindOf quotaIn quota due handsDown openedLeaf openedInner openedAccount openedAccounts
+    ofChild childrenSum activeWeight weightSum surplusAt hasSurplus kindOf quotaIn quota due handsDown openedLeaf openedInner
+    openedAccount openedAccounts
     nextKind nextSize mainSize ifActive activeWeights activeLongest
     activeSize resizedAccounts openedWith ready firstFrom nextLeaf givenUp turnsOff paid booksAfter sentState turnOf sends traceOf
 six-sends-active = refl

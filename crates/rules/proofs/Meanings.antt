@@ -19,7 +19,7 @@ use borrow.Author.Tests.{le-leb, lt-leb, leb-true}
 use Rattle.units.specs.Cost.{costOf}
 use Rattle.rules.proofs.Sent.{wide-after, sound-after}
 use Rattle.state.specs.declared.Link.{Link}
-use Rattle.state.specs.declared.Packet.{Packet}
+use Rattle.state.specs.declared.Waiting.{Waiting}
 use Rattle.state.specs.Queue.{Shaped, queueOf, startOf, heldOf, packetAt, takenFirst}
 use Rattle.state.specs.State.{State, meaning, queueAt, inRound}
 use Rattle.tree.proofs.Tables.{table-length}
@@ -74,10 +74,10 @@ pub sender-holds : (l : Link) (i : ℕ) → SendsNext l i → 1 ≤ heldOf l i
 sender-holds l i n = omega (arith, meaning-held l i (n .found), link-sender l i n .holds)
 
 -- what its first packet costs, read where it lies
-pub first-cost : (l : Link) (i : ℕ) (p : Packet) (cost : ℕ) → SendsNext l i → p ≡ packetAt l i 0 → cost ≡ costOf (p .length)
+pub first-cost : (l : Link) (i : ℕ) (p : Waiting) (cost : ℕ) → SendsNext l i → p ≡ packetAt l i 0 → cost ≡ costOf (p .length)
     → cost ≡ costOf (firstOf (meaning l) i .length)
 first-cost l i p cost n e f =
-    f ∙ ap (λ (q : Packet). costOf (q .length)) (e ∙ sym (meaning-first l i (n .found) (sender-holds l i n)))
+    f ∙ ap (λ (q : Waiting). costOf (q .length)) (e ∙ sym (meaning-first l i (n .found) (sender-holds l i n)))
 
 pub paid-means : (l : Link) (i cost : ℕ) → cost ≡ costOf (firstOf (meaning l) i .length) → paidBy (l .accounts) i cost ≡ paid (meaning l) i
 unfolding paid

@@ -5,7 +5,7 @@ use Prim.Native.Nat.{ℕ, suc, _+_, _-_, _<_}
 use native.Mathlib.Omega.{arith}
 use lib.ListN.{length, length-append}
 use Rattle.state.specs.declared.Link.{Link}
-use Rattle.state.specs.declared.Packet.{Packet}
+use Rattle.state.specs.declared.Waiting.{Waiting}
 use Rattle.state.specs.Queue.{takenFirst, packetAt}
 use Rattle.state.specs.State.{meaning}
 use Rattle.state.proofs.Meaning.{meaning-first}
@@ -85,7 +85,7 @@ way-found l₀ at l rounds w found = record {
 }
 
 -- and its packet is the one that the whole send gives
-pub way-ends : (l₀ : Link) (at : ℕ) (l : Link) (rounds : ℕ) (p : Packet) (l′ : Link) → OnTheWay l₀ at l rounds → SendsNext l at
+pub way-ends : (l₀ : Link) (at : ℕ) (l : Link) (rounds : ℕ) (p : Waiting) (l′ : Link) → OnTheWay l₀ at l rounds → SendsNext l at
     → p ≡ packetAt l at 0 → l′ ≡ sentLink l at
     → record { class = at; packet = p; rounds = rounds; link = l′ } ≡ sentBy l₀ (traceOf (meaning l₀))
 way-ends l₀ at l rounds p l′ w n first after =

@@ -10,7 +10,7 @@ use Rattle.units.specs.Cost.{costOf}
 use Rattle.tree.specs.Class.{isLeaf}
 use Rattle.tree.proofs.Classes.{both-true}
 use Rattle.state.specs.declared.Link.{Link}
-use Rattle.state.specs.declared.Packet.{Packet}
+use Rattle.state.specs.declared.Waiting.{Waiting}
 use Rattle.state.specs.Account.{balanceOf}
 use Rattle.state.specs.Queue.{startOf, heldOf, slot}
 use Rattle.state.specs.State.{State, meaning}
@@ -83,7 +83,7 @@ ready-at l k s u e =
     let held : 1 ≤ heldOf l k = rw (meaning-held l k u) at (s .state .waiting k u .waits (w .1) (w .0)) in
     let start : (startOf l k + 0) % 32 ≡ startOf l k = omega (arith, s .starts k u .start) in
     ready-is (meaning l) k e
-    ∙ ap (λ (p : Packet). leb (costOf (p .length)) (balanceOf (l .accounts) k)) (meaning-first l k u held)
+    ∙ ap (λ (p : Waiting). leb (costOf (p .length)) (balanceOf (l .accounts) k)) (meaning-first l k u held)
     ∙ ap (λ (n : ℕ). leb (costOf (getD (l .lengths) (slot k n) 0)) (balanceOf (l .accounts) k)) start
 
 -- the next class i, from a place on, of the set of the active leaves

@@ -11,14 +11,14 @@ use Rattle.sets.specs.Set.{has}
 use Rattle.units.specs.Cost.{costOf}
 use Rattle.tree.specs.Class.{isLeaf}
 use Rattle.state.specs.declared.Account.{Account}
-use Rattle.state.specs.declared.Packet.{Packet}
+use Rattle.state.specs.declared.Waiting.{Waiting}
 use Rattle.state.specs.Account.{balanceOf}
 use Rattle.state.specs.Queue.{noPacket}
 use Rattle.state.proofs.Counting.{queues-totals}
-use Rattle.state.specs.State.{State, queueAt}
+use Rattle.state.specs.State.{State, queueAt, withCharge}
 use Rattle.sound.specs.Sound.{InRange, HoldsRight, ActiveHolds, BehindPlace, Sound}
 use Rattle.sound.proofs.Active.{child-to-leaf}
-use Rattle.rules.specs.Sending.{nextLeaf, booksAfter, sentState}
+use Rattle.rules.specs.Sending.{firstOf, nextLeaf, booksAfter, sentState}
 use Rattle.rules.specs.Wide.{Wide}
 use Rattle.rules.proofs.Sender.{Sender, next-sender, before-lacks}
 use Rattle.rules.proofs.SentBooks.{SentBooks, sent-books, books-total}
@@ -53,7 +53,7 @@ module _ (s : State) (i : ℕ) (sound : Sound s) (wide : Wide s) (is : Sender s 
     range =
         λ f j h.
         subst (InRange (s .tree) i)
-        (sym (ap (λ (q : List Packet). getD q j noPacket) (sent-queue s i wide (is .high)) ∙ getD-drop 1 (queueAt s i) j noPacket))
+        (sym (ap (λ (q : List Waiting). getD q j noPacket) (sent-queue s i wide (is .high)) ∙ getD-drop 1 (queueAt s i) j noPacket))
         (sound .holds i (is .high) .range f (1 + j) (omega (arith, shorter, h)));
     other = λ f. omega (arith, shorter, sound .holds i (is .high) .other f);
   }
@@ -71,7 +71,7 @@ module _ (s : State) (i : ℕ) (sound : Sound s) (wide : Wide s) (is : Sender s 
             few = λ f. omega (arith, held, sound .holds k u .few f);
             range =
                 λ f j h.
-                subst (λ (q : List Packet). InRange (s .tree) k (getD q j noPacket)) (sym same)
+                subst (λ (q : List Waiting). InRange (s .tree) k (getD q j noPacket)) (sym same)
                 (sound .holds k u .range f j (omega (arith, held, h)));
             other = λ f. held ∙ sound .holds k u .other f;
           }
@@ -103,7 +103,7 @@ module _ (s : State) (i : ℕ) (sound : Sound s) (wide : Wide s) (is : Sender s 
           → balanceOf (booksAfter s i .accounts) k < costOf (getD (queueAt (sentState s i) k) 0 noPacket .length)
       lacks f a l =
           let ne : k ≡ i → ⊥ = λ e. omega arith in
-          let first = ap (λ (q : List Packet). costOf (getD q 0 noPacket .length)) (sent-other s i k ne) in
+          let first = ap (λ (q : List Waiting). costOf (getD q 0 noPacket .length)) (sent-other s i k ne) in
           let balance = ap (λ (x : Account). x .balance .0) (books .accounts k f ne) in
           omega (arith, first, balance, before-lacks s i sound is k u f (sym (books .leaves k f ne) ∙ a) l)
 
@@ -130,7 +130,7 @@ module _ (s : State) (i : ℕ) (sound : Sound s) (wide : Wide s) (is : Sender s 
         behind = behind-after;
         totals =
             λ k u.
-            let q = queues-totals s (set (s .queues) i (drop 1 (queueAt s i))) k u in
+            let q = queues-totals (withCharge s (costOf (firstOf s i .length))) (set (s .queues) i (drop 1 (queueAt s i))) k u in
             record { packets = q .packets; bytes = q .bytes };
       }
 

@@ -2,15 +2,17 @@
 use mathlib.Core.Bool.{true}
 use mathlib.Core.List.{List, [], _∷_}
 use mathlib.Core.Path.{_≡_, refl, sym, ap, subst, _∙_}
-use Prim.Native.Nat.{ℕ, _≤_}
+use Prim.Native.Nat.{ℕ, _+_, _≤_}
 use native.Mathlib.Omega.{arith}
 use lib.ListN.{length, getD, drop}
+use Rattle.units.specs.Cost.{costOf}
 use Rattle.tree.specs.declared.Tree.{Tree}
 use Rattle.tree.specs.Class.{isLeaf}
-use Rattle.state.specs.declared.Packet.{Packet}
+use Rattle.state.specs.declared.Waiting.{Waiting}
 use Rattle.state.specs.declared.Link.{Link}
+use Rattle.state.specs.Mark.{wrapped}
 use Rattle.state.specs.Queue.{Shaped, noPacket, takenFirst}
-use Rattle.state.specs.State.{State, meaning, queueAt}
+use Rattle.state.specs.State.{State, meaning, queueAt, countsOf}
 use Rattle.state.proofs.Queues.{shaped-in}
 use Rattle.sound.specs.Sound.{Sound, SoundLink}
 use Rattle.rules.specs.Active.{someWaits}
@@ -25,7 +27,7 @@ use Rattle.rules.specs.Steps.{SendsNext}
 use Rattle.rules.proofs.Meanings.{meaning-wide, meaning-in, sent-means, sent-link-sound, waits-leaf}
 
 -- a queue that holds a packet is its first packet and the rest
-first-and-rest : (q : List Packet) → 1 ≤ length q → q ≡ getD q 0 noPacket ∷ drop 1 q
+first-and-rest : (q : List Waiting) → 1 ≤ length q → q ≡ getD q 0 noPacket ∷ drop 1 q
 first-and-rest [] h = absurd (omega arith)
 first-and-rest (p ∷ q) h = refl
 
@@ -109,11 +111,19 @@ module _ (l : Link) (shape : Shaped l) (sound : SoundLink l) (waits : someWaits 
       ≡ traceOf (meaning l) .packet ∷ queueAt (traceOf (meaning l) .state) (traceOf (meaning l) .class)
   trace-queue =
       rw trace-is
-      (ap (λ (q : List (List Packet)). getD q leaf []) (sym same-queues)
+      (ap (λ (q : List (List Waiting)). getD q leaf []) (sym same-queues)
       ∙ first-and-rest (queueAt (goes .after) leaf) (sender .holds)
-      ∙ ap (λ (q : List Packet). firstOf (goes .after) leaf ∷ q) (sym (sent-queue (goes .after) leaf (goes .wide) (sender .high))))
+      ∙ ap (λ (q : List Waiting). firstOf (goes .after) leaf ∷ q) (sym (sent-queue (goes .after) leaf (goes .wide) (sender .high))))
+
+  -- its charge joins the running total
+  pub trace-charged : traceOf (meaning l) .state .totals .charged
+      ≡ wrapped (l .totals .charged + costOf (traceOf (meaning l) .packet .length))
+  unfolding sentState countsOf
+  trace-charged =
+      rw trace-is
+      (ap (λ (s : State). wrapped (s .totals .charged + costOf (firstOf (goes .after) leaf .length))) (goes .same))
 
   pub trace-others : (k : ℕ) → (k ≡ traceOf (meaning l) .class → ⊥) → queueAt (traceOf (meaning l) .state) k ≡ queueAt (meaning l) k
   trace-others k ne =
       let other : k ≡ leaf → ⊥ = λ e. ne (e ∙ sym (ap (λ (t : Trace). t .class) trace-is)) in
-      rw trace-is (sent-other (goes .after) leaf k other ∙ ap (λ (q : List (List Packet)). getD q k []) same-queues)
+      rw trace-is (sent-other (goes .after) leaf k other ∙ ap (λ (q : List (List Waiting)). getD q k []) same-queues)

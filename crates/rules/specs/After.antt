@@ -2,7 +2,7 @@
 use Prim.Native.Nat.{ℕ}
 use lib.ListN.{length}
 use Rattle.state.specs.declared.Link.{Link}
-use Rattle.state.specs.declared.Packet.{Packet}
+use Rattle.state.specs.declared.Waiting.{Waiting}
 use Rattle.state.specs.Queue.{takenFirst}
 use Rattle.state.specs.State.{State, meaning, linkInRound}
 use Rattle.rules.specs.Opening.{opened}
@@ -27,7 +27,7 @@ linkAfter l trace = takenFirst (linkIn l (trace .state)) (trace .class)
 -- what a send gives: the packet that goes, its class, the rounds opened in the call, and the link after it; read off its trace
 pub record Sent : Type 0 where
   pub class : ℕ
-  pub packet : Packet
+  pub packet : Waiting
   pub rounds : ℕ
   pub link : Link
 

@@ -10,15 +10,15 @@ use Rattle.tree.specs.declared.Tree.{Tree}
 use Rattle.tree.specs.Class.{parentOf, isLeaf}
 use Rattle.tree.specs.Sum.{someTo}
 use Rattle.state.specs.declared.Account.{Account}
-use Rattle.state.specs.declared.Packet.{Packet}
+use Rattle.state.specs.declared.Waiting.{Waiting}
 use Rattle.state.specs.Account.{accountOf, balanceOf, fundsOf, sentFrom, gained, returned, received}
 use Rattle.state.specs.Queue.{noPacket}
-use Rattle.state.specs.State.{State, queueAt, withQueue, inRound}
+use Rattle.state.specs.State.{State, queueAt, withQueue, withCharge, inRound}
 use Rattle.rules.specs.Active.{activeChild, roundActive}
 use Rattle.rules.specs.Opening.{Kind, nextKind, nextSize, resizedAccounts, quota, opened}
 
 -- the first packet of class i (R136)
-abbrev pub firstOf : State → ℕ → Packet
+abbrev pub firstOf : State → ℕ → Waiting
 firstOf s i = getD (queueAt s i) 0 noPacket
 
 -- class i is an active leaf whose balance covers its first packet (R16, R136)
@@ -96,11 +96,12 @@ booksAfter s i =
     let b : Books = record { active = s .active; accounts = paid s i } in
     cond (leb (length (queueAt s i)) 1) (turnsOff 63 (s .tree) i b) b
 
--- leaf i sends its first packet, and the place becomes that leaf (R139)
+-- leaf i sends its first packet, and the place becomes that leaf (R139); the packet's charge joins the running total (R310)
 unfoldable pub sentState : State → ℕ → State
 sentState s i =
     let b = booksAfter s i in
-    withQueue (inRound s (s .size) (b .active) i (b .accounts)) i (drop 1 (queueAt s i))
+    let went = inRound s (s .size) (b .active) i (b .accounts) in
+    withQueue (withCharge went (costOf (firstOf s i .length))) i (drop 1 (queueAt s i))
 
 -- the state in which a round closed, and the round that opened in its place: its kind, the size in force, the quotas, and the accounts
 -- after the opening (R145, R146, R235)
@@ -124,7 +125,7 @@ turnOf s = record {
 pub record Trace : Type 0 where
   pub turns : List Turn
   pub class : ℕ
-  pub packet : Packet
+  pub packet : Waiting
   pub state : State
 
 -- a leaf sends, or the round has closed and a new one is opened in the same call; n is more openings than there can be (R145, R146)

@@ -32,9 +32,10 @@ packetIn a = record { length = a .length; tag = a .tag }
 abbrev pub arrivalLine : Arrival → Arrived → Line
 arrivalLine answer a = arrivalSays (answer .verdict) (a .class) (packetIn a) (answer .bytes .0)
 
--- `out` class length tag rounds; `none` for refusal 15, the only one of a send on a run's link (R17, R191, R192)
+-- `out` class length tag rounds waited, those that the send answers; `none` for refusal 15, the only one of a send on a run's link (R17,
+-- R191, R192, R314)
 abbrev pub sendSays : Verdict → Departure → Line
-sendSays Passed d = Out (d .class) (d .length) (d .tag) (d .rounds)
+sendSays Passed d = Out (d .class) (d .length) (d .tag) (d .rounds) (d .waited)
 sendSays (Refused n q) d = Nothing
 
 abbrev pub sendLine : Departure → Line

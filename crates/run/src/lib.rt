@@ -51,6 +51,7 @@ pub fn send_line(d: Departure) -> Line
             d.length as u64,
             d.tag as u64,
             d.rounds as u64,
+            d.waited,
         ),
         Verdict::Refused(_, _) => Line::Nothing,
     }

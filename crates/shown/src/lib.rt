@@ -13,7 +13,7 @@ use lines::Line;
 pub fn print(line: Line) -> usize
     ensures { λ r. ⌜ r ≡ length (bytesOf line) ⌝ }
 {
-    let mut text = [0u8; 96];
+    let mut text = [0u8; 112];
     let n = lines::lay(line, &mut text);
     io::write_all(STDOUT_FILENO, &text[..n]);
     n

@@ -19,6 +19,7 @@ use Rattle.tree.proofs.Rules.{leaf-number}
 use Rattle.state.specs.declared.Account.{Account}
 use Rattle.state.specs.declared.Link.{Link}
 use Rattle.state.specs.declared.Packet.{Packet}
+use Rattle.state.specs.declared.Waiting.{Waiting}
 use Rattle.state.specs.Account.{balanceOf}
 use Rattle.state.specs.Queue.{heldOf}
 use Rattle.state.specs.State.{State, meaning, queueAt}
@@ -27,6 +28,7 @@ use Rattle.sound.specs.Sound.{Sound, SoundLink}
 use Rattle.rules.specs.Active.{someWaits}
 use Rattle.rules.specs.Opening.{nextSize, opened}
 use Rattle.rules.specs.Sending.{firstOf, nextLeaf, sentState, Turn, turnOf, Trace, traceOf}
+use Rattle.rules.specs.After.{linkAfter}
 use Rattle.rules.specs.Wide.{Wide}
 use Rattle.rules.proofs.Meanings.{meaning-wide, waits-leaf}
 use Rattle.rules.proofs.Opened.{next-sound, next-wide}
@@ -112,9 +114,9 @@ arrival-charges k l i p a sound x = go (refused-or-passed (firstBroken (arrivalC
 
 -- the leaf that is found sends its first packet
 module _
-    (k : ℕ) (s : State) (answer : Departure) (after : Link) (rounds : ℕ)
+    (k : ℕ) (s : State) (answer : Departure) (after : Link) (rounds total : ℕ)
     (sound : Sound s) (wide : Wide s) (leaf : isLeaf (s .tree) k ≡ true) (found : nextLeaf s < 64)
-    (is : answer ≡ goes (nextLeaf s) (firstOf s (nextLeaf s)) rounds) (means : meaning after ≡ sentState s (nextLeaf s)) where
+    (is : answer ≡ goes (nextLeaf s) (firstOf s (nextLeaf s)) rounds total) (means : meaning after ≡ sentState s (nextLeaf s)) where
   sender : Sender s (nextLeaf s)
   sender = next-sender s sound found
 
@@ -159,7 +161,7 @@ rounds-steps [] k s after later sound wide rounds held steps = subst (λ (t : St
 rounds-steps (turn ∷ turns) k s after later sound wide rounds held steps = (
   record { sound = sound; wide = wide; ends = rounds .0; is = rounds .1; held = λ h. held (next-past k turns later h) },
   rounds-steps turns k (opened s) after later (next-sound s sound wide (rounds .0)) (next-wide s sound wide) (rounds .2)
-      (λ h. subst (λ (qs : List (List Packet)). 1 ≤ length (getD qs k [])) (sym (opened-queues (nextSize s) s)) (held h)) steps,
+      (λ h. subst (λ (qs : List (List Waiting)). 1 ≤ length (getD qs k [])) (sym (opened-queues (nextSize s) s)) (held h)) steps,
 )
 
 module _
@@ -175,9 +177,9 @@ module _
   goes-steps some =
       subst (λ (turns : List Turn). Steps k (meaning l) (map closed turns ++ (called this ∷ later))) (sym turns-are)
       (rounds-steps (g .more) k (meaning l) (g .after) (called this ∷ later) (sound .state) wide (g .rounds)
-      (λ h. subst (λ (qs : List (List Packet)). 1 ≤ length (getD qs k [])) (ap (λ (s : State). s .queues) (g .same))
-      (found-held k (g .after) answer after (length (g .more)) (g .sound) (g .wide) leaf-there (g .leaf) answer-is means h))
-      (found-charges k (g .after) answer after (length (g .more)) (g .sound) (g .wide) leaf-there (g .leaf) answer-is means, steps))
+      (λ h. subst (λ (qs : List (List Waiting)). 1 ≤ length (getD qs k [])) (ap (λ (s : State). s .queues) (g .same))
+      (found-held k (g .after) answer after (length (g .more)) _ (g .sound) (g .wide) leaf-there (g .leaf) answer-is means h))
+      (found-charges k (g .after) answer after (length (g .more)) _ (g .sound) (g .wide) leaf-there (g .leaf) answer-is means, steps))
     where
       wide : Wide (meaning l)
       wide = meaning-wide l (x .shape .accounts)
@@ -192,9 +194,11 @@ module _
       this-is = sent-is l (sendLeaves answer after) sound x some
 
       answer-is : answer ≡ goes (nextLeaf (g .after)) (firstOf (g .after) (nextLeaf (g .after))) (length (g .more))
+          (linkAfter l (traceOf (meaning l)) .totals .charged)
       answer-is =
           ap (λ (d : AfterSend). d .answer) this-is
-          ∙ ap (λ (t : Trace). goes (t .class) (t .packet) (length (t .turns))) (g .gives 62 [])
+          ∙ ap (λ (t : Trace). goes (t .class) (t .packet) (length (t .turns)) (linkAfter l (traceOf (meaning l)) .totals .charged))
+          (g .gives 62 [])
 
       means : meaning after ≡ sentState (g .after) (nextLeaf (g .after))
       means = sent-means l (sendLeaves answer after) sound x some ∙ ap (λ (t : Trace). t .state) (g .gives 62 [])

@@ -3,3 +3,4 @@ pub mod Totals
 pub mod Counts
 pub mod Views
 pub mod Places
+pub mod AnyMarks

@@ -18,7 +18,7 @@ use Rattle.tree.proofs.Rules.{few-classes, parent-lower}
 use Rattle.state.proofs.Queues.{queue-at}
 use Rattle.state.proofs.Meaning.{meaning-queue, meaning-held, meaning-first}
 use Rattle.state.specs.declared.Link.{Link}
-use Rattle.state.specs.declared.Packet.{Packet}
+use Rattle.state.specs.declared.Waiting.{Waiting}
 use Rattle.state.specs.Account.{balanceOf, residualOf}
 use Rattle.state.specs.Queue.{noPacket, startOf, heldOf, slot, packetAt}
 use Rattle.state.specs.State.{meaning, queueAt}
@@ -114,11 +114,11 @@ module _ (l : Link) (rules : PlanRules (l .tree)) where
   first-is : (i : ℕ) → i < 64 → 1 ≤ heldOf l i
       → getD (queueAt (meaning l) i) 0 noPacket .length ≡ getD (l .lengths) (slot i (startOf l i % 32)) 0
   first-is i u h =
-      ap (λ (p : Packet). p .length) (meaning-first l i u h)
+      ap (λ (p : Waiting). p .length) (meaning-first l i u h)
       ∙ ap (λ (n : ℕ). getD (l .lengths) (slot i (n % 32)) 0) (add-zero (startOf l i))
 
   packet-is : (i j : ℕ) → i < 64 → j < heldOf l i → getD (queueAt (meaning l) i) j noPacket ≡ packetAt l i j
-  packet-is i j u h = ap (λ (q : List Packet). getD q j noPacket) (meaning-queue l i u) ∙ queue-at l i j h
+  packet-is i j u h = ap (λ (q : List Waiting). getD q j noPacket) (meaning-queue l i u) ∙ queue-at l i j h
 
   pub right-to-sound : SizeRight (l .tree) (l .size .0) → PlaceRight (meaning l) → l .active < 2 ^ 64 → ClassesRight l
       → SoundLink l

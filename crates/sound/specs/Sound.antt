@@ -13,7 +13,7 @@ use Rattle.tree.specs.Size.{SizeRight}
 use Rattle.tree.specs.Sum.{sumTo}
 use Rattle.state.specs.declared.Account.{Account}
 use Rattle.state.specs.declared.Link.{Link}
-use Rattle.state.specs.declared.Packet.{Packet}
+use Rattle.state.specs.declared.Waiting.{Waiting}
 use Rattle.state.specs.Account.{accountOf, balanceOf, residualOf, fundsOf}
 use Rattle.state.specs.Queue.{noPacket, startOf}
 use Rattle.state.specs.State.{State, meaning, queueAt, TotalsRight}
@@ -25,7 +25,7 @@ pub record TreeFits (s : State) : Type 0 where
   pub size : SizeRight (s .tree) (s .size)
 
 -- a packet is within the range of class i (R17, R104)
-pub record InRange (t : Tree) (i : ℕ) (p : Packet) : Type 0 where
+pub record InRange (t : Tree) (i : ℕ) (p : Waiting) : Type 0 where
   pub low : 1 ≤ p .length
   pub high : p .length ≤ longestOf t i
 

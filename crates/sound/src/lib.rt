@@ -248,8 +248,8 @@ fn classes_right(
     totals: Totals,
 ) -> bool
     requires { ⌜ PlanRules tree × (size .0 ≤ mostSize) ⌝ }
-    ensures { λ r. ⌜ ((tags : List ℕ)
-        → Exactly r (ClassesRight (linkOf tree size active place accounts start held (now (lengths .entry)) tags totals))) ⌝ }
+    ensures { λ r. ⌜ ((tags marks : List ℕ)
+        → Exactly r (ClassesRight (linkOf tree size active place accounts start held (now (lengths .entry)) tags marks totals))) ⌝ }
 {
     let mut waiting = [0u64; Link::CLASSES];
     let mut cost = [0u64; Link::CLASSES];
@@ -284,7 +284,7 @@ fn size_right(follows: bool, whole: Bytes, size: Bytes) -> bool
     size.0 == whole.0
 }
 
-// Whether the link that these fields make up is sound; its tags have no say.
+// Whether the link that these fields make up is sound; its tags, its marks and its running total have no say.
 pub fn is_sound_of(
     tree: Tree,
     size: Bytes,
@@ -296,8 +296,8 @@ pub fn is_sound_of(
     lengths: &[u16; 2048],
     totals: Totals,
 ) -> bool
-    ensures { λ r. ⌜ ((tags : List ℕ)
-        → Exactly r (SoundLink (linkOf tree size active place accounts start held (now (lengths .entry)) tags totals))) ⌝ }
+    ensures { λ r. ⌜ ((tags marks : List ℕ)
+        → Exactly r (SoundLink (linkOf tree size active place accounts start held (now (lengths .entry)) tags marks totals))) ⌝ }
 {
     let plan = tree::plan_size(tree);
     if !plan.right {

@@ -11,10 +11,8 @@ use Rattle.plan.specs.declared.EventRead.{EventRead}
 use Rattle.plan.specs.declared.EventRead.the-variants.{NoMore, Arrive, SendNext, Fault}
 use Rattle.plan.specs.Event.{eventAt}
 use Rattle.state.specs.declared.Link.{Link}
-use Rattle.state.specs.State.{linkOf}
 use Rattle.sound.specs.Sound.{SoundLink}
-use Rattle.sound.specs.Steps.{viewOf}
-use Rattle.sound.proofs.Views.{right-to-sound, sound-to-right}
+use Rattle.sound.proofs.AnyMarks.{marksAs, any-marks-sound}
 use Rattle.calls.specs.Run.{Call, Made, callOf, linkLeft, makes, runOf, madeIn, lastLink, Meets}
 use Rattle.calls.proofs.Runs.{meets-by, meets-keeps, made-next}
 use Rattle.run.specs.declared.Step.{Step}
@@ -136,21 +134,13 @@ module _ (n : ℕ) (input : List ℕ) (s : Step) (begun : s ≡ beginOf input) w
 
 -- a link with other tags
 abbrev pub withTags : Link → List ℕ → Link
-withTags l tags = linkOf (l .tree) (l .size) (l .active) (l .place) (l .accounts) (l .start) (l .held) (l .lengths) tags (l .totals)
-
-tags-aside : (l : Link) (tags : List ℕ) → SoundLink l → SoundLink (withTags l tags)
-unfolding viewOf
-tags-aside l tags s =
-    let st = s .state in
-    let right = sound-to-right l (st .fits .tree) s in
-    right-to-sound (withTags l tags) (st .fits .tree) (st .fits .size) (record { low = st .place .low; high = st .place .high })
-    (st .past .word) (record { at = λ i u. right .at i u; adds = right .adds })
+withTags l tags = marksAs l tags (l .marks) (l .totals .charged)
 
 -- is sound exactly where the link is
 pub tags-exactly : (l : Link) (tags : List ℕ) (sound : Bool) → Exactly sound (SoundLink (withTags l tags)) → Exactly sound (SoundLink l)
 tags-exactly l tags sound x = record {
-  sound = λ e. tags-aside (withTags l tags) (l .tags) (x .sound e);
-  complete = λ s. x .complete (tags-aside l tags s);
+  sound = λ e. any-marks-sound (withTags l tags) (l .tags) (l .marks) (l .totals .charged) (x .sound e);
+  complete = λ s. x .complete (any-marks-sound l tags (l .marks) (l .totals .charged) s);
 }
 
 -- how often it was found sound, one time more

@@ -19,6 +19,7 @@ use Rattle.steps.specs.Rounds.{InFields}
 use Rattle.steps.proofs.Wholes.{in-lists}
 use Rattle.steps.proofs.Rounding.{CoversNext}
 use Rattle.state.specs.declared.Link.{Link}
+use Rattle.state.specs.declared.Totals.{Totals}
 use Rattle.tree.proofs.Tables.{table-length}
 use Rattle.sound.specs.Sound.{SoundLink}
 use Rattle.rules.specs.Opening.{openedAccounts, openedWith}
@@ -53,36 +54,36 @@ pub record Opened (l₀ : Link) (n : ℕ) (l : Link) : Type 0 where
 pub opened-apart : (l : Link) → SoundLink l → length (l .accounts) ≡ 64 → (b r : List ℕ) → b ≡ table (balanceOf (l .accounts)) 64
     → r ≡ table (residualOf (l .accounts)) 64
     → Opened l 0 (lentLink (l .tree) (l .size) (l .active) (l .place) b r (l .start) (l .held) (l .lengths) (l .tags)
-    (l .totals .packets) (l .totals .bytes))
+    (l .marks) (l .totals))
 unfolding openedTimes
 opened-apart l sound many b r x y =
     let same = ap (λ (xs : List Account). linkOf (l .tree) (l .size) (l .active) (l .place) xs (l .start) (l .held) (l .lengths)
-    (l .tags) (l .totals))
+    (l .tags) (l .marks) (l .totals))
     (in-lists (l .accounts) many b r x y) in
     record { sound = subst SoundLink (sym same) sound; many = ap (λ (k : Link). length (k .accounts)) same ∙ many; same = same }
 
 pub opened-fields : (l₀ : Link) (b r : List ℕ) {n : ℕ} {t : Tree} {size : Bytes} {active place : ℕ}
-    {start held lengths tags packets bytes : List ℕ}
-    → Opened l₀ n (lentLink t size active place b r start held lengths tags packets bytes)
-    → InFields t size active place b r start held lengths tags packets bytes
+    {start held lengths tags marks : List ℕ} {totals : Totals}
+    → Opened l₀ n (lentLink t size active place b r start held lengths tags marks totals)
+    → InFields t size active place b r start held lengths tags marks totals
 opened-fields l₀ b r o = record { sound = o .sound; wide = o .many }
 
 -- under rule 1 a round may open at any moment, and the size stays
 pub opened-covers : (l : Link) → SoundLink l → length (l .accounts) ≡ 64 → l .tree .follows ≡ false → CoversNext l
 opened-covers l sound many rule = rule-1-covers (meaning l) (sound .state) (meaning-wide l many) rule
 
-pub same-size : {t : Tree} {size new : Bytes} {active place on : ℕ} {start held lengths tags packets bytes : List ℕ} (b r b′ r′ : List ℕ)
-    → InFields t size active place b r start held lengths tags packets bytes → t .follows ≡ false
-    → lentLink t new on 1 b′ r′ start held lengths tags packets bytes
-    ≡ openedLink (lentLink t size active place b r start held lengths tags packets bytes)
-    → lentLink t size on 1 b′ r′ start held lengths tags packets bytes
-    ≡ openedLink (lentLink t size active place b r start held lengths tags packets bytes)
+pub same-size : {t : Tree} {size new : Bytes} {active place on : ℕ} {start held lengths tags marks : List ℕ} {totals : Totals} (b r b′ r′ : List ℕ)
+    → InFields t size active place b r start held lengths tags marks totals → t .follows ≡ false
+    → lentLink t new on 1 b′ r′ start held lengths tags marks totals
+    ≡ openedLink (lentLink t size active place b r start held lengths tags marks totals)
+    → lentLink t size on 1 b′ r′ start held lengths tags marks totals
+    ≡ openedLink (lentLink t size active place b r start held lengths tags marks totals)
 unfolding openedWith
-same-size {t} {size} {new} {active} {place} {on} {start} {held} {lengths} {tags} {packets} {bytes} b r b′ r′ s rule e =
-    let l = lentLink t size active place b r start held lengths tags packets bytes in
+same-size {t} {size} {new} {active} {place} {on} {start} {held} {lengths} {tags} {marks} {totals} b r b′ r′ s rule e =
+    let l = lentLink t size active place b r start held lengths tags marks totals in
     let same : new .0 ≡ size .0 =
     ap (λ (x : Link). x .size .0) e ∙ size-stays (meaning l) (s .sound .state) (meaning-wide l (s .wide)) rule in
-    ap (λ (n : ℕ). lentLink t (record { 0 = n }) on 1 b′ r′ start held lengths tags packets bytes) (sym same) ∙ e
+    ap (λ (n : ℕ). lentLink t (record { 0 = n }) on 1 b′ r′ start held lengths tags marks totals) (sym same) ∙ e
 
 -- no arrival changes the tree
 given-tree : (v : Verdict) (l : Link) (i : ℕ) → arrivalGives v l i onePacket .link .tree ≡ l .tree

@@ -4,6 +4,7 @@ use mathlib.Core.Bool.{true, _&&_, not, cond}
 use mathlib.Core.List.{List}
 use Rattle.state.specs.declared.Link.{Link}
 use Rattle.state.specs.declared.Packet.{Packet}
+use Rattle.state.specs.declared.Totals.{Totals}
 use Rattle.state.specs.Account.{balanceOf}
 use Rattle.rules.specs.After.{openedLink}
 use Rattle.calls.specs.Arrival.{arrivalOf}
@@ -38,5 +39,5 @@ pub record Rest : Type 0 where
   pub start : List ℕ
   pub lengths : List ℕ
   pub tags : List ℕ
-  pub packets : List ℕ
-  pub bytes : List ℕ
+  pub marks : List ℕ
+  pub totals : Totals

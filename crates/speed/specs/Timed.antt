@@ -13,6 +13,7 @@ use Rattle.plan.specs.declared.EventRead.the-variants.{NoMore, Arrive, SendNext
 use Rattle.plan.specs.Event.{usedOf, eventAt}
 use Rattle.tree.specs.Size.{roundSize}
 use Rattle.state.specs.declared.Link.{Link}
+use Rattle.state.specs.Mark.{unmarked}
 use Rattle.state.specs.Queue.{noPacket}
 use Rattle.sound.specs.Sound.{SoundLink}
 use Rattle.calls.specs.declared.Departure.{Departure}
@@ -65,7 +66,7 @@ freshSize (Refused n p) read = 0
 
 -- an event that is no arrival
 abbrev pub plainTimed : Bool → ℕ → ℕ → TimedEvent
-plainTimed call place more = record { call = call; arrives = false; class = 0; packet = noPacket; place = place; more = more }
+plainTimed call place more = record { call = call; arrives = false; class = 0; packet = unmarked noPacket; place = place; more = more }
 
 -- the event that was read at a place, with n more asked for; after one that is no call none is
 abbrev pub timedBy : ℕ → ℕ → EventRead → TimedEvent

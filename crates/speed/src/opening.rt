@@ -37,14 +37,14 @@ fn open_next(
     residual: &mut [u64; Link::CLASSES],
 ) -> u64
     requires { ⌜ ((k : Rest) × InFields tree size (k .active) (k .place) (now balance) (now residual) (k .start) (now held) (k .lengths)
-        (k .tags) (k .packets) (k .bytes)) × (tree .follows ≡ false) ⌝ }
+        (k .tags) (k .marks) (k .totals)) × (tree .follows ≡ false) ⌝ }
     ensures { λ r. ⌜ ((k : Rest)
         → InFields tree size (k .active) (k .place) (now (balance .entry)) (now (residual .entry)) (k .start) (now (held .entry))
-        (k .lengths) (k .tags) (k .packets) (k .bytes)
+        (k .lengths) (k .tags) (k .marks) (k .totals)
         → lentLink tree size r 1 (now (balance .exit)) (now (residual .exit)) (k .start) (now (held .entry)) (k .lengths) (k .tags)
-        (k .packets) (k .bytes)
+        (k .marks) (k .totals)
         ≡ openedLink (lentLink tree size (k .active) (k .place) (now (balance .entry)) (now (residual .entry)) (k .start)
-        (now (held .entry)) (k .lengths) (k .tags) (k .packets) (k .bytes))) ⌝ }
+        (now (held .entry)) (k .lengths) (k .tags) (k .marks) (k .totals))) ⌝ }
 {
     let active = steps::round_active(tree, 0, held);
     let sums = steps::weight_sums(tree, active);

@@ -14,20 +14,20 @@ use Rattle.tree.specs.Sum.{table}
 use Rattle.tree.proofs.Rules.{leaf-number}
 use Rattle.tree.proofs.Changes.{sum-changes, changed-up, changed-length}
 use Rattle.tree.proofs.Tables.{table-length, table-at}
-use Rattle.state.specs.declared.Packet.{Packet}
+use Rattle.state.specs.declared.Waiting.{Waiting}
 use Rattle.state.specs.Queue.{bytesIn}
-use Rattle.state.specs.State.{State, waitingBelow, totalsOf, TotalsRight, withQueues}
+use Rattle.state.specs.State.{State, waitingBelow, countsOf, TotalsRight, withQueues}
 
 -- the totals of queues are right
-pub queues-totals : (s : State) (queues : List (List Packet)) (i : ℕ) → i < 64 → TotalsRight (withQueues s queues) i
-unfolding totalsOf
+pub queues-totals : (s : State) (queues : List (List Waiting)) (i : ℕ) → i < 64 → TotalsRight (withQueues s queues) i
+unfolding countsOf
 queues-totals s queues i u = record {
   packets = table-at (waitingBelow length (s .tree) queues) 0 64 i u;
   bytes = table-at (waitingBelow bytesIn (s .tree) queues) 0 64 i u;
 }
 
 -- right totals, changed on the way up from leaf i as what its queue counts for changes, are those of the queues with that one changed
-module _ (count : List Packet → ℕ) (t : Tree) (queues : List (List Packet)) (i : ℕ) (q : List Packet)
+module _ (count : List Waiting → ℕ) (t : Tree) (queues : List (List Waiting)) (i : ℕ) (q : List Waiting)
     (rules : PlanRules t) (leaf : isLeaf t i ≡ true) (many : length queues ≡ 64) where
   had : ℕ → ℕ
   had j = count (getD queues j [])

@@ -16,10 +16,12 @@ use Rattle.tree.specs.Sum.{table}
 use Rattle.tree.proofs.Rules.{leaf-number}
 use Rattle.units.specs.Cost.{costOf}
 use Rattle.state.specs.declared.Link.{Link}
-use Rattle.state.specs.declared.Packet.{Packet}
+use Rattle.state.specs.declared.Waiting.{Waiting}
 use Rattle.state.specs.Account.{account, noAccount}
 use Rattle.state.specs.Queue.{noPacket, startOf, heldOf, slotOf, packetAt, queueOf, bytesIn, putLast, takenFirst, Shaped}
-use Rattle.state.specs.State.{State, meaning, queueAt, totalsOf, TotalsRight, withQueues, withQueue, linkInRound, freshLink, noLink}
+use Rattle.state.specs.State.{State, meaning, queueAt, totalsOf, countsOf, TotalsRight}
+use Rattle.state.specs.State.{withQueue, withCharge, linkInRound, freshLink, noLink}
+use Rattle.state.specs.Mark.{wrapped}
 use Rattle.state.specs.WayUp.{changed}
 use Rattle.tree.proofs.Tables.{table-length, table-at, table-same, table-set}
 use Rattle.state.proofs.Bytes.{bytes-more, bytes-rest}
@@ -36,11 +38,11 @@ pub meaning-held : (l : Link) (i : ℕ) → i < 64 → length (queueAt (meaning 
 meaning-held l i h = ap length (meaning-queue l i h) ∙ queue-length l i
 
 -- a packet put last changes the queue of its class alone
-put-queues : (l : Link) (i : ℕ) (p : Packet) → Shaped l → i < 64 → heldOf l i < 32
+put-queues : (l : Link) (i : ℕ) (p : Waiting) → Shaped l → i < 64 → heldOf l i < 32
     → table (queueOf (putLast l i p)) 64 ≡ set (meaning l .queues) i (queueAt (meaning l) i ++ (p ∷ []))
 put-queues l i p s h room =
     table-set (queueOf l) (queueOf (putLast l i p)) 64 i (queueAt (meaning l) i ++ (p ∷ [])) h
-    (queue-put-same l i p s h room ∙ ap (λ (q : List Packet). q ++ (p ∷ [])) (sym (meaning-queue l i h)))
+    (queue-put-same l i p s h room ∙ ap (λ (q : List Waiting). q ++ (p ∷ [])) (sym (meaning-queue l i h)))
     (queue-put-other l i p)
 
 -- and so does the first packet taken
@@ -57,11 +59,24 @@ pub record Counts (l : Link) (i : ℕ) : Type 0 where
   pub leaf : isLeaf (l .tree) i ≡ true
   pub totals : (k : ℕ) → k < 64 → TotalsRight (meaning l) k
 
--- the link's queues and totals changed, its meaning is with those queues
-with-queues : (l l′ : Link) (queues : List (List Packet)) → linkInRound l′ (l .size .0) (l .active) (l .place) (l .accounts) ≡ l′
-    → l′ .tree ≡ l .tree → table (queueOf l′) 64 ≡ queues → l′ .totals ≡ totalsOf (l .tree) queues → meaning l′
-    ≡ withQueues (meaning l) queues
-with-queues l l′ queues same tree waits totals = λ k. record {
+-- the state of a link with these queues and this running total
+abbrev waitingIn : Link → List (List Waiting) → ℕ → State
+waitingIn l queues charged = record {
+  tree = l .tree;
+  size = l .size .0;
+  active = l .active;
+  place = l .place;
+  accounts = l .accounts;
+  queues = queues;
+  totals = totalsOf (l .tree) queues charged;
+}
+
+-- the link's queues and totals changed, that is what it means
+with-queues : (l l′ : Link) (queues : List (List Waiting)) (charged : ℕ)
+    → linkInRound l′ (l .size .0) (l .active) (l .place) (l .accounts) ≡ l′
+    → l′ .tree ≡ l .tree → table (queueOf l′) 64 ≡ queues → l′ .totals ≡ totalsOf (l .tree) queues charged
+    → meaning l′ ≡ waitingIn l queues charged
+with-queues l l′ queues charged same tree waits totals = λ k. record {
   tree = tree k;
   size = sym same k .size .0;
   active = sym same k .active;
@@ -72,9 +87,9 @@ with-queues l l′ queues same tree waits totals = λ k. record {
 }
 
 -- a packet put last in a leaf changes the meaning of that leaf's queue, and the totals with it
-pub meaning-put : (l : Link) (i : ℕ) (p : Packet) → Shaped l → Counts l i → heldOf l i < 32
+pub meaning-put : (l : Link) (i : ℕ) (p : Waiting) → Shaped l → Counts l i → heldOf l i < 32
     → meaning (putLast l i p) ≡ withQueue (meaning l) i (queueAt (meaning l) i ++ (p ∷ []))
-unfolding totalsOf
+unfolding countsOf
 meaning-put l i p s c room =
     let h = leaf-number (l .tree) i (c .rules) (c .leaf) in
     let q = queueAt (meaning l) i in
@@ -88,22 +103,24 @@ meaning-put l i p s c room =
     (changed false (costOf (p .length))) (l .totals .bytes)
     (s .bytes) (λ k v. c .totals k v .bytes) (λ a b e. omega (arith, e, bytes-more q p))
     in
-    with-queues l (putLast l i p) _ refl refl (put-queues l i p s h room) (λ k. record { packets = packets k; bytes = bytes k })
+    with-queues l (putLast l i p) _ (l .totals .charged) refl refl (put-queues l i p s h room)
+    (λ k. record { packets = packets k; bytes = bytes k; charged = l .totals .charged })
 
 -- the packet that leaves is the first of its queue
 pub meaning-first : (l : Link) (i : ℕ) → i < 64 → 1 ≤ heldOf l i → getD (queueAt (meaning l) i) 0 noPacket ≡ packetAt l i 0
-meaning-first l i h some = ap (λ (q : List Packet). getD q 0 noPacket) (meaning-queue l i h) ∙ queue-at l i 0 some
+meaning-first l i h some = ap (λ (q : List Waiting). getD q 0 noPacket) (meaning-queue l i h) ∙ queue-at l i 0 some
 
--- the first packet taken from a leaf changes the meaning of that leaf's queue, and the totals with it
+-- the first packet taken from a leaf changes the meaning of that leaf's queue, and the totals with it; its charge joins the running total
 pub meaning-take : (l : Link) (i : ℕ) → Shaped l → Counts l i → 1 ≤ heldOf l i
-    → meaning (takenFirst l i) ≡ withQueue (meaning l) i (drop 1 (queueAt (meaning l) i))
-unfolding totalsOf
+    → meaning (takenFirst l i)
+    ≡ withQueue (withCharge (meaning l) (costOf (getD (queueAt (meaning l) i) 0 noPacket .length))) i (drop 1 (queueAt (meaning l) i))
+unfolding countsOf
 meaning-take l i s c some =
     let h = leaf-number (l .tree) i (c .rules) (c .leaf) in
     let q = queueAt (meaning l) i in
     let many : length (meaning l .queues) ≡ 64 = table-length (queueOf l) 64 in
     let held : 1 ≤ length q = omega (arith, meaning-held l i h) in
-    let first = ap (λ (x : Packet). costOf (x .length)) (meaning-first l i h some) in
+    let first = ap (λ (x : Waiting). costOf (x .length)) (meaning-first l i h some) in
     let packets =
     totals-change length (l .tree) (meaning l .queues) i (drop 1 q) (c .rules) (c .leaf) many (changed true 1) (l .totals .packets)
     (s .packets) (λ k v. c .totals k v .packets) (λ a b e. omega (arith, e, length-drop 1 q, held))
@@ -113,7 +130,9 @@ meaning-take l i s c some =
     (changed true (costOf (packetAt l i 0 .length))) (l .totals .bytes)
     (s .bytes) (λ k v. c .totals k v .bytes) (λ a b e. omega (arith, e, first, bytes-rest q held))
     in
-    with-queues l (takenFirst l i) _ refl refl (take-queues l i s h some) (λ k. record { packets = packets k; bytes = bytes k })
+    with-queues l (takenFirst l i) _ (wrapped (l .totals .charged + costOf (getD q 0 noPacket .length))) refl refl
+    (take-queues l i s h some)
+    (λ k. record { packets = packets k; bytes = bytes k; charged = wrapped (l .totals .charged + sym first k) })
 
 -- a fresh link, and the link without classes, hold no packet
 none-held : (i : ℕ) → heldOf noLink i ≡ 0
@@ -133,6 +152,7 @@ shaped-fresh t = record {
   held = length-replicate {A = ℕ} 64 0;
   lengths = length-replicate {A = ℕ} 2_048 0;
   tags = length-replicate {A = ℕ} 2_048 0;
+  marks = length-replicate {A = ℕ} 2_048 0;
   packets = length-replicate {A = ℕ} 64 0;
   bytes = length-replicate {A = ℕ} 64 0;
 }
@@ -149,7 +169,7 @@ module _ (l l′ : Link) (same : meaning l ≡ meaning l′) where
   same-waiting : (i j : ℕ) → i < 64 → j < heldOf l i → packetAt l i j ≡ packetAt l′ i j
   same-waiting i j h m =
       sym (queue-at l i j m)
-      ∙ ap (λ (q : List Packet). getD q j noPacket) (same-queue i h)
+      ∙ ap (λ (q : List Waiting). getD q j noPacket) (same-queue i h)
       ∙ queue-at l′ i j (omega (arith, same-held i h))
 
   -- with the same starts and the same free places
@@ -165,15 +185,17 @@ module _ (l l′ : Link) (same : meaning l ≡ meaning l′) where
     -- each of the 2,048 places is some packet's, or free
     same-place : (p : ℕ) → p < 2_048
         → (getD (l .lengths) p 0 ≡ getD (l′ .lengths) p 0) × (getD (l .tags) p 0 ≡ getD (l′ .tags) p 0)
+        × (getD (l .marks) p 0 ≡ getD (l′ .marks) p 0)
     same-place p h =
         let i : ℕ = p / 32 in
         let j : ℕ = (p % 32 + 32 - startOf l i % 32) % 32 in
         let here : slotOf l i j ≡ p = omega arith in
         let here′ : slotOf l′ i j ≡ p = omega (arith, starts i (omega arith)) in
         let e : packetAt l i j ≡ packetAt l′ i j = same-packets i j (omega arith) (omega arith) in (
-          ap (λ (k : ℕ). getD (l .lengths) k 0) (sym here) ∙ ap (λ (x : Packet). x .length) e
+          ap (λ (k : ℕ). getD (l .lengths) k 0) (sym here) ∙ ap (λ (x : Waiting). x .length) e
               ∙ ap (λ (k : ℕ). getD (l′ .lengths) k 0) here′,
-          ap (λ (k : ℕ). getD (l .tags) k 0) (sym here) ∙ ap (λ (x : Packet). x .tag) e ∙ ap (λ (k : ℕ). getD (l′ .tags) k 0) here′,
+          ap (λ (k : ℕ). getD (l .tags) k 0) (sym here) ∙ ap (λ (x : Waiting). x .tag) e ∙ ap (λ (k : ℕ). getD (l′ .tags) k 0) here′,
+          ap (λ (k : ℕ). getD (l .marks) k 0) (sym here) ∙ ap (λ (x : Waiting). x .mark) e ∙ ap (λ (k : ℕ). getD (l′ .marks) k 0) here′,
         )
 
     same-lengths : l .lengths ≡ l′ .lengths
@@ -183,6 +205,10 @@ module _ (l l′ : Link) (same : meaning l ≡ meaning l′) where
     same-tags : l .tags ≡ l′ .tags
     same-tags =
         ext-getD 0 (l .tags) (l′ .tags) (s .tags ∙ sym (s′ .tags)) (λ p h. same-place p (omega (arith, s .tags)) .1)
+
+    same-marks : l .marks ≡ l′ .marks
+    same-marks =
+        ext-getD 0 (l .marks) (l′ .marks) (s .marks ∙ sym (s′ .marks)) (λ p h. same-place p (omega (arith, s .marks)) .2)
 
     same-start : l .start ≡ l′ .start
     same-start = ext-getD 0 (l .start) (l′ .start) (s .start ∙ sym (s′ .start)) (λ i h. starts i (omega (arith, s .start)))
@@ -201,6 +227,7 @@ module _ (l l′ : Link) (same : meaning l ≡ meaning l′) where
       held = same-helds i;
       lengths = same-lengths i;
       tags = same-tags i;
+      marks = same-marks i;
       totals = same i .totals;
     }
 

@@ -11,16 +11,16 @@ use Rattle.tree.proofs.Changes.{changed-length}
 use Rattle.units.specs.Cost.{costOf}
 use Rattle.state.specs.declared.Account.{Account}
 use Rattle.state.specs.declared.Link.{Link}
-use Rattle.state.specs.declared.Packet.{Packet}
+use Rattle.state.specs.declared.Waiting.{Waiting}
 use Rattle.state.specs.State.{linkInRound}
 use Rattle.state.specs.WayUp.{changed}
 use Rattle.state.specs.Queue.{noPacket, startOf, heldOf, slot, slotOf, packetAt, queueOf, putLast, takenFirst, Shaped}
 use Rattle.tree.specs.Sum.{table}
 use Rattle.tree.proofs.Tables.{table-none, table-last, table-length, table-at, table-same, table-first}
 
--- what two waiting places hold is the same where their lengths and their tags are
-same-packet : (p q : Packet) → p .length ≡ q .length → p .tag ≡ q .tag → p ≡ q
-same-packet p q e f = λ i. record { length = e i; tag = f i }
+-- what two waiting places hold is the same where their lengths, their tags and their marks are
+same-packet : (p q : Waiting) → p .length ≡ q .length → p .tag ≡ q .tag → p .mark ≡ q .mark → p ≡ q
+same-packet p q e f g = λ i. record { length = e i; tag = f i; mark = g i }
 
 -- a queue is as long as the number of packets held, and its packets are those at their places
 pub queue-length : (l : Link) (i : ℕ) → length (queueOf l i) ≡ heldOf l i
@@ -37,25 +37,32 @@ queue-none l i e = rw e (table-none (packetAt l i))
 
 -- the first packet lies at the queue's start
 pub packet-first : (l : Link) (i : ℕ) → startOf l i < 32
-    → packetAt l i 0 ≡ record { length = getD (l .lengths) (slot i (startOf l i)) 0; tag = getD (l .tags) (slot i (startOf l i)) 0 }
+    → packetAt l i 0
+    ≡ record {
+      length = getD (l .lengths) (slot i (startOf l i)) 0;
+      tag = getD (l .tags) (slot i (startOf l i)) 0;
+      mark = getD (l .marks) (slot i (startOf l i)) 0;
+    }
 packet-first l i h =
     let e : slotOf l i 0 ≡ slot i (startOf l i) = omega arith in
     rw e
 
 -- a packet put last in class i's queue
-module _ (l : Link) (i : ℕ) (p : Packet) where
+module _ (l : Link) (i : ℕ) (p : Waiting) where
   -- every other waiting place holds what it held
   put-elsewhere : (k j : ℕ) → (slotOf l k j ≡ slotOf l i (heldOf l i) → ⊥) → packetAt (putLast l i p) k j ≡ packetAt l k j
   put-elsewhere k j ne =
       same-packet (packetAt (putLast l i p) k j) (packetAt l k j)
       (getD-set-other (l .lengths) (slotOf l i (heldOf l i)) (slotOf l k j) (p .length) 0 ne)
       (getD-set-other (l .tags) (slotOf l i (heldOf l i)) (slotOf l k j) (p .tag) 0 ne)
+      (getD-set-other (l .marks) (slotOf l i (heldOf l i)) (slotOf l k j) (p .mark) 0 ne)
 
   put-there : Shaped l → i < 64 → packetAt (putLast l i p) i (heldOf l i) ≡ p
   put-there s h =
       same-packet (packetAt (putLast l i p) i (heldOf l i)) p
       (getD-set-same (l .lengths) (slotOf l i (heldOf l i)) (p .length) 0 (omega (arith, s .lengths)))
       (getD-set-same (l .tags) (slotOf l i (heldOf l i)) (p .tag) 0 (omega (arith, s .tags)))
+      (getD-set-same (l .marks) (slotOf l i (heldOf l i)) (p .mark) 0 (omega (arith, s .marks)))
 
   -- class i's queue has the packet last
   pub queue-put-same : Shaped l → i < 64 → heldOf l i < 32 → queueOf (putLast l i p) i ≡ queueOf l i ++ (p ∷ [])
@@ -66,7 +73,7 @@ module _ (l : Link) (i : ℕ) (p : Packet) where
       in
       ap (table (packetAt (putLast l i p) i)) one-more
       ∙ table-last (packetAt (putLast l i p) i) (heldOf l i)
-      ∙ ap₂ (λ (q : List Packet) (x : Packet). q ++ (x ∷ []))
+      ∙ ap₂ (λ (q : List Waiting) (x : Waiting). q ++ (x ∷ []))
       (table-same (packetAt (putLast l i p) i) (packetAt l i) (heldOf l i) (λ j m. put-elsewhere i j (λ e. omega arith)))
       (put-there s h)
 
@@ -87,6 +94,7 @@ module _ (l : Link) (i : ℕ) where
       same-packet (packetAt (takenFirst l i) i j) (packetAt l i (suc j))
       (ap (λ (k : ℕ). getD (l .lengths) k 0) e)
       (ap (λ (k : ℕ). getD (l .tags) k 0) e)
+      (ap (λ (k : ℕ). getD (l .marks) k 0) e)
 
   -- class i's queue was its first packet and the queue that is left
   pub queue-take-same : Shaped l → i < 64 → 1 ≤ heldOf l i → queueOf l i ≡ packetAt l i 0 ∷ queueOf (takenFirst l i) i
@@ -96,7 +104,7 @@ module _ (l : Link) (i : ℕ) where
       let one-more : heldOf l i ≡ suc (heldOf (takenFirst l i) i) = omega arith in
       ap (table (packetAt l i)) one-more
       ∙ table-first (packetAt l i) (heldOf (takenFirst l i) i)
-      ∙ ap (λ (q : List Packet). packetAt l i 0 ∷ q)
+      ∙ ap (λ (q : List Waiting). packetAt l i 0 ∷ q)
       (sym (table-same (packetAt (takenFirst l i) i) (λ j. packetAt l i (suc j)) (heldOf (takenFirst l i) i) (λ j m. taken-next s h j)))
 
   -- every other queue is what it was
@@ -109,13 +117,14 @@ module _ (l : Link) (i : ℕ) where
       (table-same (packetAt (takenFirst l i) k) (packetAt l k) (heldOf l k) (λ j m. at j))
 
 -- the lists keep their lengths
-pub shaped-put : (l : Link) (i : ℕ) (p : Packet) → Shaped l → Shaped (putLast l i p)
+pub shaped-put : (l : Link) (i : ℕ) (p : Waiting) → Shaped l → Shaped (putLast l i p)
 shaped-put l i p s = record {
   accounts = s .accounts;
   start = s .start;
   held = length-set (l .held) i (heldOf l i + 1) ∙ s .held;
   lengths = length-set (l .lengths) (slotOf l i (heldOf l i)) (p .length) ∙ s .lengths;
   tags = length-set (l .tags) (slotOf l i (heldOf l i)) (p .tag) ∙ s .tags;
+  marks = length-set (l .marks) (slotOf l i (heldOf l i)) (p .mark) ∙ s .marks;
   packets = changed-length (l .tree) (changed false 1) i (l .totals .packets) ∙ s .packets;
   bytes = changed-length (l .tree) (changed false (costOf (p .length))) i (l .totals .bytes) ∙ s .bytes;
 }
@@ -127,6 +136,7 @@ shaped-take l i s = record {
   held = length-set (l .held) i (heldOf l i - 1) ∙ s .held;
   lengths = s .lengths;
   tags = s .tags;
+  marks = s .marks;
   packets = changed-length (l .tree) (changed true 1) i (l .totals .packets) ∙ s .packets;
   bytes = changed-length (l .tree) (changed true (costOf (packetAt l i 0 .length))) i (l .totals .bytes) ∙ s .bytes;
 }
@@ -139,6 +149,7 @@ shaped-in l size active place accounts s many = record {
   held = s .held;
   lengths = s .lengths;
   tags = s .tags;
+  marks = s .marks;
   packets = s .packets;
   bytes = s .bytes;
 }

@@ -19,13 +19,14 @@ use Rattle.state.proofs.Link.Laws as L′
 pub shaped : (l : Link) (values : List Val) → Is L.the-row l values → Shaped l
 shaped l values is =
     let o = LL.owed L.the-type L′.the-laws l values is .1 .1 .1 .1 in
-    let q = LL.owed N.the-type N′.the-laws (l .totals) _ (o .1 .1 .1 .1 .1 .0) in
+    let q = LL.owed N.the-type N′.the-laws (l .totals) _ (o .1 .1 .1 .1 .1 .1 .0) in
     record {
       accounts = sym (length-map (l .accounts) _) ∙ o .0 .1 .0 .1;
       start = sym (length-map (l .start) _) ∙ o .1 .0 .1 .0 .1;
       held = sym (length-map (l .held) _) ∙ o .1 .1 .0 .1 .0 .1;
       lengths = sym (length-map (l .lengths) _) ∙ o .1 .1 .1 .0 .1 .0 .1;
       tags = sym (length-map (l .tags) _) ∙ o .1 .1 .1 .1 .0 .1 .0 .1;
+      marks = sym (length-map (l .marks) _) ∙ o .1 .1 .1 .1 .1 .0 .1 .0 .1;
       packets = sym (length-map (l .totals .packets) _) ∙ q .0 .1 .0 .1;
       bytes = sym (length-map (l .totals .bytes) _) ∙ q .1 .0 .1 .0 .1;
     }

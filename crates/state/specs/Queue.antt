@@ -7,13 +7,14 @@ use lib.ListN.{getD, set, length}
 use Rattle.units.specs.Cost.{costOf}
 use Rattle.tree.specs.Sum.{table}
 use Rattle.state.specs.declared.Link.{Link}
-use Rattle.state.specs.declared.Packet.{Packet}
 use Rattle.state.specs.declared.Totals.{Totals}
+use Rattle.state.specs.declared.Waiting.{Waiting}
+use Rattle.state.specs.Mark.{chargedMore}
 use Rattle.state.specs.WayUp.{recounted}
 
 -- a packet whose numbers are 0
-abbrev pub noPacket : Packet
-noPacket = record { length = 0; tag = 0 }
+abbrev pub noPacket : Waiting
+noPacket = record { length = 0; tag = 0; mark = 0 }
 
 -- where in its 32 places the queue of class i starts, and how many packets it holds
 abbrev pub startOf : Link → ℕ → ℕ
@@ -30,22 +31,26 @@ slot i position = i * 32 + position
 abbrev pub slotOf : Link → ℕ → ℕ → ℕ
 slotOf l i j = slot i ((startOf l i + j) % 32)
 
--- what that place holds (R94)
-abbrev pub packetAt : Link → ℕ → ℕ → Packet
-packetAt l i j = record { length = getD (l .lengths) (slotOf l i j) 0; tag = getD (l .tags) (slotOf l i j) 0 }
+-- what that place holds (R94, R309)
+abbrev pub packetAt : Link → ℕ → ℕ → Waiting
+packetAt l i j = record {
+  length = getD (l .lengths) (slotOf l i j) 0;
+  tag = getD (l .tags) (slotOf l i j) 0;
+  mark = getD (l .marks) (slotOf l i j) 0;
+}
 
 -- the packets of class i in order (R93, R97)
-unfoldable pub queueOf : Link → ℕ → List Packet
+unfoldable pub queueOf : Link → ℕ → List Waiting
 queueOf l i = table (packetAt l i) (heldOf l i)
 
 -- the bytes of the packets of a queue, in charges (R16, R201)
-unfoldable pub bytesIn : List Packet → ℕ
+unfoldable pub bytesIn : List Waiting → ℕ
 bytesIn [] = 0
 bytesIn (p ∷ ps) = costOf (p .length) + bytesIn ps
 
 -- the link with these queues
-abbrev pub queued : Link → List ℕ → List ℕ → List ℕ → List ℕ → Link
-queued l start held lengths tags = record {
+abbrev pub queued : Link → List ℕ → List ℕ → List ℕ → List ℕ → List ℕ → Link
+queued l start held lengths tags marks = record {
   tree = l .tree;
   size = l .size;
   active = l .active;
@@ -55,6 +60,7 @@ queued l start held lengths tags = record {
   held = held;
   lengths = lengths;
   tags = tags;
+  marks = marks;
   totals = l .totals;
 }
 
@@ -70,26 +76,31 @@ withTotals l totals = record {
   held = l .held;
   lengths = l .lengths;
   tags = l .tags;
+  marks = l .marks;
   totals = totals;
 }
 
 -- a packet laid last in class i's places, and not counted yet (R93)
-abbrev pub laidLast : Link → ℕ → Packet → Link
+abbrev pub laidLast : Link → ℕ → Waiting → Link
 laidLast l i p =
     queued l (l .start) (set (l .held) i (heldOf l i + 1))
     (set (l .lengths) (slotOf l i (heldOf l i)) (p .length)) (set (l .tags) (slotOf l i (heldOf l i)) (p .tag))
+    (set (l .marks) (slotOf l i (heldOf l i)) (p .mark))
 
 -- the first packet lifted from class i's places, and still counted (R93, R95)
 abbrev pub liftedFirst : Link → ℕ → Link
-liftedFirst l i = queued l (set (l .start) i ((startOf l i + 1) % 32)) (set (l .held) i (heldOf l i - 1)) (l .lengths) (l .tags)
+liftedFirst l i =
+    queued l (set (l .start) i ((startOf l i + 1) % 32)) (set (l .held) i (heldOf l i - 1)) (l .lengths) (l .tags) (l .marks)
 
 -- a packet waits last in class i's queue, and is counted on the way up (R93, R277)
-abbrev pub putLast : Link → ℕ → Packet → Link
+abbrev pub putLast : Link → ℕ → Waiting → Link
 putLast l i p = withTotals (laidLast l i p) (recounted false (l .tree) i (costOf (p .length)) (l .totals))
 
--- the first packet leaves class i's queue, and is counted there no more (R93, R95, R277)
+-- the first packet leaves class i's queue, is counted there no more, and its charge joins the running total (R93, R95, R277, R310)
 abbrev pub takenFirst : Link → ℕ → Link
-takenFirst l i = withTotals (liftedFirst l i) (recounted true (l .tree) i (costOf (packetAt l i 0 .length)) (l .totals))
+takenFirst l i =
+    let charge = costOf (packetAt l i 0 .length) in
+    withTotals (liftedFirst l i) (chargedMore (recounted true (l .tree) i charge (l .totals)) charge)
 
 -- the lists of a link have the lengths of its arrays (R94)
 pub record Shaped (l : Link) : Type 0 where
@@ -98,5 +109,6 @@ pub record Shaped (l : Link) : Type 0 where
   pub held : length (l .held) ≡ 64
   pub lengths : length (l .lengths) ≡ 2_048
   pub tags : length (l .tags) ≡ 2_048
+  pub marks : length (l .marks) ≡ 2_048
   pub packets : length (l .totals .packets) ≡ 64
   pub bytes : length (l .totals .bytes) ≡ 64

@@ -10,21 +10,22 @@ use Rattle.tree.specs.Class.{noTree}
 use Rattle.tree.specs.Size.{roundSize}
 use Rattle.state.specs.declared.Account.{Account}
 use Rattle.state.specs.declared.Link.{Link}
-use Rattle.state.specs.declared.Packet.{Packet}
 use Rattle.state.specs.declared.Totals.{Totals}
+use Rattle.state.specs.declared.Waiting.{Waiting}
 use Rattle.state.specs.Account.{account, noAccount}
+use Rattle.state.specs.Mark.{chargedMore}
 use Rattle.state.specs.Queue.{queueOf, bytesIn}
 use Rattle.tree.specs.Sum.{table}
 
 -- the tree, the round size in force, the set of active classes, the place in the round, each class's account and each class's queue (R96),
--- and its totals by class number (R276)
+-- and its totals by class number, and the running total (R276, R308)
 pub record State : Type 0 where
   pub tree : Tree
   pub size : ℕ
   pub active : ℕ
   pub place : ℕ
   pub accounts : List Account
-  pub queues : List (List Packet)
+  pub queues : List (List Waiting)
   pub totals : Totals
 
 -- What a place without a packet holds, and where in its 32 places a queue starts, are no part of a state's meaning (R97, R98).
@@ -40,19 +41,20 @@ meaning l = record {
 }
 
 -- the packets of class i in order
-abbrev pub queueAt : State → ℕ → List Packet
+abbrev pub queueAt : State → ℕ → List Waiting
 queueAt s i = getD (s .queues) i []
 
 -- the packets, or the charged bytes, that wait at the leaves at or below class i: a sum over these of what a queue counts for (R276)
-abbrev pub waitingBelow : (List Packet → ℕ) → Tree → List (List Packet) → ℕ → ℕ
+abbrev pub waitingBelow : (List Waiting → ℕ) → Tree → List (List Waiting) → ℕ → ℕ
 waitingBelow count t queues i = leavesSum t (λ j. count (getD queues j [])) i
 
--- the totals of these queues, of each class number (R276)
-unfoldable pub totalsOf : Tree → List (List Packet) → Totals
-totalsOf t queues = record {
-  packets = table (waitingBelow length t queues) 64;
-  bytes = table (waitingBelow bytesIn t queues) 64;
-}
+-- that of each class number (R276)
+unfoldable pub countsOf : (List Waiting → ℕ) → Tree → List (List Waiting) → List ℕ
+countsOf count t queues = table (waitingBelow count t queues) 64
+
+-- the totals of these queues, with a running total (R276, R308)
+abbrev pub totalsOf : Tree → List (List Waiting) → ℕ → Totals
+totalsOf t queues charged = record { packets = countsOf length t queues; bytes = countsOf bytesIn t queues; charged = charged }
 
 -- the totals of class number i are right: they are what waits at the leaves at or below it (R276)
 pub record TotalsRight (s : State) (i : ℕ) : Type 0 where
@@ -60,7 +62,7 @@ pub record TotalsRight (s : State) (i : ℕ) : Type 0 where
   pub bytes : getD (s .totals .bytes) i 0 ≡ waitingBelow bytesIn (s .tree) (s .queues) i
 
 -- the state with other queues, and so with other totals, or with another queue for class i alone
-abbrev pub withQueues : State → List (List Packet) → State
+abbrev pub withQueues : State → List (List Waiting) → State
 withQueues s queues = record {
   tree = s .tree;
   size = s .size;
@@ -68,11 +70,23 @@ withQueues s queues = record {
   place = s .place;
   accounts = s .accounts;
   queues = queues;
-  totals = totalsOf (s .tree) queues;
+  totals = totalsOf (s .tree) queues (s .totals .charged);
 }
 
-abbrev pub withQueue : State → ℕ → List Packet → State
+abbrev pub withQueue : State → ℕ → List Waiting → State
 withQueue s i q = withQueues s (set (s .queues) i q)
+
+-- the state when a charge has joined the running total (R310)
+abbrev pub withCharge : State → ℕ → State
+withCharge s charge = record {
+  tree = s .tree;
+  size = s .size;
+  active = s .active;
+  place = s .place;
+  accounts = s .accounts;
+  queues = s .queues;
+  totals = chargedMore (s .totals) charge;
+}
 
 -- the state in a round: with this size in force, these active classes, this place and these accounts
 abbrev pub inRound : State → ℕ → ℕ → ℕ → List Account → State
@@ -87,8 +101,8 @@ inRound s size active place accounts = record {
 }
 
 -- the link that its fields make up
-abbrev pub linkOf : Tree → Bytes → ℕ → ℕ → List Account → List ℕ → List ℕ → List ℕ → List ℕ → Totals → Link
-linkOf tree size active place accounts start held lengths tags totals = record {
+abbrev pub linkOf : Tree → Bytes → ℕ → ℕ → List Account → List ℕ → List ℕ → List ℕ → List ℕ → List ℕ → Totals → Link
+linkOf tree size active place accounts start held lengths tags marks totals = record {
   tree = tree;
   size = size;
   active = active;
@@ -98,17 +112,19 @@ linkOf tree size active place accounts start held lengths tags totals = record {
   held = held;
   lengths = lengths;
   tags = tags;
+  marks = marks;
   totals = totals;
 }
 
 -- the link in a round, as a state is
 abbrev pub linkInRound : Link → ℕ → ℕ → ℕ → List Account → Link
 linkInRound l size active place accounts =
-    linkOf (l .tree) (record { 0 = size }) active place accounts (l .start) (l .held) (l .lengths) (l .tags) (l .totals)
+    linkOf (l .tree) (record { 0 = size }) active place accounts (l .start) (l .held) (l .lengths) (l .tags) (l .marks)
+    (l .totals)
 
--- nothing waits (R99, R100)
+-- nothing waits, and nothing was charged (R99, R100, R308)
 abbrev pub noTotals : Totals
-noTotals = record { packets = replicate 64 0; bytes = replicate 64 0 }
+noTotals = record { packets = replicate 64 0; bytes = replicate 64 0; charged = 0 }
 
 -- a fresh link, whose size is the whole tree's: root balance Q, every other B and R zero, queues empty, nothing active, place 64 (R99)
 abbrev pub freshLink : Tree → Link
@@ -122,6 +138,7 @@ freshLink t = record {
   held = replicate 64 0;
   lengths = replicate 2_048 0;
   tags = replicate 2_048 0;
+  marks = replicate 2_048 0;
   totals = noTotals;
 }
 
@@ -137,5 +154,6 @@ noLink = record {
   held = replicate 64 0;
   lengths = replicate 2_048 0;
   tags = replicate 2_048 0;
+  marks = replicate 2_048 0;
   totals = noTotals;
 }

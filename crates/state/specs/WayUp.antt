@@ -16,6 +16,7 @@ abbrev pub recounted : Bool → Tree → ℕ → ℕ → Totals → Totals
 recounted fewer t i charge totals = record {
   packets = changedUp t (changed fewer 1) i (totals .packets);
   bytes = changedUp t (changed fewer charge) i (totals .bytes);
+  charged = totals .charged;
 }
 
 -- what a walk up asks of the numbers that it is lent: parents are lower, and the totals have room for one packet more

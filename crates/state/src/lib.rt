@@ -2,6 +2,7 @@
 // Serves demand 2: each step is one equation, and what a state means is its packets in order, not where they lie.
 mod accounts;
 pub mod lent_accounts;
+pub mod mark;
 pub mod queue;
 pub mod way_up;
 
@@ -17,16 +18,25 @@ pub struct Account {
     pub residual: Bytes,
 }
 
-// One waiting packet.
+// A packet as it comes and goes.
 pub struct Packet {
     pub length: u16,
     pub tag: u32,
 }
 
-// The totals of each class number: the packets, and their charged bytes, that wait at the leaves at or below it.
+// One that waits: its mark is the running total when it was accepted.
+pub struct Waiting {
+    pub length: u16,
+    pub tag: u32,
+    pub mark: u64,
+}
+
+// The totals of each class number, the packets and their charged bytes that wait at the leaves at or below it; and the running total of the
+// bytes charged on the link, 64 bits that wrap.
 pub struct Totals {
     pub packets: [u64; Link::CLASSES],
     pub bytes: [u64; Link::CLASSES],
+    pub charged: u64,
 }
 
 // The link: class i's packets lie in the 32 places from i * 32 on, the first of them at its start, and the others follow round the 32.
@@ -40,17 +50,22 @@ pub struct Link {
     pub held: [u8; Link::CLASSES],
     pub lengths: [u16; 2048],
     pub tags: [u32; 2048],
+    pub marks: [u64; 2048],
     pub totals: Totals,
 }
 
 impl Totals {
-    // Nothing waits.
+    // Nothing waits, and nothing was charged.
     pub fn none() -> Totals
         ensures { λ r. ⌜ r ≡ noTotals ⌝ }
     {
         let packets = [0u64; Link::CLASSES];
         let bytes = [0u64; Link::CLASSES];
-        Totals { packets, bytes }
+        Totals {
+            packets,
+            bytes,
+            charged: 0,
+        }
     }
 }
 
@@ -77,6 +92,7 @@ impl Link {
         let held = [0u8; Link::CLASSES];
         let lengths = [0u16; 2048];
         let tags = [0u32; 2048];
+        let marks = [0u64; 2048];
         Link {
             tree,
             size,
@@ -87,6 +103,7 @@ impl Link {
             held,
             lengths,
             tags,
+            marks,
             totals: Totals::none(),
         }
     }
@@ -101,6 +118,7 @@ impl Link {
         let held = [0u8; Link::CLASSES];
         let lengths = [0u16; 2048];
         let tags = [0u32; 2048];
+        let marks = [0u64; 2048];
         Link {
             tree: Tree::none(),
             size: Bytes(0),
@@ -111,6 +129,7 @@ impl Link {
             held,
             lengths,
             tags,
+            marks,
             totals: Totals::none(),
         }
     }

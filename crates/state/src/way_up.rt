@@ -2,7 +2,7 @@
 // specs/WayUp.
 // Serves demand 2.
 ghost use mathlib.Core.Path.{_≡_};
-ghost use Prim.Native.Nat.{_+_, _^_, _<_};
+ghost use Prim.Native.Nat.{ℕ, _+_, _^_, _<_};
 ghost use Rattle.tree.specs.declared.Tree.{Tree};
 ghost use Rattle.units.specs.Cost.{costOf};
 ghost use Rattle.state.specs.WayUp.{changed, recounted, Climbs};
@@ -32,9 +32,10 @@ pub fn recount(
     bytes: &mut [u64; 64],
 )
     requires { ⌜ (class < 64) × Climbs (now parent) (now packets) (now bytes) ⌝ }
-    ensures { λ _. ⌜ ((t : Tree) → t .parent ≡ now (parent .entry)
-        → record { packets = now (packets .exit); bytes = now (bytes .exit) }
-        ≡ recounted fewer t class (costOf length) (record { packets = now (packets .entry); bytes = now (bytes .entry) })) ⌝ }
+    ensures { λ _. ⌜ ((t : Tree) (charged : ℕ) → t .parent ≡ now (parent .entry)
+        → record { packets = now (packets .exit); bytes = now (bytes .exit); charged = charged }
+        ≡ recounted fewer t class (costOf length)
+        (record { packets = now (packets .entry); bytes = now (bytes .entry); charged = charged })) ⌝ }
 {
     let cost = units::cost(length);
     let mut i = class;

@@ -12,6 +12,7 @@ use Rattle.units.specs.declared.Bytes.{Bytes}
 use Rattle.tree.specs.declared.Tree.{Tree}
 use Rattle.tree.specs.Rules.{PlanRules}
 use Rattle.state.specs.declared.Link.{Link}
+use Rattle.state.specs.declared.Totals.{Totals}
 use Rattle.state.specs.State.{meaning}
 use Rattle.state.specs.Queue.{packetAt}
 use Rattle.rules.specs.Active.{someWaits, roundActive, upward}
@@ -32,14 +33,14 @@ use Rattle.steps.specs.Rounds.{InFields, Going, Unseen, Closed, Opens, F
 
 -- a leaf is found at once, on a link in fields
 module _
-    {t : Tree} {size : Bytes} {before from : ℕ} (balance residual : List ℕ) {start held lengths tags packets bytes : List ℕ}
-    (s : Going t size before from balance residual start held lengths tags packets bytes) where
+    {t : Tree} {size : Bytes} {before from : ℕ} (balance residual : List ℕ) {start held lengths tags marks : List ℕ} {totals : Totals}
+    (s : Going t size before from balance residual start held lengths tags marks totals) where
   abbrev whole : Link
-  whole = lentLink t size before from balance residual start held lengths tags packets bytes
+  whole = lentLink t size before from balance residual start held lengths tags marks totals
 
   pub now-finds : (at : ℕ) → at ≡ nextLeaf (meaning whole) → at < 64
       → Finds whole (record { class = at; rounds = 0; active = before; size = size })
-      (λ after active place. lentLink t after active place balance residual start held lengths tags packets bytes)
+      (λ after active place. lentLink t after active place balance residual start held lengths tags marks totals)
   now-finds at next here = record {
     here = here;
     place = from;
@@ -48,7 +49,7 @@ module _
 
   -- or its round has closed
   abbrev unseen : Unseen
-  unseen = record { active = before; place = from; held = held; tags = tags; packets = packets; bytes = bytes }
+  unseen = record { active = before; place = from; held = held; tags = tags; marks = marks; totals = totals }
 
   pub is-closed : (at : ℕ) → at ≡ nextLeaf (meaning whole) → 64 ≤ at → Closed t size unseen balance residual start lengths
   is-closed at next none = record { going = s; closed = omega (arith, none, next, leaf-most (meaning whole) (s .fields .sound .state)) }
@@ -76,7 +77,7 @@ module _
 
   pub then-finds : (b r : List ℕ) (f : Found) → f .class < 64 → f .active ≡ active
       → OnTheWay shut (f .class) (openLink t (f .size) k active b r start lengths) (f .rounds)
-      → Finds shut f (λ after x place. lentLink t after x place b r start (k .held) lengths (k .tags) (k .packets) (k .bytes))
+      → Finds shut f (λ after x place. lentLink t after x place b r start (k .held) lengths (k .tags) (k .marks) (k .totals))
   then-finds b r f here same way = record {
     here = here;
     place = 1;
@@ -85,20 +86,21 @@ module _
 
 -- a leaf is found on a link in fields, and its packet goes
 module _
-    {t : Tree} {size : Bytes} {before from : ℕ} (balance residual : List ℕ) {start held lengths tags packets bytes : List ℕ} (f : Found)
+    {t : Tree} {size : Bytes} {before from : ℕ} (balance residual : List ℕ) {start held lengths tags marks : List ℕ} {totals : Totals}
+    (f : Found)
     (b r : List ℕ)
-    (q : Finds (lentLink t size before from balance residual start held lengths tags packets bytes) f
-    (λ after active place. lentLink t after active place b r start held lengths tags packets bytes)) where
+    (q : Finds (lentLink t size before from balance residual start held lengths tags marks totals) f
+    (λ after active place. lentLink t after active place b r start held lengths tags marks totals)) where
   abbrev found-in : Link
-  found-in = lentLink t size before from balance residual start held lengths tags packets bytes
+  found-in = lentLink t size before from balance residual start held lengths tags marks totals
 
   abbrev at-turn : Link
-  at-turn = lentLink t (f .size) (f .active) (q .place) b r start held lengths tags packets bytes
+  at-turn = lentLink t (f .size) (f .active) (q .place) b r start held lengths tags marks totals
 
   its-turn : SendsNext at-turn (f .class)
   its-turn = way-found found-in (f .class) at-turn (f .rounds) (q .way) (λ z. omega (arith, q .here, z))
 
-  pub then-goes : GoesNext t (f .size) (q .place) (f .class) (f .active) (t .count) (t .parent) b r start held lengths tags packets bytes
+  pub then-goes : GoesNext t (f .size) (q .place) (f .class) (f .active) (t .count) (t .parent) b r start held lengths tags marks totals
   then-goes = record { many = refl; parents = refl; wide = q .way .many; next = its-turn }
 
   pub then-departs : (gone : Gone) (after : Link) → gone .packet ≡ packetAt at-turn (f .class) 0 → after ≡ sentLink at-turn (f .class)
@@ -111,18 +113,19 @@ module _
 
 -- whether the root of a link in fields counts a packet
 module _
-    {t : Tree} {size : Bytes} {before from : ℕ} (balance residual : List ℕ) {start held lengths tags packets bytes : List ℕ}
-    (s : InFields t size before from balance residual start held lengths tags packets bytes) where
+    {t : Tree} {size : Bytes} {before from : ℕ} (balance residual : List ℕ) {start held lengths tags marks : List ℕ} {totals : Totals}
+    (s : InFields t size before from balance residual start held lengths tags marks totals) where
   abbrev withTotals-in : Link
-  withTotals-in = lentLink t size before from balance residual start held lengths tags packets bytes
+  withTotals-in = lentLink t size before from balance residual start held lengths tags marks totals
 
-  root-some : someWaits (meaning withTotals-in) ≡ leb 1 (getD packets 0 0)
+  root-some : someWaits (meaning withTotals-in) ≡ leb 1 (getD (totals .packets) 0 0)
   root-some = root-counts-some (meaning withTotals-in) (s .sound .state)
 
   -- one does
-  pub going-on : (getD packets 0 0 ≡ 0 → ⊥) → Going t size before from balance residual start held lengths tags packets bytes
-  going-on n = record { fields = s; some = root-some ∙ le-leb 1 (getD packets 0 0) (omega (arith, n)) }
+  pub going-on : (getD (totals .packets) 0 0 ≡ 0 → ⊥) → Going t size before from balance residual start held lengths tags marks totals
+  going-on n = record { fields = s; some = root-some ∙ le-leb 1 (getD (totals .packets) 0 0) (omega (arith, n)) }
 
   -- none does, and nothing changes
-  pub nothing-departs : getD packets 0 0 ≡ 0 → Departs withTotals-in (nothingGoes size before from) withTotals-in
-  nothing-departs none = record { some = sym (root-some ∙ lt-leb 1 (getD packets 0 0) (omega (arith, none))); sent = refl }
+  pub nothing-departs : getD (totals .packets) 0 0 ≡ 0 → Departs withTotals-in (nothingGoes size before from (totals .charged))
+      withTotals-in
+  nothing-departs none = record { some = sym (root-some ∙ lt-leb 1 (getD (totals .packets) 0 0) (omega (arith, none))); sent = refl }

@@ -2,7 +2,7 @@
 use mathlib.Core.Bool.{true}
 use mathlib.Core.List.{List}
 use mathlib.Core.Path.{_≡_, refl, sym, ap, ap₂, subst, _∙_}
-use Prim.Native.Nat.{ℕ, _≤_, _<_}
+use Prim.Native.Nat.{ℕ, _+_, _≤_, _<_}
 use native.Mathlib.Omega.{arith}
 use lib.ListN.{length, getD}
 use Rattle.units.specs.declared.Bytes.{Bytes}
@@ -11,10 +11,11 @@ use Rattle.tree.specs.declared.Tree.{Tree}
 use Rattle.tree.specs.Class.{isClass}
 use Rattle.state.specs.declared.Account.{Account}
 use Rattle.state.specs.declared.Link.{Link}
-use Rattle.state.specs.declared.Packet.{Packet}
+use Rattle.state.specs.declared.Waiting.{Waiting}
 use Rattle.state.specs.Account.{balanceOf}
 use Rattle.state.specs.declared.Totals.{Totals}
 use Rattle.state.specs.Queue.{packetAt, queued, withTotals, liftedFirst}
+use Rattle.state.specs.Mark.{wrapped, chargedMore}
 use Rattle.state.specs.WayUp.{recounted, Climbs}
 use Rattle.state.specs.State.{meaning, linkInRound}
 use Rattle.rules.specs.Sending.{Books, firstOf, paidBy, booksAfter, sentState, turnsOff}
@@ -28,17 +29,19 @@ use Rattle.steps.specs.Fields.{lentLink, lentTotals, booksOf, Grown, Goe
 
 -- the link after, from the books, the queues and the totals after
 sent-by : (l : Link) (i : ℕ) (b : Books) (start held : List ℕ) (totals : Totals) → b ≡ booksAfter (meaning l) i
-    → ((k : Link) → queued k start held (l .lengths) (l .tags) ≡ liftedFirst (queued k (l .start) (l .held) (l .lengths) (l .tags)) i)
-    → totals ≡ recounted true (l .tree) i (costOf (packetAt l i 0 .length)) (l .totals)
-    → withTotals (queued (linkInRound l (l .size .0) (b .active) i (b .accounts)) start held (l .lengths) (l .tags)) totals ≡ sentLink l i
+    → ((k : Link) → queued k start held (l .lengths) (l .tags) (l .marks)
+    ≡ liftedFirst (queued k (l .start) (l .held) (l .lengths) (l .tags) (l .marks)) i)
+    → totals ≡ chargedMore (recounted true (l .tree) i (costOf (packetAt l i 0 .length)) (l .totals)) (costOf (packetAt l i 0 .length))
+    → withTotals (queued (linkInRound l (l .size .0) (b .active) i (b .accounts)) start held (l .lengths) (l .tags) (l .marks)) totals
+    ≡ sentLink l i
 unfolding sentState
 sent-by l i b start held totals e q n = ap₂ withTotals (q (linkInRound l (l .size .0) (b .active) i (b .accounts))) n ∙ rw e refl
 
 module _
-    {t : Tree} {size : Bytes} {place i active count : ℕ} {parent balance residual start held lengths tags packets bytes : List ℕ}
-    (s : GoesNext t size place i active count parent balance residual start held lengths tags packets bytes) where
+    {t : Tree} {size : Bytes} {place i active count : ℕ} {parent balance residual start held lengths tags marks : List ℕ} {totals : Totals}
+    (s : GoesNext t size place i active count parent balance residual start held lengths tags marks totals) where
   abbrev whole : Link
-  whole = lentLink t size active place balance residual start held lengths tags packets bytes
+  whole = lentLink t size active place balance residual start held lengths tags marks totals
 
   -- what the steps ask
   pub goes-first : (i < 64) × (getD start i 0 < 32)
@@ -47,8 +50,12 @@ module _
   pub goes-takes : (i < 64) × (getD start i 0 < 32) × (1 ≤ getD held i 0)
   goes-takes = (s .next .found, goes-first .1, sender-holds whole i (s .next))
 
-  pub goes-climbs : (i < 64) × Climbs parent packets bytes
-  goes-climbs = (s .next .found, subst (λ (ps : List ℕ). Climbs ps packets bytes) (s .parents) (sound-climbs whole (s .next .sound)))
+  pub goes-climbs : (i < 64) × Climbs parent (totals .packets) (totals .bytes)
+  goes-climbs = (
+    s .next .found,
+    subst (λ (ps : List ℕ). Climbs ps (totals .packets) (totals .bytes)) (s .parents)
+        (sound-climbs whole (s .next .sound)),
+  )
 
   grown : Grown t count parent
   grown = record { rules = s .next .sound .state .fits .tree; many = s .many; parents = s .parents }
@@ -57,7 +64,7 @@ module _
   class = link-sender whole i (s .next) .class
 
   -- p is its first packet, by what the step that reads it ensures
-  module _ {p : Packet} {cost : ℕ} (e : (l : Link) (h : List ℕ) → p ≡ packetAt (queued l start h lengths tags) i 0)
+  module _ {p : Waiting} {cost : ℕ} (e : (l : Link) (h : List ℕ) → p ≡ packetAt (queued l start h lengths tags marks) i 0)
       (k : cost ≡ costOf (p .length)) where
     costs : cost ≡ costOf (firstOf (meaning whole) i .length)
     costs = first-cost whole i p cost (s .next) (e whole held) k
@@ -73,27 +80,33 @@ module _
         subst Fit (sym y) (fit-paid (zipAccounts balance residual) i cost (goes-pays .0) (goes-pays .1) (goes-pays .2)),
       )
 
-      module _ {start′ held′ packets′ bytes′ : List ℕ}
-          (q : (l : Link) → queued l start′ held′ lengths tags ≡ liftedFirst (queued l start held lengths tags) i)
-          (n : (u : Tree) → u .parent ≡ parent → lentTotals packets′ bytes′
-          ≡ recounted true u i (costOf (p .length)) (lentTotals packets bytes)) where
-        fewer : lentTotals packets′ bytes′ ≡ recounted true t i (costOf (packetAt whole i 0 .length)) (lentTotals packets bytes)
+      module _ {start′ held′ packets′ bytes′ : List ℕ} {charged′ : ℕ}
+          (q : (l : Link) → queued l start′ held′ lengths tags marks ≡ liftedFirst (queued l start held lengths tags marks) i)
+          (n : (u : Tree) (charged : ℕ) → u .parent ≡ parent → lentTotals packets′ bytes′ charged
+          ≡ recounted true u i (costOf (p .length)) (lentTotals (totals .packets) (totals .bytes) charged))
+          (g : charged′ ≡ wrapped (totals .charged + cost)) where
+        fewer : lentTotals packets′ bytes′ charged′
+            ≡ chargedMore (recounted true t i (costOf (packetAt whole i 0 .length)) totals) (costOf (packetAt whole i 0 .length))
         fewer =
-            n t (s .parents)
-            ∙ ap (λ (c : ℕ). recounted true t i c (lentTotals packets bytes)) (ap (λ (x : Packet). costOf (x .length)) (e whole held))
+            ap (lentTotals packets′ bytes′) (g ∙ ap (λ (c : ℕ). wrapped (totals .charged + c)) k)
+            ∙ ap (λ (x : Totals). chargedMore x (costOf (p .length))) (n t (totals .charged) (s .parents))
+            ∙ ap (λ (c : ℕ). chargedMore (recounted true t i c totals) c) (ap (λ (x : Waiting). costOf (x .length)) (e whole held))
 
         -- the link after a packet that was not the last, and after one that was
-        pub goes-more : 1 < getD held i 0 → lentLink t size active i b r start′ held′ lengths tags packets′ bytes′ ≡ sentLink whole i
+        pub goes-more : 1 < getD held i 0 → lentLink t size active i b r start′ held′ lengths tags marks
+            (lentTotals packets′ bytes′ charged′)
+            ≡ sentLink whole i
         goes-more m =
-            sent-by whole i (booksOf active b r) start′ held′ (lentTotals packets′ bytes′)
+            sent-by whole i (booksOf active b r) start′ held′ (lentTotals packets′ bytes′ charged′)
             (ap (λ (xs : List Account). record { active = active; accounts = xs }) (y ∙ paid-means whole i cost costs)
             ∙ sym (books-more whole i (s .next .found) m)) q fewer
 
         pub goes-last : getD held i 0 ≤ 1 → (a : ℕ) (b′ r′ : List ℕ)
             → ((u : Tree) → Grown u count parent → isClass u i ≡ true → booksOf a b′ r′ ≡ turnsOff 63 u i (booksOf active b r))
-            → lentLink t size a i b′ r′ start′ held′ lengths tags packets′ bytes′ ≡ sentLink whole i
+            → lentLink t size a i b′ r′ start′ held′ lengths tags marks (lentTotals packets′ bytes′ charged′)
+            ≡ sentLink whole i
         goes-last m a b′ r′ off =
-            sent-by whole i (booksOf a b′ r′) start′ held′ (lentTotals packets′ bytes′)
+            sent-by whole i (booksOf a b′ r′) start′ held′ (lentTotals packets′ bytes′ charged′)
             (off t grown class
             ∙ ap (λ (xs : List Account). turnsOff 63 t i (record { active = active; accounts = xs })) (y ∙ paid-means whole i cost costs)
             ∙ sym (books-last whole i (s .next .found) m)) q fewer

@@ -13,6 +13,7 @@ use Rattle.units.specs.declared.Bytes.{Bytes}
 use Rattle.tree.specs.declared.Tree.{Tree}
 use Rattle.tree.specs.Rules.{PlanRules}
 use Rattle.state.specs.declared.Link.{Link}
+use Rattle.state.specs.declared.Totals.{Totals}
 use Rattle.state.specs.State.{meaning, linkOf}
 use Rattle.rules.specs.Active.{roundActive}
 use Rattle.rules.specs.Opening.{nextKind, nextSize, resizedAccounts, openedWith, Covers}
@@ -43,13 +44,13 @@ CoversNext l = Covers (meaning l) (nextSize (meaning l))
 
 -- what the search and the sender ask of fields
 module _
-    {t : Tree} {size : Bytes} {active place : ℕ} (balance residual : List ℕ) {start held lengths tags packets bytes : List ℕ}
-    (s : InFields t size active place balance residual start held lengths tags packets bytes) where
+    {t : Tree} {size : Bytes} {active place : ℕ} (balance residual : List ℕ) {start held lengths tags marks : List ℕ} {totals : Totals}
+    (s : InFields t size active place balance residual start held lengths tags marks totals) where
   pub fields-low : (i : ℕ) → i < 64 → getD start i 0 < 32
   fields-low i u = omega (arith, s .sound .starts i u .start)
 
   pub fields-searched : (leaves : ℕ) → Both active (t .leaves) leaves
-      → Searched (lentLink t size active place balance residual start held lengths tags packets bytes) leaves place balance start lengths
+      → Searched (lentLink t size active place balance residual start held lengths tags marks totals) leaves place balance start lengths
   fields-searched leaves b = record {
     sound = s .sound;
     both = b;
@@ -60,34 +61,34 @@ module _
   }
 
   -- where the root can take the difference of the sizes an opening can be worked out
-  pub fields-can : CoversNext (lentLink t size active place balance residual start held lengths tags packets bytes)
-      → (on : ℕ) → on ≡ roundActive (meaning (lentLink t size active place balance residual start held lengths tags packets bytes))
+  pub fields-can : CoversNext (lentLink t size active place balance residual start held lengths tags marks totals)
+      → (on : ℕ) → on ≡ roundActive (meaning (lentLink t size active place balance residual start held lengths tags marks totals))
       → CanResize t on (size .0) (zipAccounts balance residual)
   fields-can covers on is =
-      let l = lentLink t size active place balance residual start held lengths tags packets bytes in
+      let l = lentLink t size active place balance residual start held lengths tags marks totals in
       subst (λ (a : ℕ). CanResize t a (size .0) (zipAccounts balance residual)) (sym is)
       (can-resize (meaning l) (s .sound .state) (meaning-wide l (s .wide)) covers)
 
   -- the size and the accounts of an opening make up the link when it has opened
   pub fields-opened : (on : ℕ) (new : Bytes) (b r : List ℕ)
-      → on ≡ roundActive (meaning (lentLink t size active place balance residual start held lengths tags packets bytes))
+      → on ≡ roundActive (meaning (lentLink t size active place balance residual start held lengths tags marks totals))
       → OpensWith t on (size .0) (zipAccounts balance residual) (new .0) (zipAccounts b r)
-      → lentLink t new on 1 b r start held lengths tags packets bytes
-      ≡ openedLink (lentLink t size active place balance residual start held lengths tags packets bytes)
+      → lentLink t new on 1 b r start held lengths tags marks totals
+      ≡ openedLink (lentLink t size active place balance residual start held lengths tags marks totals)
   unfolding openedWith nextKind nextSize resizedAccounts
   fields-opened on new b r is o =
-      ap₂ (λ (n : ℕ) (xs : List Account). linkOf t (record { 0 = n }) on 1 xs start held lengths tags (lentTotals packets bytes))
+      ap₂ (λ (n : ℕ) (xs : List Account). linkOf t (record { 0 = n }) on 1 xs start held lengths tags marks totals)
       (o .size-is) (o .accounts-are)
       ∙ rw is refl
 
   -- which is a sound link in fields
-  pub fields-sound : CoversNext (lentLink t size active place balance residual start held lengths tags packets bytes)
+  pub fields-sound : CoversNext (lentLink t size active place balance residual start held lengths tags marks totals)
       → (on : ℕ) (new : Bytes) (b r : List ℕ)
-      → lentLink t new on 1 b r start held lengths tags packets bytes
-      ≡ openedLink (lentLink t size active place balance residual start held lengths tags packets bytes)
-      → InFields t new on 1 b r start held lengths tags packets bytes
+      → lentLink t new on 1 b r start held lengths tags marks totals
+      ≡ openedLink (lentLink t size active place balance residual start held lengths tags marks totals)
+      → InFields t new on 1 b r start held lengths tags marks totals
   fields-sound covers on new b r e =
-      let l = lentLink t size active place balance residual start held lengths tags packets bytes in
+      let l = lentLink t size active place balance residual start held lengths tags marks totals in
       let wide = meaning-wide l (s .wide) in
       record {
         sound = subst SoundLink (sym e) (opened-link-sound l wide (s .sound) covers);
@@ -97,12 +98,13 @@ module _
 -- ---- rounds are opened until a leaf sends
 
 -- so far none was found: the round has closed, and the same classes are active in the next
-pub record UnderWay (l₀ : Link) (t : Tree) (size : Bytes) (k : Unseen) (active : ℕ) (balance residual start lengths : List ℕ) (rounds : ℕ) : Type 0 where
+pub record UnderWay (l₀ : Link) (t : Tree) (size : Bytes) (k : Unseen) (active : ℕ) (balance residual start lengths : List ℕ) (rounds : ℕ)
+    : Type 0 where
   pub on : ℕ
   pub place : ℕ
-  pub way : OnTheWay l₀ 64 (lentLink t size on place balance residual start (k .held) lengths (k .tags) (k .packets) (k .bytes)) rounds
+  pub way : OnTheWay l₀ 64 (lentLink t size on place balance residual start (k .held) lengths (k .tags) (k .marks) (k .totals)) rounds
   pub taken : active ≡ roundActive
-      (meaning (lentLink t size on place balance residual start (k .held) lengths (k .tags) (k .packets) (k .bytes)))
+      (meaning (lentLink t size on place balance residual start (k .held) lengths (k .tags) (k .marks) (k .totals)))
 
 pub under-starts : (t : Tree) (size : Bytes) (k : Unseen) (active : ℕ) (balance residual start lengths : List ℕ)
     → Opens t size k active balance residual start lengths
@@ -121,9 +123,9 @@ module _
     {l₀ : Link} {t : Tree} {size : Bytes} {k : Unseen} {active : ℕ} (balance residual : List ℕ) {start lengths : List ℕ} {rounds : ℕ}
     (w : UnderWay l₀ t size k active balance residual start lengths rounds) where
   abbrev here : Link
-  here = lentLink t size (w .on) (w .place) balance residual start (k .held) lengths (k .tags) (k .packets) (k .bytes)
+  here = lentLink t size (w .on) (w .place) balance residual start (k .held) lengths (k .tags) (k .marks) (k .totals)
 
-  in-fields : InFields t size (w .on) (w .place) balance residual start (k .held) lengths (k .tags) (k .packets) (k .bytes)
+  in-fields : InFields t size (w .on) (w .place) balance residual start (k .held) lengths (k .tags) (k .marks) (k .totals)
   in-fields = record { sound = w .way .sound; wide = w .way .many }
 
   -- its round has closed, so the root can take the difference
@@ -139,7 +141,7 @@ module _
     is-opened : openLink t new k active b r start lengths ≡ openedLink here
     is-opened = fields-opened balance residual in-fields active new b r (w .taken) y
 
-    pub under-fields : InFields t new active 1 b r start (k .held) lengths (k .tags) (k .packets) (k .bytes)
+    pub under-fields : InFields t new active 1 b r start (k .held) lengths (k .tags) (k .marks) (k .totals)
     under-fields = fields-sound balance residual in-fields covered active new b r is-opened
 
     -- a leaf is found in it, or none

@@ -63,38 +63,38 @@ tree-fields t many weight is =
 -- and so is a link
 pub apart-is : (l : Link) (t : Tree) (b r : List ℕ) → t ≡ l .tree → Shaped l → b ≡ table (balanceOf (l .accounts)) 64
     → r ≡ table (residualOf (l .accounts)) 64
-    → lentLink t (l .size) (l .active) (l .place) b r (l .start) (l .held) (l .lengths) (l .tags) (l .totals .packets)
-    (l .totals .bytes) ≡ l
+    → lentLink t (l .size) (l .active) (l .place) b r (l .start) (l .held) (l .lengths) (l .tags) (l .marks) (l .totals)
+    ≡ l
 apart-is l t b r same shape x y =
     ap₂ (λ (t : Tree) (xs : List Account). linkOf t (l .size) (l .active) (l .place) xs (l .start) (l .held) (l .lengths) (l .tags)
-    (l .totals)) same
+    (l .marks) (l .totals)) same
     (in-lists (l .accounts) (shape .accounts) b r x y)
 
 module _
     {t : Tree} (lent : Tree) (same : lent ≡ t) {size : Bytes} {active place : ℕ} {accounts : List Account}
-    {start held lengths tags packets bytes : List ℕ}
+    {start held lengths tags marks : List ℕ} {totals : Totals}
     (many : length accounts ≡ 64)
-    (sound : SoundLink (linkOf t size active place accounts start held lengths tags (lentTotals packets bytes)))
+    (sound : SoundLink (linkOf t size active place accounts start held lengths tags marks totals))
     (b r : List ℕ) (x : b ≡ table (balanceOf accounts) 64) (y : r ≡ table (residualOf accounts) 64) where
   apart : zipAccounts b r ≡ accounts
   apart = in-lists accounts many b r x y
 
-  whole-is : lentLink lent size active place b r start held lengths tags packets bytes
-      ≡ linkOf t size active place accounts start held lengths tags (lentTotals packets bytes)
-  whole-is = ap₂ (λ (x : Tree) (xs : List Account). linkOf x size active place xs start held lengths tags
-      (lentTotals packets bytes)) same apart
+  whole-is : lentLink lent size active place b r start held lengths tags marks totals
+      ≡ linkOf t size active place accounts start held lengths tags marks totals
+  whole-is = ap₂ (λ (x : Tree) (xs : List Account). linkOf x size active place xs start held lengths tags marks
+      totals) same apart
 
-  pub values-fields : InFields lent size active place b r start held lengths tags packets bytes
+  pub values-fields : InFields lent size active place b r start held lengths tags marks totals
   values-fields = record { sound = subst SoundLink (sym whole-is) sound; wide = ap length apart ∙ many }
 
   -- after the send
-  module _ {w : Went} (after : Link) (d : Departs (lentLink lent size active place b r start held lengths tags packets bytes) w after) where
+  module _ {w : Went} (after : Link) (d : Departs (lentLink lent size active place b r start held lengths tags marks totals) w after) where
     pub values-wide : length (after .accounts) ≡ 64
     values-wide = departs-wide after (values-fields .wide) (values-fields .sound) d
 
     pub values-moves : {xs : List Account} {s h : List ℕ} {n : Totals} → after
-        ≡ linkOf lent (w .size) (w .active) (w .place) xs s h lengths tags n
-        → Moves (linkOf t size active place accounts start held lengths tags (lentTotals packets bytes))
+        ≡ linkOf lent (w .size) (w .active) (w .place) xs s h lengths tags marks n
+        → Moves (linkOf t size active place accounts start held lengths tags marks totals)
         (record {
           some = w .some;
           class = w .class;
@@ -112,6 +112,6 @@ module _
       some = d .some ∙ ap (λ (l : Link). someWaits (meaning l)) whole-is;
       sent =
           ap (λ (l : Link). record { class = w .class; packet = w .packet; rounds = w .rounds; link = l })
-          (sym (e ∙ ap (λ (x : Tree). linkOf x (w .size) (w .active) (w .place) xs s h lengths tags n) same))
+          (sym (e ∙ ap (λ (x : Tree). linkOf x (w .size) (w .active) (w .place) xs s h lengths tags marks n) same))
           ∙ d .sent ∙ ap (sentWhere (w .some)) whole-is;
     }

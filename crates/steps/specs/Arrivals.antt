@@ -10,22 +10,23 @@ use Rattle.checks.specs.Check.{firstBroken}
 use Rattle.tree.specs.Class.{longestOf, isLeaf}
 use Rattle.state.specs.declared.Link.{Link}
 use Rattle.state.specs.declared.Packet.{Packet}
+use Rattle.state.specs.declared.Totals.{Totals}
 use Rattle.state.specs.Queue.{queued, withTotals}
 use Rattle.sound.specs.Sound.{SoundLink}
 use Rattle.state.specs.State.{State, queueAt}
 use Rattle.calls.specs.declared.Arrival.{Arrival}
-use Rattle.steps.specs.Fields.{lentTotals}
 use Rattle.calls.specs.Arrival.{arrivalChecks, arrivalLeaves, arrivalOf}
 
--- the verdict on a packet of length n for a leaf of a sound state that has this longest packet and holds so many; one that passes finds room
+-- the verdict on a packet of length n for a leaf of a sound state that has this longest packet and holds so many; one that passes finds
+-- room
 pub record JudgesLeaf (class n longest held : ℕ) (r : Verdict) : Type 0 where
   pub verdict : (s : State) (p : Packet) → isLeaf (s .tree) class ≡ true → p .length ≡ n → longestOf (s .tree) class ≡ longest
       → length (queueAt s class) ≡ held → r ≡ firstBroken (arrivalChecks true s class p)
   pub room : r ≡ Passed → held < 32
 
 -- the link with these queues and totals
-abbrev pub lentWaiting : Link → List ℕ → List ℕ → List ℕ → List ℕ → List ℕ → List ℕ → Link
-lentWaiting l start held lengths tags packets bytes = withTotals (queued l start held lengths tags) (lentTotals packets bytes)
+abbrev pub lentWaiting : Link → List ℕ → List ℕ → List ℕ → List ℕ → List ℕ → Totals → Link
+lentWaiting l start held lengths tags marks totals = withTotals (queued l start held lengths tags marks) totals
 
 -- a link that an arrival may be taken on: it is sound, and each class number has a total
 pub record TakesOn (l : Link) : Type 0 where

@@ -31,13 +31,13 @@ lentTree count leaves parent weight longest follows = record {
 }
 
 -- the totals with these fields
-abbrev pub lentTotals : List ℕ → List ℕ → Totals
-lentTotals packets bytes = record { packets = packets; bytes = bytes }
+abbrev pub lentTotals : List ℕ → List ℕ → ℕ → Totals
+lentTotals packets bytes charged = record { packets = packets; bytes = bytes; charged = charged }
 
 -- the link with these fields
-abbrev pub lentLink : Tree → Bytes → ℕ → ℕ → List ℕ → List ℕ → List ℕ → List ℕ → List ℕ → List ℕ → List ℕ → List ℕ → Link
-lentLink tree size active place balance residual start held lengths tags packets bytes =
-    linkOf tree size active place (zipAccounts balance residual) start held lengths tags (lentTotals packets bytes)
+abbrev pub lentLink : Tree → Bytes → ℕ → ℕ → List ℕ → List ℕ → List ℕ → List ℕ → List ℕ → List ℕ → List ℕ → Totals → Link
+lentLink tree size active place balance residual start held lengths tags marks totals =
+    linkOf tree size active place (zipAccounts balance residual) start held lengths tags marks totals
 
 -- the books with these fields
 abbrev pub booksOf : ℕ → List ℕ → List ℕ → Books
@@ -60,8 +60,8 @@ pub record Searched (l : Link) (leaves place : ℕ) (balance start lengths : Lis
 
 -- leaf i sends next on the link with these fields, whose tree has so many classes and these parents
 pub record GoesNext (t : Tree) (size : Bytes) (place i active count : ℕ)
-    (parent balance residual start held lengths tags packets bytes : List ℕ) : Type 0 where
+    (parent balance residual start held lengths tags marks : List ℕ) (totals : Totals) : Type 0 where
   pub many : t .count ≡ count
   pub parents : t .parent ≡ parent
   pub wide : length (zipAccounts balance residual) ≡ 64
-  pub next : SendsNext (lentLink t size active place balance residual start held lengths tags packets bytes) i
+  pub next : SendsNext (lentLink t size active place balance residual start held lengths tags marks totals) i

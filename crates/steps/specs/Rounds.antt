@@ -7,6 +7,7 @@ use lib.ListN.{length}
 use Rattle.units.specs.declared.Bytes.{Bytes}
 use Rattle.tree.specs.declared.Tree.{Tree}
 use Rattle.state.specs.declared.Link.{Link}
+use Rattle.state.specs.declared.Totals.{Totals}
 use Rattle.state.specs.Queue.{noPacket, queued, withTotals}
 use Rattle.state.specs.State.{meaning, linkInRound}
 use Rattle.sound.specs.Sound.{SoundLink}
@@ -24,15 +25,15 @@ use Rattle.steps.specs.Fields.{lentLink}
 
 -- a sound link in fields
 pub record InFields (t : Tree) (size : Bytes) (active place : ℕ)
-    (balance residual start held lengths tags packets bytes : List ℕ) : Type 0 where
-  pub sound : SoundLink (lentLink t size active place balance residual start held lengths tags packets bytes)
+    (balance residual start held lengths tags marks : List ℕ) (totals : Totals) : Type 0 where
+  pub sound : SoundLink (lentLink t size active place balance residual start held lengths tags marks totals)
   pub wide : length (zipAccounts balance residual) ≡ 64
 
 -- one in which a packet waits
 pub record Going (t : Tree) (size : Bytes) (active place : ℕ)
-    (balance residual start held lengths tags packets bytes : List ℕ) : Type 0 where
-  pub fields : InFields t size active place balance residual start held lengths tags packets bytes
-  pub some : someWaits (meaning (lentLink t size active place balance residual start held lengths tags packets bytes)) ≡ true
+    (balance residual start held lengths tags marks : List ℕ) (totals : Totals) : Type 0 where
+  pub fields : InFields t size active place balance residual start held lengths tags marks totals
+  pub some : someWaits (meaning (lentLink t size active place balance residual start held lengths tags marks totals)) ≡ true
 
 -- what an opening does not see of its link
 pub record Unseen : Type 0 where
@@ -40,21 +41,21 @@ pub record Unseen : Type 0 where
   pub place : ℕ
   pub held : List ℕ
   pub tags : List ℕ
-  pub packets : List ℕ
-  pub bytes : List ℕ
+  pub marks : List ℕ
+  pub totals : Totals
 
 -- the link whose round has closed, and the one in which a round has opened
 abbrev pub closedLink : Tree → Bytes → Unseen → List ℕ → List ℕ → List ℕ → List ℕ → Link
 closedLink t size k balance residual start lengths =
-    lentLink t size (k .active) (k .place) balance residual start (k .held) lengths (k .tags) (k .packets) (k .bytes)
+    lentLink t size (k .active) (k .place) balance residual start (k .held) lengths (k .tags) (k .marks) (k .totals)
 
 abbrev pub openLink : Tree → Bytes → Unseen → ℕ → List ℕ → List ℕ → List ℕ → List ℕ → Link
 openLink t size k active balance residual start lengths =
-    lentLink t size active 1 balance residual start (k .held) lengths (k .tags) (k .packets) (k .bytes)
+    lentLink t size active 1 balance residual start (k .held) lengths (k .tags) (k .marks) (k .totals)
 
 -- its round has closed, and a packet waits
 pub record Closed (t : Tree) (size : Bytes) (k : Unseen) (balance residual start lengths : List ℕ) : Type 0 where
-  pub going : Going t size (k .active) (k .place) balance residual start (k .held) lengths (k .tags) (k .packets) (k .bytes)
+  pub going : Going t size (k .active) (k .place) balance residual start (k .held) lengths (k .tags) (k .marks) (k .totals)
   pub closed : nextLeaf (meaning (closedLink t size k balance residual start lengths)) ≡ 64
 
 -- and these are active in the next
@@ -71,12 +72,28 @@ pub record Finds (l : Link) (r : Found) (turn : Bytes → ℕ → ℕ → Link) 
 
 -- a packet has gone, or none waits
 abbrev pub wentBy : ℕ → ℕ → Bytes → Gone → Went
-wentBy class rounds size gone =
-    record { some = true; class = class; packet = gone .packet; rounds = rounds; active = gone .active; place = class; size = size }
+wentBy class rounds size gone = record {
+  some = true;
+  class = class;
+  packet = gone .packet;
+  rounds = rounds;
+  active = gone .active;
+  place = class;
+  size = size;
+  charged = gone .charged;
+}
 
-abbrev pub nothingGoes : Bytes → ℕ → ℕ → Went
-nothingGoes size active place =
-    record { some = false; class = 0; packet = noPacket; rounds = 0; active = active; place = place; size = size }
+abbrev pub nothingGoes : Bytes → ℕ → ℕ → ℕ → Went
+nothingGoes size active place charged = record {
+  some = false;
+  class = 0;
+  packet = noPacket;
+  rounds = 0;
+  active = active;
+  place = place;
+  size = size;
+  charged = charged;
+}
 
 -- what a send on a sound link gives, where a packet waits and where none does
 abbrev pub sentWhere : Bool → Link → Sent
@@ -91,7 +108,7 @@ pub record Departs (l : Link) (r : Went) (after : Link) : Type 0 where
 abbrev pub movedLink : Link → Moved → Link
 movedLink l r =
     withTotals (queued (linkInRound l (r .size .0) (r .active) (r .place) (r .accounts)) (r .start) (r .held) (l .lengths)
-    (l .tags)) (r .totals)
+    (l .tags) (l .marks)) (r .totals)
 
 pub record Moves (l : Link) (r : Moved) : Type 0 where
   pub some : r .some ≡ someWaits (meaning l)

@@ -7,11 +7,13 @@ ghost use lib.Dec.{ltb};
 ghost use Rattle.state.specs.declared.Link.{Link};
 ghost use Rattle.state.specs.WayUp.{Climbs};
 ghost use Rattle.calls.specs.Arrival.{arrivalAnswer};
+ghost use Rattle.steps.specs.Fields.{lentTotals};
 ghost use Rattle.steps.specs.Arrivals.{JudgesLeaf, ArrivesOn, TakesOn, lentWaiting};
 use calls::Arrival;
 use checks::Verdict;
 use state::Link;
 use state::Packet;
+use state::mark::marked_with;
 use state::queue;
 use state::way_up::recount;
 use units::Bytes;
@@ -59,6 +61,8 @@ pub fn arrive(
     held: &mut [u8; 64],
     lengths: &mut [u16; 2048],
     tags: &mut [u32; 2048],
+    marks: &mut [u64; 2048],
+    charged: u64,
     packets: &mut [u64; 64],
     bytes: &mut [u64; 64],
 ) -> Arrival
@@ -66,11 +70,13 @@ pub fn arrive(
     ensures { λ r. ⌜ ((l : Link) → l .tree .leaves ≡ leaves → l .tree .parent ≡ now (parent .entry) → l .tree .longest
         ≡ now (longest .entry)
         → (sound ≡ true → TakesOn (lentWaiting l (now (start .entry)) (now (held .entry)) (now (lengths .entry)) (now (tags .entry))
-        (now (packets .entry)) (now (bytes .entry))))
+        (now (marks .entry))
+        (lentTotals (now (packets .entry)) (now (bytes .entry)) charged)))
         → ArrivesOn sound (lentWaiting l (now (start .entry)) (now (held .entry)) (now (lengths .entry)) (now (tags .entry))
-        (now (packets .entry)) (now (bytes .entry))) class packet
-        r (lentWaiting l (now (start .entry)) (now (held .exit)) (now (lengths .exit)) (now (tags .exit))
-        (now (packets .exit)) (now (bytes .exit)))) ⌝ }
+        (now (marks .entry))
+        (lentTotals (now (packets .entry)) (now (bytes .entry)) charged)) class packet
+        r (lentWaiting l (now (start .entry)) (now (held .exit)) (now (lengths .exit)) (now (tags .exit)) (now (marks .exit))
+        (lentTotals (now (packets .exit)) (now (bytes .exit)) charged))) ⌝ }
 {
     if !sound {
         return refused(Verdict::Refused(checks::NOT_SOUND, 0));
@@ -81,7 +87,15 @@ pub fn arrive(
     }
     let verdict = judge(class, packet.length, longest[class], held[class]);
     if let Verdict::Passed = verdict {
-        queue::put(class, packet, start, held, lengths, tags);
+        queue::put(
+            class,
+            marked_with(charged, packet),
+            start,
+            held,
+            lengths,
+            tags,
+            marks,
+        );
         recount(false, class, packet.length, parent, packets, bytes);
         let waiting = Bytes(bytes[class]);
         return Arrival {

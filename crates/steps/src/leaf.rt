@@ -11,14 +11,15 @@ ghost use Rattle.state.specs.Queue.{packetAt};
 ghost use Rattle.state.specs.State.{meaning};
 ghost use Rattle.tree.specs.declared.Tree.{Tree};
 ghost use Rattle.state.specs.Account.{zipAccounts};
-ghost use Rattle.steps.specs.Fields.{lentLink, Searched, GoesNext};
+ghost use Rattle.steps.specs.Fields.{lentLink, lentTotals, Searched, GoesNext};
 ghost use Rattle.units.specs.declared.Bytes.{Bytes};
 ghost use Rattle.rules.specs.After.{sentLink};
 use crate::inactive::turn_off;
 use state::Link;
-use state::Packet;
+use state::Waiting;
 use state::lent_accounts::account_of;
 use state::lent_accounts::keep_balance;
+use state::mark::grown;
 use state::queue;
 use state::way_up::recount;
 use tree::wide;
@@ -65,10 +66,11 @@ fn pay(i: usize, cost: Bytes, balance: &mut [u64; 64], residual: &[u64; 64])
     keep_balance(0, root.gain(cost), balance);
 }
 
-// The packet that goes, and who is active after it.
+// The packet that goes, who is active after it, and the running total with its charge.
 pub struct Gone {
-    pub packet: Packet,
+    pub packet: Waiting,
     pub active: u64,
+    pub charged: u64,
 }
 
 // Leaf i sends its first packet; if that was its last, it turns inactive at once, and so on up.
@@ -83,33 +85,45 @@ pub(crate) fn goes(
     held: &mut [u8; 64],
     lengths: &[u16; 2048],
     tags: &[u32; 2048],
+    marks: &[u64; 2048],
+    charged: u64,
     packets: &mut [u64; 64],
     bytes: &mut [u64; 64],
 ) -> Gone
     requires { ⌜ ((t : Tree) × (size : Bytes) × (place : ℕ)
         × GoesNext t size place i active count (now parent) (now balance) (now residual) (now start) (now held) (now lengths)
-        (now tags) (now packets) (now bytes)) ⌝ }
+        (now tags) (now marks) (lentTotals (now packets) (now bytes) charged)) ⌝ }
     ensures { λ r. ⌜ ((t : Tree) (size : Bytes) (place : ℕ)
         → GoesNext t size place i active count (now (parent .entry)) (now (balance .entry)) (now (residual .entry)) (now (start .entry))
-        (now (held .entry)) (now (lengths .entry)) (now (tags .entry)) (now (packets .entry)) (now (bytes .entry))
+        (now (held .entry)) (now (lengths .entry)) (now (tags .entry)) (now (marks .entry))
+        (lentTotals (now (packets .entry)) (now (bytes .entry)) charged)
         → (r .packet ≡ packetAt (lentLink t size active place (now (balance .entry)) (now (residual .entry)) (now (start .entry))
-        (now (held .entry)) (now (lengths .entry)) (now (tags .entry)) (now (packets .entry)) (now (bytes .entry))) i 0)
+        (now (held .entry)) (now (lengths .entry)) (now (tags .entry)) (now (marks .entry))
+        (lentTotals (now (packets .entry)) (now (bytes .entry)) charged)) i 0)
         × (lentLink t size (r .active) i (now (balance .exit)) (now (residual .exit)) (now (start .exit)) (now (held .exit))
-        (now (lengths .entry)) (now (tags .entry)) (now (packets .exit)) (now (bytes .exit))
+        (now (lengths .entry)) (now (tags .entry)) (now (marks .entry)) (lentTotals (now (packets .exit)) (now (bytes .exit)) (r .charged))
         ≡ sentLink (lentLink t size active place (now (balance .entry)) (now (residual .entry)) (now (start .entry)) (now (held .entry))
-        (now (lengths .entry)) (now (tags .entry)) (now (packets .entry)) (now (bytes .entry))) i)) ⌝ }
+        (now (lengths .entry)) (now (tags .entry)) (now (marks .entry)) (lentTotals (now (packets .entry)) (now (bytes .entry)) charged))
+        i)) ⌝ }
 {
-    let packet = queue::first(i, start, lengths, tags);
-    pay(i, units::cost(packet.length), balance, residual);
+    let packet = queue::first(i, start, lengths, tags, marks);
+    let cost = units::cost(packet.length);
+    pay(i, cost, balance, residual);
     recount(true, i, packet.length, parent, packets, bytes);
+    let total = grown(charged, cost.0);
     let waiting = wide(held[i]);
     queue::take(i, start, held);
     if 1 < waiting {
-        return Gone { packet, active };
+        return Gone {
+            packet,
+            active,
+            charged: total,
+        };
     }
     let off = turn_off(i, active, count, parent, balance, residual);
     Gone {
         packet,
         active: off,
+        charged: total,
     }
 }

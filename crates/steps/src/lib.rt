@@ -15,9 +15,10 @@ ghost use mathlib.Core.Path.{_≡_};
 ghost use mathlib.Core.List.{List};
 ghost use Prim.Native.Nat.{ℕ};
 ghost use Rattle.state.specs.State.{linkOf};
+ghost use Rattle.state.specs.declared.Totals.{Totals};
 ghost use Rattle.sound.specs.Sound.{SoundLink};
 ghost use Rattle.steps.specs.Rounds.{InFields, Going, Kept, Finds, Departs, wentBy, nothingGoes, Moves};
-ghost use Rattle.steps.specs.Fields.{lentLink, lentTree};
+ghost use Rattle.steps.specs.Fields.{lentLink, lentTotals, lentTree};
 use leaf::Gone;
 use leaf::goes;
 use leaf::next_leaf;
@@ -25,8 +26,8 @@ use reopening::Found;
 use reopening::reopened;
 use state::Account;
 use state::Link;
-use state::Packet;
 use state::Totals;
+use state::Waiting;
 use state::lent_accounts::balances;
 use state::lent_accounts::residuals;
 use state::lent_accounts::zipped;
@@ -34,15 +35,16 @@ use tree::Tree;
 use units::Bytes;
 
 // What a send gives beside the arrays it changes: whether a packet goes, which and of which class, the rounds opened in the call, who is
-// active, the place, the size in force.
+// active, the place, the size in force, the running total.
 pub struct Went {
     pub some: bool,
     pub class: usize,
-    pub packet: Packet,
+    pub packet: Waiting,
     pub rounds: usize,
     pub active: u64,
     pub place: usize,
     pub size: Bytes,
+    pub charged: u64,
 }
 
 // A packet has gone.
@@ -58,21 +60,27 @@ fn has_gone(class: usize, rounds: usize, size: Bytes, gone: Gone) -> Went
         active: gone.active,
         place: class,
         size,
+        charged: gone.charged,
     }
 }
 
 // No packet waits: nothing changes.
-pub fn nothing(size: Bytes, active: u64, place: usize) -> Went
-    ensures { λ r. ⌜ r ≡ nothingGoes size active place ⌝ }
+pub fn nothing(size: Bytes, active: u64, place: usize, charged: u64) -> Went
+    ensures { λ r. ⌜ r ≡ nothingGoes size active place charged ⌝ }
 {
     Went {
         some: false,
         class: 0,
-        packet: Packet { length: 0, tag: 0 },
+        packet: Waiting {
+            length: 0,
+            tag: 0,
+            mark: 0,
+        },
         rounds: 0,
         active,
         place,
         size,
+        charged,
     }
 }
 
@@ -95,18 +103,20 @@ fn next_sender(
     held: &[u8; 64],
     lengths: &[u16; 2048],
 ) -> Found
-    requires { ⌜ ((tags : List ℕ) × (packets : List ℕ) × (bytes : List ℕ)
+    requires { ⌜ ((tags : List ℕ) × (marks : List ℕ) × (totals : Totals)
         × Going (lentTree count leaves (now parent) (now weight) (now longest) follows) size before from
-        (now balance) (now residual) (now start) (now held) (now lengths) tags packets bytes)
+        (now balance) (now residual) (now start) (now held) (now lengths) tags marks totals)
         × Kept (lentTree count leaves (now parent) (now weight) (now longest) follows) known (now kept) ⌝ }
-    ensures { λ r. ⌜ ((tags packets bytes : List ℕ)
+    ensures { λ r. ⌜ ((tags marks : List ℕ) (totals : Totals)
         → Going (lentTree count leaves (now (parent .entry)) (now (weight .entry)) (now (longest .entry)) follows) size before from
-        (now (balance .entry)) (now (residual .entry)) (now (start .entry)) (now (held .entry)) (now (lengths .entry)) tags packets bytes
-        → Finds (lentLink (lentTree count leaves (now (parent .entry)) (now (weight .entry)) (now (longest .entry)) follows) size before from
-        (now (balance .entry)) (now (residual .entry)) (now (start .entry)) (now (held .entry)) (now (lengths .entry)) tags packets bytes) r
-        (λ after active place. lentLink (lentTree count leaves (now (parent .entry)) (now (weight .entry)) (now (longest .entry)) follows) after active
+        (now (balance .entry)) (now (residual .entry)) (now (start .entry)) (now (held .entry)) (now (lengths .entry)) tags marks totals
+        → Finds (lentLink (lentTree count leaves (now (parent .entry)) (now (weight .entry)) (now (longest .entry)) follows) size before
+        from
+        (now (balance .entry)) (now (residual .entry)) (now (start .entry)) (now (held .entry)) (now (lengths .entry)) tags marks totals) r
+        (λ after active place. lentLink (lentTree count leaves (now (parent .entry)) (now (weight .entry)) (now (longest .entry)) follows)
+        after active
         place (now (balance .exit)) (now (residual .exit)) (now (start .entry)) (now (held .entry))
-        (now (lengths .entry)) tags packets bytes)) ⌝ }
+        (now (lengths .entry)) tags marks totals)) ⌝ }
 {
     let i = next_leaf(sets::both(before, leaves), from, balance, start, lengths);
     if i < Link::CLASSES {
@@ -155,22 +165,27 @@ pub fn send(
     held: &mut [u8; 64],
     lengths: &[u16; 2048],
     tags: &[u32; 2048],
+    marks: &[u64; 2048],
+    charged: u64,
     packets: &mut [u64; 64],
     bytes: &mut [u64; 64],
 ) -> Went
     requires { ⌜ InFields (lentTree count leaves (now parent) (now weight) (now longest) follows) size before from
-        (now balance) (now residual) (now start) (now held) (now lengths) (now tags) (now packets) (now bytes)
+        (now balance) (now residual) (now start) (now held) (now lengths) (now tags) (now marks)
+        (lentTotals (now packets) (now bytes) charged)
         × Kept (lentTree count leaves (now parent) (now weight) (now longest) follows) known (now kept) ⌝ }
-    ensures { λ r. ⌜ Departs (lentLink (lentTree count leaves (now (parent .entry)) (now (weight .entry)) (now (longest .entry)) follows) size
+    ensures { λ r. ⌜ Departs (lentLink (lentTree count leaves (now (parent .entry)) (now (weight .entry)) (now (longest .entry)) follows)
+        size
         before from
         (now (balance .entry)) (now (residual .entry)) (now (start .entry)) (now (held .entry)) (now (lengths .entry)) (now (tags .entry))
-        (now (packets .entry)) (now (bytes .entry)))
+        (now (marks .entry))
+        (lentTotals (now (packets .entry)) (now (bytes .entry)) charged))
         r (lentLink (lentTree count leaves (now (parent .entry)) (now (weight .entry)) (now (longest .entry)) follows) (r .size) (r .active)
         (r .place) (now (balance .exit)) (now (residual .exit)) (now (start .exit)) (now (held .exit)) (now (lengths .entry))
-        (now (tags .entry)) (now (packets .exit)) (now (bytes .exit))) ⌝ }
+        (now (tags .entry)) (now (marks .entry)) (lentTotals (now (packets .exit)) (now (bytes .exit)) (r .charged))) ⌝ }
 {
     if packets[0] == 0 {
-        return nothing(size, before, from);
+        return nothing(size, before, from, charged);
     }
     let next = next_sender(
         count,
@@ -201,6 +216,8 @@ pub fn send(
         held,
         lengths,
         tags,
+        marks,
+        charged,
         packets,
         bytes,
     );
@@ -212,7 +229,7 @@ pub fn send(
 pub struct Moved {
     pub some: bool,
     pub class: usize,
-    pub packet: Packet,
+    pub packet: Waiting,
     pub rounds: usize,
     pub active: u64,
     pub place: usize,
@@ -234,10 +251,12 @@ pub fn send_values(
     held: [u8; Link::CLASSES],
     lengths: &[u16; 2048],
     tags: &[u32; 2048],
+    marks: &[u64; 2048],
     totals: Totals,
 ) -> Moved
-    requires { ⌜ SoundLink (linkOf tree size active place accounts start held (now lengths) (now tags) totals) ⌝ }
-    ensures { λ r. ⌜ Moves (linkOf tree size active place accounts start held (now (lengths .entry)) (now (tags .entry)) totals) r ⌝ }
+    requires { ⌜ SoundLink (linkOf tree size active place accounts start held (now lengths) (now tags) (now marks) totals) ⌝ }
+    ensures { λ r. ⌜ Moves
+        (linkOf tree size active place accounts start held (now (lengths .entry)) (now (tags .entry)) (now (marks .entry)) totals) r ⌝ }
 {
     let parent = tree.parent;
     let weights = tree.weight;
@@ -268,6 +287,8 @@ pub fn send_values(
         &mut many,
         lengths,
         tags,
+        marks,
+        totals.charged,
         &mut packets,
         &mut bytes,
     );
@@ -285,6 +306,10 @@ pub fn send_values(
         start: first,
         held: many,
         size: size_after,
-        totals: Totals { packets, bytes },
+        totals: Totals {
+            packets,
+            bytes,
+            charged: went.charged,
+        },
     }
 }

@@ -39,8 +39,10 @@ fn open_until_sent(
         × (sums ≡ weightSums tree active) ⌝ }
     ensures { λ r. ⌜ ((k : Unseen)
         → Opens tree size k active (now (balance .entry)) (now (residual .entry)) (now (start .entry)) (now (lengths .entry))
-        → OnTheWay (closedLink tree size k (now (balance .entry)) (now (residual .entry)) (now (start .entry)) (now (lengths .entry))) (r .class)
-        (openLink tree (r .size) k active (now (balance .exit)) (now (residual .exit)) (now (start .entry)) (now (lengths .entry))) (r .rounds)) ⌝ }
+        → OnTheWay (closedLink tree size k (now (balance .entry)) (now (residual .entry)) (now (start .entry)) (now (lengths .entry)))
+        (r .class)
+        (openLink tree (r .size) k active (now (balance .exit)) (now (residual .exit)) (now (start .entry)) (now (lengths .entry)))
+        (r .rounds)) ⌝ }
     ensures { λ r. ⌜ (r .class < 64) × (r .active ≡ active) ⌝ }
 {
     let leaves = sets::both(active, tree.leaves);
@@ -79,16 +81,18 @@ pub(crate) fn reopened(
     lengths: &[u16; 2048],
 ) -> Found
     requires { ⌜ ((k : Unseen) × (k .held ≡ now held)
-        × Closed (lentTree count leaves (now parent) (now weight) (now longest) follows) size k (now balance) (now residual) (now start) (now lengths))
+        × Closed (lentTree count leaves (now parent) (now weight) (now longest) follows) size k (now balance) (now residual) (now start)
+        (now lengths))
         × Kept (lentTree count leaves (now parent) (now weight) (now longest) follows) known (now kept) ⌝ }
     ensures { λ r. ⌜ ((k : Unseen) → k .held ≡ now (held .entry)
         → Closed (lentTree count leaves (now (parent .entry)) (now (weight .entry)) (now (longest .entry)) follows) size k
         (now (balance .entry)) (now (residual .entry)) (now (start .entry)) (now (lengths .entry))
         → Finds (closedLink (lentTree count leaves (now (parent .entry)) (now (weight .entry)) (now (longest .entry)) follows) size k
         (now (balance .entry)) (now (residual .entry)) (now (start .entry)) (now (lengths .entry))) r
-        (λ after active place. lentLink (lentTree count leaves (now (parent .entry)) (now (weight .entry)) (now (longest .entry)) follows) after
+        (λ after active place. lentLink (lentTree count leaves (now (parent .entry)) (now (weight .entry)) (now (longest .entry)) follows)
+        after
         active place (now (balance .exit)) (now (residual .exit)) (now (start .entry)) (k .held) (now (lengths .entry)) (k .tags)
-        (k .packets) (k .bytes))) ⌝ }
+        (k .marks) (k .totals))) ⌝ }
 {
     let p = *parent;
     let w = weights_of(weight);

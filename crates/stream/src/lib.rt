@@ -34,7 +34,7 @@ fn last_length(link: Link, input: &[u8], place: usize) -> usize
     ensures { λ r. ⌜ r ≡ length (bytesOf (lastLine (eventAt (drop place (now (input .entry))) place) link)) ⌝ }
 {
     let rest = plan::events_after(input, place);
-    let mut text = [0u8; 96];
+    let mut text = [0u8; 112];
     lines::lay(last_line(link, rest, place), &mut text)
 }
 

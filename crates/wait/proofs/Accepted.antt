@@ -17,6 +17,7 @@ use Rattle.tree.proofs.Rules.{weight-range, longest-range, size-ceiling}
 use Rattle.tree.specs.Size.{roundSize, mostSize}
 use Rattle.state.specs.declared.Packet.{Packet}
 use Rattle.state.specs.Account.{balanceOf}
+use Rattle.state.specs.Mark.{markedWith}
 use Rattle.state.specs.Queue.{noPacket, bytesIn}
 use Rattle.state.specs.State.{State, queueAt}
 use Rattle.state.proofs.Bytes.{bytes-most}
@@ -63,7 +64,11 @@ module _ (s : State) (i : ℕ) (p : Packet) (sound : Sound s) (wide : Wide s) (u
   pub accepted-holds : Holds (arrived s i p) i (length (queueAt s i))
   accepted-holds = record {
     sound = after;
-    wide = record { accounts = wide .accounts; queues = length-set (s .queues) i (queueAt s i ++ (p ∷ [])) ∙ wide .queues };
+    wide = record {
+      accounts = wide .accounts;
+      queues = length-set (s .queues) i (queueAt s i ++ (markedWith (s .totals .charged) p ∷ []))
+          ∙ wide .queues;
+    };
     low = u;
     leaf = taken true s i p accepted .leaf;
     behind = omega (arith, length-arrived s i p inside);

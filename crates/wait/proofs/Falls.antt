@@ -13,7 +13,7 @@ use Rattle.tree.specs.Class.{weightOf}
 use Rattle.tree.specs.Size.{roundSize}
 use Rattle.tree.proofs.Classes.{class-range}
 use Rattle.state.specs.declared.Account.{Account}
-use Rattle.state.specs.declared.Packet.{Packet}
+use Rattle.state.specs.declared.Waiting.{Waiting}
 use Rattle.state.specs.Account.{accountOf, balanceOf, fundsOf, sentFrom}
 use Rattle.state.specs.Queue.{bytesIn}
 use Rattle.state.specs.State.{State, queueAt}
@@ -154,7 +154,7 @@ module _ (s : State) (i k j : ℕ) (h : Holds s i k) (is : Sender s j) (ne : i �
   other-lacking : lacking (sentState s j) i k ≡ lacking s i k
   unfolding sentState lacking bytesUpTo
   other-lacking =
-      ap₂ (λ (q : List Packet) (a : Account). bytesIn (take (suc k) q) - a .balance .0) (sent-other s j i ne)
+      ap₂ (λ (q : List Waiting) (a : Account). bytesIn (take (suc k) q) - a .balance .0) (sent-other s j i ne)
       (sent-books s j (h .sound) (h .wide) is .accounts i (h .leaf) ne)
 
   pub other-falls : falling (sentState s j) i k + costOf (firstOf s j .length) ≤ falling s i k
@@ -182,7 +182,7 @@ module _ (s : State) (i k : ℕ) (h : Holds s i (suc k)) (is : Sender s i) where
   own-lacking : lacking (sentState s i) i k ≡ lacking s i (suc k)
   unfolding sentState lacking bytesUpTo
   own-lacking =
-      let bytes = ap (λ (q : List Packet). bytesIn (take (suc k) q)) (sent-queue s i (h .wide) (h .low)) in
+      let bytes = ap (λ (q : List Waiting). bytesIn (take (suc k) q)) (sent-queue s i (h .wide) (h .low)) in
       let balance = ap (λ (a : Account). a .balance .0) own-account in
       omega (arith, bytes, balance, bytes-without (queueAt s i) k (h .behind), is .covers)
 

@@ -21,7 +21,9 @@ use Rattle.tree.proofs.Classes.{class-range}
 use Rattle.tree.proofs.Sums.{some-found}
 use Rattle.state.specs.declared.Link.{Link}
 use Rattle.state.specs.declared.Packet.{Packet}
+use Rattle.state.specs.declared.Waiting.{Waiting}
 use Rattle.state.specs.Account.{balanceOf}
+use Rattle.state.specs.Mark.{markedWith}
 use Rattle.state.specs.Queue.{bytesIn}
 use Rattle.state.specs.State.{State, meaning, queueAt}
 use Rattle.sound.specs.Sound.{SoundLink}
@@ -53,7 +55,7 @@ module _ (s : State) (i k j : ℕ) (p : Packet) (h : Holds s i k) (u : j < 64) w
       go : Dec (i ≡ j) → take (suc k) (queueAt (arrived s j p) i) ≡ take (suc k) (queueAt s i)
       go (yes e) =
           let room : suc k ≤ length (queueAt s j) = omega (arith, ap (λ (x : ℕ). length (queueAt s x)) e, h .behind) in
-          rw (e, queue-arrived s j p inside) (take-append-le (suc k) (queueAt s j) (p ∷ []) room)
+          rw (e, queue-arrived s j p inside) (take-append-le (suc k) (queueAt s j) (markedWith (s .totals .charged) p ∷ []) room)
       go (no ne) = ap (take (suc k)) (queue-other s j p inside i ne)
 
   arrived-behind : k < length (queueAt (arrived s j p) i)
@@ -66,7 +68,11 @@ module _ (s : State) (i k j : ℕ) (p : Packet) (h : Holds s i k) (u : j < 64) w
   arrived-holds : Taken true s j p → Holds (arrived s j p) i k
   arrived-holds t = record {
     sound = arrival-keeps s j p u (h .wide .queues) (h .sound) t;
-    wide = record { accounts = h .wide .accounts; queues = length-set (s .queues) j (queueAt s j ++ (p ∷ [])) ∙ h .wide .queues };
+    wide = record {
+      accounts = h .wide .accounts;
+      queues = length-set (s .queues) j
+          (queueAt s j ++ (markedWith (s .totals .charged) p ∷ [])) ∙ h .wide .queues;
+    };
     low = h .low;
     leaf = h .leaf;
     behind = arrived-behind;
@@ -75,7 +81,8 @@ module _ (s : State) (i k j : ℕ) (p : Packet) (h : Holds s i k) (u : j < 64) w
   arrived-same : falling (arrived s j p) i k ≡ falling s i k
   unfolding falling credit mains lacking bytesUpTo
   arrived-same =
-      ap (λ (q : List Packet). credit s + roundSize (s .tree) * overRoundedUp (bytesIn q - balanceOf (s .accounts) i) (weightOf (s .tree) i))
+      ap (λ (q : List Waiting). credit s + roundSize (s .tree) * overRoundedUp (bytesIn q - balanceOf (s .accounts) i)
+      (weightOf (s .tree) i))
       arrived-upto
 
 -- what an arrival leaves
@@ -83,6 +90,7 @@ pub record ArrivalKeeps (s : State) (i k : ℕ) (after : State) : Type 0 where
   pub holds : Holds after i k
   pub same : falling after i k ≡ falling s i k
   pub packet : packetBehind after i k ≡ packetBehind s i k
+  pub total : after .totals .charged ≡ s .totals .charged
 
 -- whatever the arrival is, taken or refused
 pub any-arrival : (l : Link) (i k j : ℕ) (p : Packet) (a : AfterArrival) → SoundLink l → Arrives l j p a → Holds (meaning l) i k
@@ -98,10 +106,11 @@ any-arrival l i k j p a sound x h = go (refused-or-passed (firstBroken (arrivalC
           holds = arrived-holds (meaning l) i k j p h u (taken true (meaning l) j p e);
           same = arrived-same (meaning l) i k j p h u;
           packet = arrived-packet (meaning l) i k j p h u;
+          total = refl;
         })
     go (inr r) =
         subst (λ (m : Link). ArrivalKeeps (meaning l) i k (meaning m)) (sym (left-refused l j p a sound x (r .2)))
-        (record { holds = h; same = refl; packet = refl })
+        (record { holds = h; same = refl; packet = refl; total = refl })
 
 -- ---- a send
 

@@ -46,7 +46,7 @@ use Rattle.state.specs.State.{linkOf}
 use Rattle.calls.specs.declared.ClassTotals.{ClassTotals}
 use Rattle.lent.proofs.Returns.{returned}
 use Rattle.lent.proofs.Lends.{Known, opened, closed}
-use Rattle.lent.proofs.Fields.{type-at, typed, fields-of, same, handed, as-held, small, small-vals, to, shr-lengths}
+use Rattle.lent.proofs.Fields.{type-at, typed, fields-of, same, as-held, small, small-vals, to, row-at, shr}
 use Rattle.lent.proofs.Fields.{apart, together, lengths-shared, lengths-unshared, by-value}
 use Rattle.state.proofs.Link as L
 use Rattle.calls.proofs.ClassTotals as S
@@ -98,9 +98,9 @@ module _ {M : Type 1} (𝓤 : URA M) (H : Heap 𝓤) (A : Atoms 𝓤) (W : Given
 
   -- what the call over fields says of its result
   abbrev Said : ClassTotals → Type 0
-  Said r = (tags : List ℕ)
+  Said r = (tags marks : List ℕ)
       → TellsClass (linkOf (h .tree) (h .size) (h .active) (h .place) (h .accounts) (same (h .start)) (same (h .held)) (same (h .lengths))
-      tags (h .totals)) i r
+      tags marks (h .totals)) i r
 
   abbrev to-core : ℕ → GName → Core 𝓤 H A W at-mem run .Ghost
   to-core α γ₇ = (
@@ -116,10 +116,10 @@ module _ {M : Type 1} (𝓤 : URA M) (H : Heap 𝓤) (A : Atoms 𝓤) (W : Given
 
   -- what the call requires: the token, what is lent, and plain facts
   goes-core : Known h → (α : ℕ) (γ₇ : GName)
-      → ent 𝓤 (sep 𝓤 (A .lft (α ∷ []) fullShare) (sem 𝓤 H A (shr-lengths b o α γ₇ (same (h .lengths)))))
+      → ent 𝓤 (sep 𝓤 (A .lft (α ∷ []) fullShare) (sem 𝓤 H A (shr (row-at 7) (same (h .lengths)) b (o + 1_648) α γ₇)))
       (Core 𝓤 H A W at-mem run .pre (to-core α γ₇))
   goes-core is α γ₇ =
-      qed W (‵ (flft (α ∷ []) fullShare) ∷ ‵ (shr-lengths b o α γ₇ (same (h .lengths))) ∷ []) ∵
+      qed W (‵ (flft (α ∷ []) fullShare) ∷ ‵ (shr (row-at 7) (same (h .lengths)) b (o + 1_648) α γ₇) ∷ []) ∵
       nothing ! $ move ! (1 ∷ 0 ∷ []) $ join ! $ nothing ! $
       owned ! usize (Is usize) (uint-makes 𝓤 H A W w64) i (vint w64 i ∷ []) (refl, fits) $ fjoin ! $
       move ! (2 ∷ 0 ∷ []) $ fjoin ! $
@@ -131,7 +131,7 @@ module _ {M : Type 1} (𝓤 : URA M) (H : Heap 𝓤) (A : Atoms 𝓤) (W : Given
 
   -- which is told of the record
   told : (r : ClassTotals) → Said r → TellsClass h i r
-  told r e = subst (λ (l : Link). TellsClass l i r) (as-held h) (e (same (h .tags)))
+  told r e = subst (λ (l : Link). TellsClass l i r) (as-held h) (e (same (h .tags)) (same (h .marks)))
 
   module _ (C : Calls 𝓤 H) (Λ : Loops 𝓤 H) (fm : FmC 𝓤 H (W .laws) C) (known : Triple 𝓤 (C #core) (Core 𝓤 H A W at-mem run)) where
     walk : ent 𝓤 (onEntry 𝓤 H A lent.signature (κ, tt) (q, tt) x at) (WpFn 𝓤 H C Λ code.function args Post)
@@ -145,57 +145,57 @@ module _ {M : Type 1} (𝓤 : URA M) (H : Heap 𝓤) (A : Atoms 𝓤) (W : Given
         (λ l₆. alloc1 ! (λ l₇. alloc1 ! (λ l₈. alloc1 ! (λ l₉. alloc1 ! (λ l₁₀. alloc1 ! (λ l₁₁. alloc0 ! $ params1 ! $
         pass1 ! (init ! 20 refl (tt, tt)) $ pass1 ! (init ! 18 refl (tt, record { fits = fits })) $ pass0 ! $
         move ! (24 ∷ 25 ∷ 26 ∷ []) $ opened ! tt h b o (λ is. let ps = fields-of h is in apart ! h b o $
-        -- [the ten cells; the way back; the open borrow; obs; auth; _11; …; _10; …; _0; …]
-        assigns ! (of-opd ! (load ! (from ! (hop ! (look ! 34 refl) (fld ! {τ = type-at 0} {d = 0} refl (stop !))))
+        -- [the eleven cells; the way back; the open borrow; obs; auth; _11; …; _10; …; _0; …]
+        assigns ! (of-opd ! (load ! (from ! (hop ! (look ! 35 refl) (fld ! {τ = type-at 0} {d = 0} refl (stop !))))
         (look-raw ! 0 {τ = type-at 0} refl))) (from ! (stop !))
-        (init ! 30 refl (typed 𝓤 H A W 0 (h .tree) (ps .0) .0)) $
-        assigns ! (of-opd ! (load ! (from ! (hop ! (look ! 34 refl) (fld ! {τ = type-at 1} {d = 472} refl (stop !))))
+        (init ! 31 refl (typed 𝓤 H A W 0 (h .tree) (ps .0) .0)) $
+        assigns ! (of-opd ! (load ! (from ! (hop ! (look ! 35 refl) (fld ! {τ = type-at 1} {d = 472} refl (stop !))))
         (look-raw ! 1 {τ = type-at 1} refl))) (from ! (stop !))
-        (init ! 28 refl (typed 𝓤 H A W 1 (h .size) (ps .1 .0) .0)) $
-        assigns ! (of-opd ! (load ! (from ! (hop ! (look ! 34 refl) (fld ! {τ = type-at 2} {d = 480} refl (stop !))))
+        (init ! 29 refl (typed 𝓤 H A W 1 (h .size) (ps .1 .0) .0)) $
+        assigns ! (of-opd ! (load ! (from ! (hop ! (look ! 35 refl) (fld ! {τ = type-at 2} {d = 480} refl (stop !))))
         (look-raw ! 2 {τ = type-at 2} refl))) (from ! (stop !))
-        (init ! 26 refl (typed 𝓤 H A W 2 (h .active) (ps .1 .1 .0) .0)) $
-        assigns ! (of-opd ! (load ! (from ! (hop ! (look ! 34 refl) (fld ! {τ = type-at 3} {d = 488} refl (stop !))))
+        (init ! 27 refl (typed 𝓤 H A W 2 (h .active) (ps .1 .1 .0) .0)) $
+        assigns ! (of-opd ! (load ! (from ! (hop ! (look ! 35 refl) (fld ! {τ = type-at 3} {d = 488} refl (stop !))))
         (look-raw ! 3 {τ = type-at 3} refl))) (from ! (stop !))
-        (init ! 24 refl (typed 𝓤 H A W 3 (h .place) (ps .1 .1 .1 .0) .0)) $
-        assigns ! (of-opd ! (load ! (from ! (hop ! (look ! 34 refl) (fld ! {τ = type-at 4} {d = 496} refl (stop !))))
+        (init ! 25 refl (typed 𝓤 H A W 3 (h .place) (ps .1 .1 .1 .0) .0)) $
+        assigns ! (of-opd ! (load ! (from ! (hop ! (look ! 35 refl) (fld ! {τ = type-at 4} {d = 496} refl (stop !))))
         (look-raw ! 4 {τ = type-at 4} refl))) (from ! (stop !))
-        (init ! 22 refl (typed 𝓤 H A W 4 (h .accounts) (ps .1 .1 .1 .1 .0) .0)) $
-        assigns ! (of-opd ! (load ! (from ! (hop ! (look ! 34 refl) (fld ! {τ = type-at 5} {d = 1_520} refl (stop !))))
+        (init ! 23 refl (typed 𝓤 H A W 4 (h .accounts) (ps .1 .1 .1 .1 .0) .0)) $
+        assigns ! (of-opd ! (load ! (from ! (hop ! (look ! 35 refl) (fld ! {τ = type-at 5} {d = 1_520} refl (stop !))))
         (look-raw ! 5 {τ = type-at 5} refl))) (from ! (stop !))
-        (init ! 20 refl (typed 𝓤 H A W 5 (h .start) (ps .1 .1 .1 .1 .1 .0) .0)) $
-        assigns ! (of-opd ! (load ! (from ! (hop ! (look ! 34 refl) (fld ! {τ = type-at 6} {d = 1_584} refl (stop !))))
+        (init ! 21 refl (typed 𝓤 H A W 5 (h .start) (ps .1 .1 .1 .1 .1 .0) .0)) $
+        assigns ! (of-opd ! (load ! (from ! (hop ! (look ! 35 refl) (fld ! {τ = type-at 6} {d = 1_584} refl (stop !))))
         (look-raw ! 6 {τ = type-at 6} refl))) (from ! (stop !))
-        (init ! 18 refl (typed 𝓤 H A W 6 (h .held) (ps .1 .1 .1 .1 .1 .1 .0) .0)) $
-        assigns ! (of-opd ! (load ! (from ! (hop ! (look ! 34 refl) (fld ! {τ = type-at 9} {d = 13_936} refl (stop !))))
-        (look-raw ! 9 {τ = type-at 9} refl))) (from ! (stop !))
-        (init ! 16 refl (typed 𝓤 H A W 9 (h .totals) (ps .1 .1 .1 .1 .1 .1 .1 .1 .1 .0) .0)) $
-        assigns ! (addr ! (from ! (hop ! (look ! 34 refl) (fld ! {τ = type-at 7} {d = 1_648} refl (stop !))))) (from ! (stop !))
-        (init ! 14 refl (tt, tt)) $
+        (init ! 19 refl (typed 𝓤 H A W 6 (h .held) (ps .1 .1 .1 .1 .1 .1 .0) .0)) $
+        assigns ! (of-opd ! (load ! (from ! (hop ! (look ! 35 refl) (fld ! {τ = type-at 10} {d = 30_320} refl (stop !))))
+        (look-raw ! 10 {τ = type-at 10} refl))) (from ! (stop !))
+        (init ! 17 refl (typed 𝓤 H A W 10 (h .totals) (ps .1 .1 .1 .1 .1 .1 .1 .1 .1 .1 .0) .0)) $
+        assigns ! (addr ! (from ! (hop ! (look ! 35 refl) (fld ! {τ = type-at 7} {d = 1_648} refl (stop !))))) (from ! (stop !))
+        (init ! 15 refl (tt, tt)) $
         move ! (7 ∷ []) $
         lengths-shared ! tt (h .lengths) b o (ps .1 .1 .1 .1 .1 .1 .1 .0) (λ α γ₇.
         use2 W (raw (Core 𝓤 H A W at-mem run .pre (to-core α γ₇))) (goes-core is α γ₇) $
         calls-at ! fm (Core 𝓤 H A W at-mem run) known (to-core α γ₇)
-        (and-then ! (load ! (from ! (stop !)) (look ! 31 refl))
-        (and-then ! (load ! (from ! (stop !)) (look ! 29 refl))
-        (and-then ! (load ! (from ! (stop !)) (look ! 27 refl))
-        (and-then ! (load ! (from ! (stop !)) (look ! 25 refl))
-        (and-then ! (load ! (from ! (stop !)) (look ! 23 refl))
-        (and-then ! (load ! (from ! (stop !)) (look ! 21 refl))
-        (and-then ! (load ! (from ! (stop !)) (look ! 19 refl))
-        (and-then ! (load ! (from ! (stop !)) (look ! 17 refl))
-        (and-then ! (load ! (from ! (stop !)) (look ! 15 refl))
-        (and-then ! (load ! (from ! (stop !)) (look ! 33 refl)) (no-more !)))))))))))
+        (and-then ! (load ! (from ! (stop !)) (look ! 32 refl))
+        (and-then ! (load ! (from ! (stop !)) (look ! 30 refl))
+        (and-then ! (load ! (from ! (stop !)) (look ! 28 refl))
+        (and-then ! (load ! (from ! (stop !)) (look ! 26 refl))
+        (and-then ! (load ! (from ! (stop !)) (look ! 24 refl))
+        (and-then ! (load ! (from ! (stop !)) (look ! 22 refl))
+        (and-then ! (load ! (from ! (stop !)) (look ! 20 refl))
+        (and-then ! (load ! (from ! (stop !)) (look ! 18 refl))
+        (and-then ! (load ! (from ! (stop !)) (look ! 16 refl))
+        (and-then ! (load ! (from ! (stop !)) (look ! 34 refl)) (no-more !)))))))))))
         (λ v.
         returned ! tt S.the-row Said (‵ (flft (α ∷ []) fullShare) ⊛ ‵ ftrue) v _
         (ensured 𝓤 H A core.ended (core.clauses 𝓤 H A at-mem run) (α ∷ [], tt) (to-core α γ₇ .0 .3) tt) (id⊢ 𝓤 _) (said-of α γ₇)
         (λ r e is₁.
         let isr = subst (Is S.the-row r) (LL.tells S.the-type S′.the-laws r (v ∷ []) is₁) is₁ in
         split ! $ move ! (1 ∷ []) $ drop ! $
-        -- [the token; the lender's part; the nine cells; …]
-        land ! (from ! (stop !)) (init ! 37 refl (LL.lawful S.the-type S′.the-laws 𝓤 H A W .typed r _ is₁ .0)) $
-        rewrite ! 37 (λ (us : List Val). ‵ (fat fullShare S′.mir l₀ zero (only us))) (LL.tells S.the-type S′.the-laws r (v ∷ []) is₁) refl $
-        lengths-unshared ! tt (h .lengths) b o $ move ! (1 ∷ 2 ∷ 3 ∷ 4 ∷ 5 ∷ 6 ∷ 7 ∷ 0 ∷ []) $
+        -- [the token; the lender's part; the ten cells; …]
+        land ! (from ! (stop !)) (init ! 38 refl (LL.lawful S.the-type S′.the-laws 𝓤 H A W .typed r _ is₁ .0)) $
+        rewrite ! 38 (λ (us : List Val). ‵ (fat fullShare S′.mir l₀ zero (only us))) (LL.tells S.the-type S′.the-laws r (v ∷ []) is₁) refl $
+        lengths-unshared ! tt (h .lengths) b o γ₇ $ move ! (1 ∷ 2 ∷ 3 ∷ 4 ∷ 5 ∷ 6 ∷ 7 ∷ 0 ∷ []) $
         together ! h b o $ closed ! tt h is b o $
         -- [obs; the borrow; the token; _11; …; _0; …]
         returns ! (look ! 25 refl) $

@@ -12,8 +12,8 @@ slice-aggregate-put c = search needs
 put-requires : tie.Need-put-requires
 put-requires c κs = search needs
 
-put-last-four-requires : tie.Need-put-last-four-requires
-put-last-four-requires c κs = search needs
+put-last-five-requires : tie.Need-put-last-five-requires
+put-last-five-requires c κs = search needs
 
 same-length : tie.Need-same-length
 same-length c = search needs
@@ -23,8 +23,8 @@ unfolding bytesOf
 returns c =
     let l = c .before .before in
     let w = l .before .before .before .before in
-    let laid = laid-end _ _ _ _ _ _ _ _ (omega arith) (w .put .ensures) (l .put-last-four .ensures .0) in
-    (laid, omega (arith, w .put .ensures .0, l .put-last-four .ensures .1))
+    let laid = laid-end _ _ _ _ _ _ _ _ (omega arith) (w .put .ensures) (l .put-last-five .ensures .0) in
+    (laid, omega (arith, w .put .ensures .0, l .put-last-five .ensures .1))
 
 pub lay-out-spec : {M : Type 1} → statement M
-lay-out-spec = tie.close (tie.spec slice-aggregate-put put-requires put-last-four-requires same-length returns)
+lay-out-spec = tie.close (tie.spec slice-aggregate-put put-requires put-last-five-requires same-length returns)

@@ -24,23 +24,24 @@ is-sound-of-requires c κs = search needs
 abbrev whole : tie.Start → Link
 whole st =
     let a = st .args in
-    linkOf (a .tree) (a .size) (a .active) (a .place) (a .accounts) (a .t6) (a .held) (a .lengths .now) (a .tags .now) (a .totals)
+    linkOf (a .tree) (a .size) (a .active) (a .place) (a .accounts) (a .t6) (a .held) (a .lengths .now) (a .tags .now) (a .marks .now)
+    (a .totals)
 
 arrive-requires : tie.Need-arrive-requires
 arrive-requires c κs =
-    let s = c .before .before .before .before .before .before .before .before .before .before .before .before in
+    let s = c .before .before .before .before .before .before .before .before .before .before .before .before .before in
     let l = whole (s .before .before) in
-    λ yes′. sound-climbs l (s .is-sound-of .ensures (l .tags) .sound yes′)
+    λ yes′. sound-climbs l (s .is-sound-of .ensures (l .tags) (l .marks) .sound yes′)
 
 returns : tie.Need-returns
 returns c =
-    let s = c .before .before .before .before .before .before .before .before .before .before .before .before .before in
+    let s = c .before .before .before .before .before .before .before .before .before .before .before .before .before .before in
     let l = whole (s .before .before) in
     record {
       sound = s .is-sound-of .result;
-      exactly = s .is-sound-of .ensures (l .tags);
+      exactly = s .is-sound-of .ensures (l .tags) (l .marks);
       gives = c .arrive .ensures l refl refl refl
-          (λ on. record { sound = s .is-sound-of .ensures (l .tags) .sound on; wide = counts (s .before .before) });
+          (λ on. record { sound = s .is-sound-of .ensures (l .tags) (l .marks) .sound on; wide = counts (s .before .before) });
     }
 
 pub arrive-in-spec : {M : Type 1} → statement M

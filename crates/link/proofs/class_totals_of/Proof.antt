@@ -14,9 +14,10 @@ class-in-requires : tie.Need-class-in-requires
 class-in-requires c κs = search needs
 
 returns : tie.Need-returns
-returns c = λ tags.
+returns c = λ tags marks.
     let t = c .before in
-    class-told _ (t .before .args .class) (t .totals-of .result) (c .class-in .result) (t .totals-of .ensures tags) (c .class-in .ensures)
+    class-told _ (t .before .args .class) (t .totals-of .result) (c .class-in .result) (t .totals-of .ensures tags marks)
+    (c .class-in .ensures)
 
 pub class-totals-of-spec : {M : Type 1} → statement M
 class-totals-of-spec = tie.close (tie.spec totals-of-requires class-in-requires returns)

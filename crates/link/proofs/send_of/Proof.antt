@@ -16,7 +16,8 @@ use Rattle.link.proofs.send_of.Tie as tie
 abbrev whole : tie.Start → Link
 whole s =
     let a = s .args in
-    linkOf (a .tree) (a .size) (a .active) (a .place) (a .accounts) (a .start) (a .held) (a .lengths .now) (a .tags .now) (a .totals)
+    linkOf (a .tree) (a .size) (a .active) (a .place) (a .accounts) (a .start) (a .held) (a .lengths .now) (a .tags .now) (a .marks .now)
+    (a .totals)
 
 is-sound-of-requires : tie.Need-is-sound-of-requires
 is-sound-of-requires c κs = search needs
@@ -29,13 +30,13 @@ returns c =
     let s = c .before .before in
     let l = whole (s .before) in
     let off = not-true (s .is-sound-of .result) (c .before .if1 .taken) in
-    stays-sends l (s .is-sound-of .result) (s .is-sound-of .ensures (l .tags)) (c .stays .result) 11
+    stays-sends l (s .is-sound-of .result) (s .is-sound-of .ensures (l .tags) (l .marks)) (c .stays .result) 11
     (ap (λ (b : Bool). sendOf b l) off ∙ send-unsound l) (c .stays .ensures)
 
 send-values-requires : tie.Need-send-values-requires
 send-values-requires c κs =
     let s = c .before in
-    s .is-sound-of .ensures (whole (s .before) .tags) .sound (not-false (s .is-sound-of .result) (c .if1 .left))
+    s .is-sound-of .ensures (whole (s .before) .tags) (whole (s .before) .marks) .sound (not-false (s .is-sound-of .result) (c .if1 .left))
 
 stays-requires-2 : tie.Need-stays-requires-2
 stays-requires-2 c κs = search needs
@@ -52,7 +53,7 @@ returns-2 c =
     let l = whole (s .before) in
     let on = not-false (s .is-sound-of .result) (i .if1 .left) in
     let none = sym (moves v .some) ∙ not-true (v .send-values .result .some) (c .before .if2 .taken) in
-    stays-sends l (s .is-sound-of .result) (s .is-sound-of .ensures (l .tags)) (c .stays2 .result) 15
+    stays-sends l (s .is-sound-of .result) (s .is-sound-of .ensures (l .tags) (l .marks)) (c .stays2 .result) 15
     (ap (λ (b : Bool). sendOf b l) on ∙ send-nothing l none) (c .stays2 .ensures)
 
 goes-requires : tie.Need-goes-requires
@@ -64,7 +65,7 @@ returns-3 c =
     let i = v .before in
     let s = i .before in
     let l = whole (s .before) in
-    goes-sends l (s .is-sound-of .result) (s .is-sound-of .ensures (l .tags)) (c .goes .result) (v .send-values .result)
+    goes-sends l (s .is-sound-of .result) (s .is-sound-of .ensures (l .tags) (l .marks)) (c .goes .result) (v .send-values .result)
     (not-false (s .is-sound-of .result) (i .if1 .left)) (moves v) (not-false (v .send-values .result .some) (c .before .if2 .left))
     (c .goes .ensures)
 

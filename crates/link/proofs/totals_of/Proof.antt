@@ -20,10 +20,10 @@ use Rattle.link.proofs.totals_of.Statement.{statement}
 use Rattle.link.proofs.totals_of.Tie as tie
 
 -- the link that the fields make up
-abbrev whole : tie.Start → List ℕ → Link
-whole st tags =
+abbrev whole : tie.Start → List ℕ → List ℕ → Link
+whole st tags marks =
     let a = st .args in
-    linkOf (a .tree) (a .size) (a .active) (a .place) (a .accounts) (a .start) (a .held) (a .lengths .now) tags (a .totals)
+    linkOf (a .tree) (a .size) (a .active) (a .place) (a .accounts) (a .start) (a .held) (a .lengths .now) tags marks (a .totals)
 
 is-sound-of-requires : tie.Need-is-sound-of-requires
 is-sound-of-requires c κs = search needs
@@ -32,31 +32,31 @@ none-requires : tie.Need-none-requires
 none-requires c κs = search needs
 
 returns : tie.Need-returns
-returns c = λ tags.
+returns c = λ tags marks.
     let s = c .before .before in
     let off = not-true (s .is-sound-of .result) (c .before .if1 .taken) in
     record {
       sound = s .is-sound-of .result;
-      exactly = s .is-sound-of .ensures tags;
+      exactly = s .is-sound-of .ensures tags marks;
       answer =
           ap (λ (n : Totals). record { verdict = Refused 11 0; totals = n }) (c .none .ensures)
-          ∙ sym (ap (λ (b : Bool). panelGives b (whole (s .before) tags)) off);
+          ∙ sym (ap (λ (b : Bool). panelGives b (whole (s .before) tags marks)) off);
     }
 
 returns-2 : tie.Need-returns-2
-returns-2 c = λ tags.
+returns-2 c = λ tags marks.
     let s = c .before in
     let st = s .before in
     let on = not-false (s .is-sound-of .result) (c .if1 .left) in
-    let l = whole st tags in
+    let l = whole st tags marks in
     let n = LL.owed N.the-type N′.the-laws (st .args .totals) _ (st .good .1 .1 .1 .1 .1 .1 .1 .0) in
     let right =
-    sound-totals l (s .is-sound-of .ensures tags .sound on) (sym (length-map (l .totals .packets) _) ∙ n .0 .1 .0 .1)
+    sound-totals l (s .is-sound-of .ensures tags marks .sound on) (sym (length-map (l .totals .packets) _) ∙ n .0 .1 .0 .1)
     (sym (length-map (l .totals .bytes) _) ∙ n .1 .0 .1 .0 .1)
     in
     record {
       sound = s .is-sound-of .result;
-      exactly = s .is-sound-of .ensures tags;
+      exactly = s .is-sound-of .ensures tags marks;
       answer =
           ap (λ (x : Totals). record { verdict = Passed; totals = x }) right
           ∙ sym (ap (λ (b : Bool). panelGives b l) on);

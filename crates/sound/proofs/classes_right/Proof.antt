@@ -43,17 +43,17 @@ Inv-loop size active place lengths tree accounts start held totals waiting₀ co
     × (parents ≡ parentsDown tree active (64 - n))
     × (1 ≤ n → Added 0 number 63 64 (ofChild tree (λ j. getD (totals .packets) j 0)) waiting (n - 1))
     × (1 ≤ n → Added 0 number 63 64 (ofChild tree (λ j. getD (totals .bytes) j 0)) cost (n - 1))
-    × ((tags : List ℕ) (k : ℕ) → n ≤ k → k < 64
-    → ClassRight (viewOf (linkOf tree size active place accounts start held lengths tags totals) k) lengths (longestOf tree k))
+    × ((tags marks : List ℕ) (k : ℕ) → n ≤ k → k < 64
+    → ClassRight (viewOf (linkOf tree size active place accounts start held lengths tags marks totals) k) lengths (longestOf tree k))
 
 abbrev μ-loop : tie.MeasureT-loop
 μ-loop size active place lengths tree accounts start held totals waiting₀ cost₀ sum₀ parents₀ n₀ waiting cost sum parents n = n
 
--- the link that the arguments make up, with any tags
-abbrev made : (c : tie.After-class-right Inv-loop μ-loop) → List ℕ → Link
-made c tags =
+-- the link that the arguments make up, with any tags and marks
+abbrev made : (c : tie.After-class-right Inv-loop μ-loop) → List ℕ → List ℕ → Link
+made c tags marks =
     let a = c .before .before .before .before .before .before .before .before .before .before .args in
-    linkOf (a .t1) (a .size) (a .active) (a .place) (a .t5) (a .t6) (a .t7) (a .lengths .now) tags (a .t9)
+    linkOf (a .t1) (a .size) (a .active) (a .place) (a .t5) (a .t6) (a .t7) (a .lengths .now) tags marks (a .t9)
 
 -- the class at hand
 abbrev class-at : (c : tie.After-class-right Inv-loop μ-loop) → ℕ
@@ -70,9 +70,9 @@ unfolding viewOf isLeaf
 view-by-steps l i parents waiting cost numbers flagged v n f t p w c = rw (t, f, n, p, w, c) refl
 
 -- the numbers that were read are those of the class
-view-is : (c : tie.After-class-right Inv-loop μ-loop) (tags : List ℕ)
-    → c .before .before .with-totals .result ≡ viewOf (made c tags) (class-at c)
-view-is c tags =
+view-is : (c : tie.After-class-right Inv-loop μ-loop) (tags marks : List ℕ)
+    → c .before .before .with-totals .result ≡ viewOf (made c tags marks) (class-at c)
+view-is c tags marks =
     let v = c .before .before in
     let s = v .before .before .before in
     let m = s .before in
@@ -84,40 +84,40 @@ view-is c tags =
     let u : n - 1 < 64 = omega (arith, low, h .loop .inv .0) in
     let after : 64 - n ≡ 63 - (n - 1) = omega (arith, low) in
     let seen : h .loop .parents ≡ parentsDown (a .t1) (a .active) (63 - (n - 1)) = h .loop .inv .3 ∙ rw after refl in
-    view-by-steps (made c tags) (n - 1) (h .loop .parents) _ _ _ _ _ (m .numbers-of .ensures) (s .in-sets .ensures)
+    view-by-steps (made c tags marks) (n - 1) (h .loop .parents) _ _ _ _ _ (m .numbers-of .ensures) (s .in-sets .ensures)
     (v .with-totals .ensures) seen (h .loop .inv .4 low .at (n - 1) u) (h .loop .inv .5 low .at (n - 1) u)
 
-decided : (c : tie.After-class-right Inv-loop μ-loop) (tags : List ℕ)
+decided : (c : tie.After-class-right Inv-loop μ-loop) (tags marks : List ℕ)
     → Exactly (c .class-right .result)
-    (ClassRight (viewOf (made c tags) (class-at c)) (made c tags .lengths) (longestOf (made c tags .tree) (class-at c)))
-decided c tags = rw (view-is c tags) at (c .class-right .ensures)
+    (ClassRight (viewOf (made c tags marks) (class-at c)) (made c tags marks .lengths) (longestOf (made c tags marks .tree) (class-at c)))
+decided c tags marks = rw (view-is c tags marks) at (c .class-right .ensures)
 
 -- whether it is active, its totals and its account
 active-read : (c : tie.After-class-right Inv-loop μ-loop)
-    → c .before .before .with-totals .result .active ≡ has (made c [] .active) (class-at c)
+    → c .before .before .with-totals .result .active ≡ has (made c [] [] .active) (class-at c)
 unfolding viewOf
-active-read c = ap (λ (v : View). v .active) (view-is c [])
+active-read c = ap (λ (v : View). v .active) (view-is c [] [])
 
 packets-read : (c : tie.After-class-right Inv-loop μ-loop)
-    → c .before .before .with-totals .result .packets ≡ packetsOf (made c []) (class-at c)
+    → c .before .before .with-totals .result .packets ≡ packetsOf (made c [] []) (class-at c)
 unfolding viewOf
-packets-read c = ap (λ (v : View). v .packets) (view-is c [])
+packets-read c = ap (λ (v : View). v .packets) (view-is c [] [])
 
 bytes-read : (c : tie.After-class-right Inv-loop μ-loop)
-    → c .before .before .with-totals .result .bytes ≡ bytesOf (made c []) (class-at c)
+    → c .before .before .with-totals .result .bytes ≡ bytesOf (made c [] []) (class-at c)
 unfolding viewOf
-bytes-read c = ap (λ (v : View). v .bytes) (view-is c [])
+bytes-read c = ap (λ (v : View). v .bytes) (view-is c [] [])
 
 funds-read : (c : tie.After-class-right Inv-loop μ-loop)
-    → fundsOf (c .before .before .with-totals .result .account) ≡ fundsOf (accountOf (made c [] .accounts) (class-at c))
+    → fundsOf (c .before .before .with-totals .result .account) ≡ fundsOf (accountOf (made c [] [] .accounts) (class-at c))
 unfolding viewOf
-funds-read c = ap (λ (v : View). fundsOf (v .account)) (view-is c [])
+funds-read c = ap (λ (v : View). fundsOf (v .account)) (view-is c [] [])
 
 -- so no account holds more than there is
-funds-fit : (c : tie.Else1 Inv-loop μ-loop) → fundsOf (accountOf (made (c .before) [] .accounts) (class-at (c .before))) ≤ 2 * mostSize
+funds-fit : (c : tie.Else1 Inv-loop μ-loop) → fundsOf (accountOf (made (c .before) [] [] .accounts) (class-at (c .before))) ≤ 2 * mostSize
 unfolding viewOf
 funds-fit c =
-    let right = decided (c .before) [] .sound (not-false _ (c .if1 .left)) .view in
+    let right = decided (c .before) [] [] .sound (not-false _ (c .if1 .left)) .view in
     let st = c .before .before .before .before .before .before .before .before .before .before .before in
     omega (arith, right .balance, right .residual, st .pre .1)
 
@@ -135,12 +135,13 @@ down-more P n l h p k m u = go (decLe n k)
     go (no m′) = let e : n - 1 ≡ k = omega arith in subst P e p
 
 -- the classes from the one at hand on are right
-from-here : (c : tie.Else1 Inv-loop μ-loop) (tags : List ℕ) (k : ℕ) → class-at (c .before) ≤ k → k < 64
-    → ClassRight (viewOf (made (c .before) tags) k) (made (c .before) tags .lengths) (longestOf (made (c .before) tags .tree) k)
-from-here c tags =
+from-here : (c : tie.Else1 Inv-loop μ-loop) (tags marks : List ℕ) (k : ℕ) → class-at (c .before) ≤ k → k < 64
+    → ClassRight (viewOf (made (c .before) tags marks) k) (made (c .before) tags marks .lengths)
+    (longestOf (made (c .before) tags marks .tree) k)
+from-here c tags marks =
     let g = c .before .before .before .before .before .before .before .before .before in
-    down-more _ (g .before .loop .n) (omega (arith, g .loop-test .taken)) (g .before .loop .inv .6 tags)
-    (decided (c .before) tags .sound (not-false _ (c .if1 .left)))
+    down-more _ (g .before .loop .n) (omega (arith, g .loop-test .taken)) (g .before .loop .inv .6 tags marks)
+    (decided (c .before) tags marks .sound (not-false _ (c .if1 .left)))
 
 -- its parent is a class number
 parent-up : (c : tie.After-wide Inv-loop μ-loop) → c .wide .result < 64
@@ -161,7 +162,7 @@ loop-holds c =
       none,
       λ l. added-start 0 number 63 64 (ofChild (a .t1) (λ j. getD (a .t9 .packets) j 0)) refl,
       λ l. added-start 0 number 63 64 (ofChild (a .t1) (λ j. getD (a .t9 .bytes) j 0)) refl,
-      λ tags k l u. absurd (omega arith),
+      λ tags marks k l u. absurd (omega arith),
     )
 
 sub-i : tie.Need-sub-i Inv-loop μ-loop
@@ -231,11 +232,11 @@ class-right-requires c κs =
     omega (arith, same, s .before .before .before .before .loop .inv .0)
 
 returns : tie.Need-returns Inv-loop μ-loop
-returns c = λ tags.
+returns c = λ tags marks.
     let f = c .before in
     let g = f .before .before .before .before .before .before .before .before in
     let low : class-at f < 64 = omega (arith, g .before .loop .inv .0, g .loop-test .taken) in
-    exactly-no (λ p. not-true-and-false (decided f tags .complete (p .at (class-at f) low)) (not-true _ (c .if1 .taken)))
+    exactly-no (λ p. not-true-and-false (decided f tags marks .complete (p .at (class-at f) low)) (not-true _ (c .if1 .taken)))
 
 funds-requires : tie.Need-funds-requires Inv-loop μ-loop
 funds-requires c κs = omega (arith, funds-read (c .before), funds-fit c)
@@ -271,7 +272,7 @@ add-waiting c =
     let up = w .wide .result in
     let low : 1 ≤ h .loop .n = omega (arith, g .loop-test .taken) in
     let u : h .loop .n - 1 < 64 = omega (arith, low, h .loop .inv .0) in
-    let fit = packets-fit (made (e .before) []) (h .before .pre .0) (h .loop .n - 1) u (from-here e []) up in
+    let fit = packets-fit (made (e .before) [] []) (h .before .pre .0) (h .loop .n - 1) u (from-here e [] []) up in
     omega (arith, fit, packets-read (e .before), h .loop .inv .4 low .at up (parent-up w))
 
 array-write-waiting : tie.Need-array-write-waiting Inv-loop μ-loop
@@ -292,7 +293,7 @@ add-cost c =
     let up = w .wide .result in
     let low : 1 ≤ h .loop .n = omega (arith, g .loop-test .taken) in
     let u : h .loop .n - 1 < 64 = omega (arith, low, h .loop .inv .0) in
-    let fit = bytes-fit (made (e .before) []) (h .before .pre .0) (h .loop .n - 1) u (from-here e []) up in
+    let fit = bytes-fit (made (e .before) [] []) (h .before .pre .0) (h .loop .n - 1) u (from-here e [] []) up in
     omega (arith, fit, bytes-read (e .before), h .loop .inv .5 low .at up (parent-up w))
 
 array-write-cost : tie.Need-array-write-cost Inv-loop μ-loop
@@ -335,17 +336,17 @@ loop-again c =
           (child-adds t packets i up e′) (λ p ne. child-adds-no t packets i p (λ z. ne (sym e′ ∙ z))) (rw (packets-read f) refl),
       λ l. added-more 0 number 63 64 (ofChild t bytes) (h .loop .cost) i up (bytes i) _ (h .loop .inv .5 low) l few (parent-up w)
           (child-adds t bytes i up e′) (λ p ne. child-adds-no t bytes i p (λ z. ne (sym e′ ∙ z))) (rw (bytes-read f) refl),
-      λ tags. from-here e tags,
+      λ tags marks. from-here e tags marks,
     )
 
 returns-2 : tie.Need-returns-2 Inv-loop μ-loop
-returns-2 c = λ tags.
+returns-2 c = λ tags marks.
     let h = c .before .before .before in
     let a = h .before .args in
     let e : h .loop .n ≡ 0 = omega arith in
     let all : h .loop .sum .0 ≡ total (a .t5) = omega (arith, rw e at (h .loop .inv .1), below-none (a .t5)) in
     record {
-      sound = λ z. record { at = λ k u. h .loop .inv .6 tags k (omega arith) u; adds = sym all ∙ eqb-true _ _ z };
+      sound = λ z. record { at = λ k u. h .loop .inv .6 tags marks k (omega arith) u; adds = sym all ∙ eqb-true _ _ z };
       complete = λ p. eq-eqb _ _ (all ∙ p .adds);
     }
 

@@ -7,7 +7,9 @@ is-sound-of-requires : tie.Need-is-sound-of-requires
 is-sound-of-requires c κs = search needs
 
 returns : tie.Need-returns
-returns c = c .is-sound-of .ensures (c .before .before .before .before .before .before .before .before .before .args .link .tags)
+returns c =
+    let link = c .before .before .before .before .before .before .before .before .before .args .link in
+    c .is-sound-of .ensures (link .tags) (link .marks)
 
 pub is-sound-spec : {M : Type 1} → statement M
 is-sound-spec = tie.close (tie.spec is-sound-of-requires returns)

@@ -18,7 +18,8 @@ plan-size-requires : tie.Need-plan-size-requires
 plan-size-requires c κs = search needs
 
 returns : tie.Need-returns
-returns c = λ tags. exactly-no (λ p. not-true-and-false (c .before .before .plan-size .ensures .right .complete (p .state .fits .tree))
+returns c = λ tags marks. exactly-no (λ p. not-true-and-false (c .before .before .plan-size .ensures .right .complete
+    (p .state .fits .tree))
     (not-true _ (c .if1 .taken)))
 
 -- the plan rules hold, and the round size is known
@@ -37,16 +38,16 @@ size-right-requires : tie.Need-size-right-requires
 size-right-requires c κs = search needs
 
 returns-2 : tie.Need-returns-2
-returns-2 c = λ tags.
+returns-2 c = λ tags marks.
     exactly-no (λ p. not-true-and-false
     (c .before .size-right .ensures .complete (within (c .before .before .before) (p .state .fits .size)))
     (not-true _ (c .if2 .taken)))
 
 returns-3 : tie.Need-returns-3
-returns-3 c = λ tags. exactly-no (λ p. omega (arith, p .state .place .low, c .if3 .taken))
+returns-3 c = λ tags marks. exactly-no (λ p. omega (arith, p .state .place .low, c .if3 .taken))
 
 returns-4 : tie.Need-returns-4
-returns-4 c = λ tags. exactly-no (λ p. omega (arith, p .state .place .high, c .if4 .taken))
+returns-4 c = λ tags marks. exactly-no (λ p. omega (arith, p .state .place .high, c .if4 .taken))
 
 right : (c : tie.Else4)
     → SizeRight (c .before .before .before .before .before .before .before .before .args .tree)
@@ -64,19 +65,19 @@ classes-right-requires c κs =
     (rules e1, omega (arith, right c .most, size-ceiling _ (rules e1)))
 
 returns-5 : tie.Need-returns-5
-returns-5 c = λ tags.
+returns-5 c = λ tags marks.
     let e4 = c .before in
     let e3 = e4 .before in
     let e1 = e3 .before .before .before .before in
     let st = e1 .before .before .before in
     let a = st .args in
-    let l = linkOf (a .tree) (a .size) (a .active) (a .place) (a .accounts) (a .start) (a .held) (a .lengths .now) tags (a .totals) in
+    let l = linkOf (a .tree) (a .size) (a .active) (a .place) (a .accounts) (a .start) (a .held) (a .lengths .now) tags marks (a .totals) in
     record {
       sound =
           λ e.
           right-to-sound l (rules e1) (right e4) (record { low = e3 .if3 .left; high = e4 .if4 .left }) (st .fits .active .fits)
-          (c .classes-right .ensures tags .sound e);
-      complete = λ p. c .classes-right .ensures tags .complete (sound-to-right l (rules e1) p);
+          (c .classes-right .ensures tags marks .sound e);
+      complete = λ p. c .classes-right .ensures tags marks .complete (sound-to-right l (rules e1) p);
     }
 
 pub is-sound-of-spec : {M : Type 1} → statement M

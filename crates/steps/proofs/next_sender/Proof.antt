@@ -15,7 +15,7 @@ next-leaf-requires c κs = let s = c .before .before .pre .0 .3 .fields in (s .s
 returns : tie.Need-returns
 returns c =
     let n = c .before in
-    λ tags packets bytes s.
+    λ tags marks totals s.
     now-finds _ _ s _ (n .next-leaf .ensures _ (fields-searched _ _ (s .fields) _ (n .before .before .both .ensures))) (c .if1 .taken)
 
 reopened-requires : tie.Need-reopened-requires
@@ -31,7 +31,7 @@ returns-2 : tie.Need-returns-2
 returns-2 c =
     let i = c .before .before .before in
     let n = i .before in
-    λ tags packets bytes s.
+    λ tags marks totals s.
     c .reopened .ensures _ refl
     (is-closed _ _ s _ (n .next-leaf .ensures _ (fields-searched _ _ (s .fields) _ (n .before .before .both .ensures))) (i .if1 .left))
 

@@ -42,7 +42,8 @@ returns-2 c =
     let a = h .before .args in
     rw (sym (h .same-claim .ensures) ∙ not-false _ (e .if1 .left))
     (c .goes-on .ensures
-    ∙ ap (λ (n : ℕ). didGoOn (a .place + n) (a .claims + 1) (a .went .active) (a .went .place) (a .went .size)) (u .claim-uses .ensures))
+    ∙ ap (λ (n : ℕ). didGoOn (a .place + n) (a .claims + 1) (a .went .active) (a .went .place) (a .went .size)
+    (a .went .charged)) (u .claim-uses .ensures))
 
 pub compared-spec : {M : Type 1} → statement M
 compared-spec =

@@ -14,7 +14,7 @@ use Rattle.state.specs.declared.Link.{Link}
 use Rattle.state.specs.Queue.{Shaped}
 use Rattle.state.proofs.Shapes.{shaped, link-weights}
 use Rattle.sound.specs.Sound.{SoundLink}
-use Rattle.steps.specs.Fields.{lentLink, lentTree}
+use Rattle.steps.specs.Fields.{lentLink, lentTotals, lentTree}
 use Rattle.steps.proofs.Wholes.{tree-fields, apart-is}
 use Rattle.claims.specs.declared.Checked.{Checked}
 use Rattle.claims.specs.declared.in_place.Did.{Did}
@@ -26,18 +26,20 @@ use Rattle.claims.proofs.in_place.entries.Statement.{statement}
 use Rattle.claims.proofs.in_place.entries.Tie as tie
 
 abbrev Inv-loop : tie.InvT-loop
-Inv-loop part place claims last tree parent weight longest balance₀ residual₀ start₀ held₀ lengths₀ tags₀ packets₀ bytes₀ kept s₀
-    balance residual start held lengths tags packets bytes s =
+Inv-loop part place claims last tree parent weight longest balance₀ residual₀ start₀ held₀ lengths₀ tags₀ marks₀ packets₀ bytes₀ kept s₀
+    balance residual start held lengths tags marks packets bytes s =
     let lent = lentTree (tree .count) (tree .leaves) parent weight longest (tree .follows) in
-    let link = lentLink lent (s .size) (s .active) (s .visit) balance residual start held lengths tags packets bytes in
+    let link = lentLink lent (s .size) (s .active) (s .visit) balance residual start held lengths tags marks
+    (lentTotals packets bytes (s .charged)) in
     Loop last place claims part
-    (checkedBy s₀ (lentLink lent (s₀ .size) (s₀ .active) (s₀ .visit) balance₀ residual₀ start₀ held₀ lengths₀ tags₀ packets₀ bytes₀))
+    (checkedBy s₀ (lentLink lent (s₀ .size) (s₀ .active) (s₀ .visit) balance₀ residual₀ start₀ held₀ lengths₀ tags₀ marks₀
+    (lentTotals packets₀ bytes₀ (s₀ .charged))))
     (checkedBy s link)
     × Shaped link
 
 abbrev μ-loop : tie.MeasureT-loop
-μ-loop part place claims last tree parent weight longest balance₀ residual₀ start₀ held₀ lengths₀ tags₀ packets₀ bytes₀ kept s₀
-    balance residual start held lengths tags packets bytes s =
+μ-loop part place claims last tree parent weight longest balance₀ residual₀ start₀ held₀ lengths₀ tags₀ marks₀ packets₀ bytes₀ kept s₀
+    balance residual start held lengths tags marks packets bytes s =
     leftOf (s .more) (place + length part - s .place)
 
 -- what is handed on is what follows
@@ -64,7 +66,7 @@ abbrev weighed : tie.After-residuals Inv-loop μ-loop → tie.After-weight-numbe
 weighed c = c .before .before .before .before
 
 abbrev lying : tie.After-goes-on Inv-loop μ-loop → tie.After-residuals Inv-loop μ-loop
-lying c = c .before .before .before .before .before .before .before .before
+lying c = c .before .before .before .before .before .before .before .before .before
 
 abbrev first : tie.After-goes-on Inv-loop μ-loop → tie.Start Inv-loop μ-loop
 first c = handedIn (weighed (lying c))
@@ -74,7 +76,7 @@ abbrev apart : tie.After-goes-on Inv-loop μ-loop → Did → Link
 apart c d =
     let l = first c .args .link in
     lentLink (lent (weighed (lying c))) (d .size) (d .active) (d .visit) (lying c .before .balances .result) (lying c .residuals .result)
-    (l .start) (l .held) (l .lengths) (l .tags) (l .totals .packets) (l .totals .bytes)
+    (l .start) (l .held) (l .lengths) (l .tags) (l .marks) (lentTotals (l .totals .packets) (l .totals .bytes) (d .charged))
 
 whole : (c : tie.After-goes-on Inv-loop μ-loop) → apart c (c .goes-on .result) ≡ first c .args .link
 whole c =
@@ -96,7 +98,7 @@ abbrev linkNow : tie.At-loop Inv-loop μ-loop → Tree → Link
 linkNow h t =
     let v = h .loop in
     lentLink t (v .s .size) (v .s .active) (v .s .visit) (v .balance) (v .residual) (v .start) (v .held) (v .lengths) (v .tags)
-    (v .packets) (v .bytes)
+    (v .marks) (lentTotals (v .packets) (v .bytes) (v .s .charged))
 
 abbrev sofar : tie.At-loop Inv-loop μ-loop → Checked
 sofar h = checkedBy (h .loop .s) (linkNow h (lent (weighed (lying (h .before)))))
@@ -113,7 +115,7 @@ taken t =
 
 -- where the entry that was judged was taken
 abbrev took : tie.After-entry Inv-loop μ-loop → tie.Then1 Inv-loop μ-loop
-took c = c .before .before .before .before .before .before .before .before .before .before .before .before .before .before .before
+took c = c .before .before .before .before .before .before .before .before .before .before .before .before .before .before .before .before
 
 -- what follows is handed on
 follows : (c : tie.After-entry Inv-loop μ-loop) {l after : Link} {place claims : ℕ} {r : Did}
@@ -162,6 +164,7 @@ sub-at c = c .before .before .before .before .loop .inv .0 .forward
 abbrev reached : tie.After-bytes2 Inv-loop μ-loop → tie.At-loop Inv-loop μ-loop
 reached c =
     c .before .before .before .before .before .before .before .before .before .before .before .before .before .before .before .before
+    .before
 
 sub-entry : tie.Need-sub-entry Inv-loop μ-loop
 sub-entry c = let i = reached c .loop .inv .0 in omega (arith, i .forward, i .within)
@@ -175,7 +178,7 @@ part-entry-end c = search needs
 entry-requires : tie.Need-entry-requires Inv-loop μ-loop
 entry-requires c κs =
     let h = c .before .before .before .before .before .before .before .before .before .before .before .before .before .before
-    .before .before .before in
+    .before .before .before .before in
     let st = begun h in
     let s = now (st .args .part) in
     let i = h .loop .inv .0 in

@@ -6,7 +6,7 @@ use Rattle.plan.specs.declared.EntryRead.the-variants.{Ended, Arrives, Claims, 
 use Rattle.plan.proofs.EntryLaws.{within-by}
 use Rattle.state.specs.declared.Link.{Link}
 use Rattle.rules.proofs.Counted.{sound-climbs}
-use Rattle.steps.specs.Fields.{lentLink, lentTree}
+use Rattle.steps.specs.Fields.{lentLink, lentTotals, lentTree}
 use Rattle.steps.proofs.Rounding.{none-kept}
 use borrow.Author.Needs.{needs}
 use Rattle.claims.proofs.InPlace.{decides-in-place, arrival-in-place, claim-in-place}
@@ -19,7 +19,7 @@ whole st =
     let a = st .args in
     lentLink (lentTree (a .count) (a .leaves) (now (a .parent)) (now (a .weight)) (now (a .longest)) (a .follows)) (a .size) (a .active)
     (a .visit) (now (a .balance)) (now (a .residual)) (now (a .start)) (now (a .held)) (now (a .lengths)) (now (a .tags))
-    (now (a .packets)) (now (a .bytes))
+    (now (a .marks)) (lentTotals (now (a .packets)) (now (a .bytes)) (a .charged))
 
 -- where the entry began
 abbrev begun : tie.After-read-entry → tie.Start
@@ -27,10 +27,10 @@ begun g = g .before .before
 
 -- where it was told that an arrival was read, and where that a send was
 abbrev arriving : tie.After-arrive → tie.After-read
-arriving k = k .before .before .before .before .before .before .before .before .before
+arriving k = k .before .before .before .before .before .before .before .before .before .before
 
 abbrev sending : tie.After-send → tie.After-read2
-sending d = d .before .before .before .before .before .before .before .before .before .before
+sending d = d .before .before .before .before .before .before .before .before .before .before .before
 
 read-entry-requires : tie.Need-read-entry-requires
 read-entry-requires c κs = search needs
@@ -49,7 +49,7 @@ wide-requires c κs = search needs
 
 arrive-requires : tie.Need-arrive-requires
 arrive-requires c κs =
-    let st = c .before .before .before .before .before .before .before .before .before .before .before .before in
+    let st = c .before .before .before .before .before .before .before .before .before .before .before .before .before in
     λ on. sound-climbs (whole st) (st .pre .0)
 
 add-goes-on : tie.Need-add-goes-on
@@ -71,7 +71,7 @@ enum-known-read-2 c = search needs
 
 send-requires : tie.Need-send-requires
 send-requires c κs =
-    let st = c .before .before .before .before .before .before .before .before .before .before .before .before .before in
+    let st = c .before .before .before .before .before .before .before .before .before .before .before .before .before .before in
     (record { sound = st .pre .0; wide = st .pre .1 .accounts }, none-kept _ _ (st .pre .0 .state .fits .tree))
 
 compared-requires : tie.Need-compared-requires
@@ -85,8 +85,8 @@ compared-requires c κs =
 enum-known-read-3 : tie.Need-enum-known-read-3
 enum-known-read-3 c = search needs
 
-add-t49 : tie.Need-add-t49
-add-t49 c =
+add-t53 : tie.Need-add-t53
+add-t53 c =
     let v = c .before in
     let g = v .before .before in
     let st = begun g in
@@ -107,7 +107,8 @@ returns c =
     let st = begun g in
     let a = st .args in
     rw (c .decides .ensures)
-    (decides-in-place (whole st) (a .place) (a .claims) (now (a .rest)) (st .pre .0) (st .pre .1) Ended _ (a .active) (a .visit) (a .size)
+    (decides-in-place (whole st) (a .place) (a .claims) (now (a .rest)) (st .pre .0) (st .pre .1) Ended _ (a .active) (a .visit)
+    (a .charged) (a .size)
     (sym (g .read-entry .ensures) ∙ t .enum-told .given .1) refl)
 
 returns-2 : tie.Need-returns-2
@@ -119,8 +120,8 @@ returns-2 c =
     let a = st .args in
     rw (c .goes-on .ensures)
     (arrival-in-place (whole st) (a .place) (a .claims) (now (a .rest)) (st .pre .0) (st .pre .1) (v .read .given .0 .0)
-    (k .arrive .result) _ _ (a .active) (a .visit) (a .size) (sym (g .read-entry .ensures) ∙ v .read .given .1)
-    (k .before .before .before .before .before .before .before .wide .ensures)
+    (k .arrive .result) _ _ (a .active) (a .visit) (a .charged) (a .size) (sym (g .read-entry .ensures) ∙ v .read .given .1)
+    (k .before .before .before .before .before .before .before .before .wide .ensures)
     (k .arrive .ensures (whole st) refl refl refl (λ on. record { sound = st .pre .0; wide = st .pre .1 .bytes })))
 
 returns-3 : tie.Need-returns-3
@@ -142,7 +143,7 @@ returns-4 c =
     let a = st .args in
     rw (c .decides2 .ensures)
     (decides-in-place (whole st) (a .place) (a .claims) (now (a .rest)) (st .pre .0) (st .pre .1)
-    (Stops (v .read3 .given .0 .0) (v .read3 .given .0 .1 .0)) _ (a .active) (a .visit) (a .size)
+    (Stops (v .read3 .given .0 .0) (v .read3 .given .0 .1 .0)) _ (a .active) (a .visit) (a .charged) (a .size)
     (sym (g .read-entry .ensures) ∙ v .read3 .given .1) refl)
 
 pub entry-spec : {M : Type 1} → statement M
@@ -161,7 +162,7 @@ entry-spec =
     send-requires
     compared-requires
     enum-known-read-3
-    add-t49
+    add-t53
     decides-requires-2
     returns
     returns-2

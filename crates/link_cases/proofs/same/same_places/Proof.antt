@@ -37,6 +37,18 @@ mul-if1-4 c = omega arith
 element-copy-out-if1-4 : tie.Need-element-copy-out-if1-4 Inv-loop μ-loop
 element-copy-out-if1-4 c = omega arith
 
+mul-if1-5 : tie.Need-mul-if1-5 Inv-loop μ-loop
+mul-if1-5 c = omega arith
+
+element-copy-out-if1-5 : tie.Need-element-copy-out-if1-5 Inv-loop μ-loop
+element-copy-out-if1-5 c = omega arith
+
+mul-if1-6 : tie.Need-mul-if1-6 Inv-loop μ-loop
+mul-if1-6 c = omega arith
+
+element-copy-out-if1-6 : tie.Need-element-copy-out-if1-6 Inv-loop μ-loop
+element-copy-out-if1-6 c = omega arith
+
 returns : tie.Need-returns Inv-loop μ-loop
 returns c = tt
 
@@ -67,6 +79,10 @@ same-places-spec =
     element-copy-out-if1-3
     mul-if1-4
     element-copy-out-if1-4
+    mul-if1-5
+    element-copy-out-if1-5
+    mul-if1-6
+    element-copy-out-if1-6
     returns
     add-i
     loop-less

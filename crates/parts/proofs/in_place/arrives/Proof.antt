@@ -9,13 +9,13 @@ use Rattle.parts.proofs.in_place.arrives.Tie as tie
 
 -- where the arrival that was judged began
 abbrev begun : tie.After-arrive → tie.Start
-begun v = v .before .before .before .before .before .before .before .before
+begun v = v .before .before .before .before .before .before .before .before .before
 
 cast-class : tie.Need-cast-class
 cast-class c = search needs
 
 arrive-requires : tie.Need-arrive-requires
-arrive-requires c κs = let st = c .before .before .before .before .before .before .before in st .pre .0
+arrive-requires c κs = let st = c .before .before .before .before .before .before .before .before in st .pre .0
 
 enum-told : tie.Need-enum-told
 enum-told c = search needs
@@ -30,7 +30,7 @@ cast-lay-in-3 : tie.Need-cast-lay-in-3
 cast-lay-in-3 c = search needs
 
 lay-in-requires : tie.Need-lay-in-requires
-lay-in-requires c κs = let st = c .before .before .before .before .before .before .before .before .before .before .before .before in
+lay-in-requires c κs = let st = c .before .before .before .before .before .before .before .before .before .before .before .before .before in
     st .pre .1
 
 same-length : tie.Need-same-length
@@ -55,7 +55,7 @@ arrival-line-requires : tie.Need-arrival-line-requires
 arrival-line-requires c κs = search needs
 
 lay-at-requires : tie.Need-lay-at-requires
-lay-at-requires c κs = let st = c .before .before .before .before .before .before .before .before .before .before .before .before in
+lay-at-requires c κs = let st = c .before .before .before .before .before .before .before .before .before .before .before .before .before in
     st .pre .1
 
 same-length-2 : tie.Need-same-length-2

@@ -15,7 +15,7 @@ returns c =
     let i = c .before in
     let a = i .before .args in
     rw (c .nothing .ensures)
-    (rw (not-true (a .sound) (i .if1 .taken)) (refused-in-place _ (nothingGoes (a .size) (a .active) (a .visit)) refl))
+    (rw (not-true (a .sound) (i .if1 .taken)) (refused-in-place _ (nothingGoes (a .size) (a .active) (a .visit) (a .charged)) refl))
 
 send-requires : tie.Need-send-requires
 send-requires c κs =
@@ -28,7 +28,7 @@ returns-2 : tie.Need-returns-2
 returns-2 c =
     let i = c .before .before .before .before .before .before .before in
     let on = not-false (i .before .args .sound) (i .if1 .left) in
-    rw on (departs-in-place _ _ _ (c .send .ensures))
+    rw on (departs-in-place _ _ _ refl (c .send .ensures))
 
 pub departs-spec : {M : Type 1} → statement M
 departs-spec =

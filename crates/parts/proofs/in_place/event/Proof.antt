@@ -6,7 +6,7 @@ use native.Mathlib.Omega.{arith}
 use denote.Ref.{now}
 use lib.ListN.{length, drop}
 use Rattle.state.specs.declared.Link.{Link}
-use Rattle.steps.specs.Fields.{lentLink, lentTree}
+use Rattle.steps.specs.Fields.{lentLink, lentTotals, lentTree}
 use Rattle.rules.proofs.Counted.{sound-climbs}
 use Rattle.plan.specs.declared.EventRead.{EventRead}
 use Rattle.plan.specs.declared.EventRead.the-variants.{Arrive, SendNext}
@@ -23,7 +23,7 @@ whole st =
     let a = st .args in
     lentLink (lentTree (a .count) (a .leaves) (now (a .parent)) (now (a .weight)) (now (a .longest)) (a .follows)) (a .size) (a .active)
     (a .visit) (now (a .balance)) (now (a .residual)) (now (a .start)) (now (a .held)) (now (a .lengths)) (now (a .tags))
-    (now (a .packets)) (now (a .bytes))
+    (now (a .marks)) (lentTotals (now (a .packets)) (now (a .bytes)) (a .charged))
 
 -- where the event began
 abbrev begun : tie.After-read-event → tie.Start
@@ -31,11 +31,11 @@ begun g = g .before .before .before .before
 
 -- where it was told that an arrival was read
 abbrev arriving : tie.After-arrives → tie.After-read
-arriving k = k .before .before .before .before .before .before .before .before .before
+arriving k = k .before .before .before .before .before .before .before .before .before .before
 
 -- where it was told that a send was read
 abbrev sending : tie.After-departs → tie.After-enum-told2
-sending d = d .before .before .before .before .before .before .before .before .before
+sending d = d .before .before .before .before .before .before .before .before .before .before
 
 -- the event that was read stands at the place
 read-at : (g : tie.After-read-event) {e : EventRead} → g .read-event .result ≡ e
@@ -71,8 +71,8 @@ moves-on u told = u .used .ensures .0 ∙ ap usedOf told
 enum-told : tie.Need-enum-told
 enum-told c = search needs
 
-element-copy-out-t40 : tie.Need-element-copy-out-t40
-element-copy-out-t40 c = search needs
+element-copy-out-t42 : tie.Need-element-copy-out-t42
+element-copy-out-t42 c = search needs
 
 lay-at-requires : tie.Need-lay-at-requires
 lay-at-requires c κs = search needs
@@ -85,7 +85,8 @@ enum-known-read c = search needs
 
 arrives-requires : tie.Need-arrives-requires
 arrives-requires c κs =
-    let st = c .before .before .before .before .before .before .before .before .before .before .before .before .before .before .before in
+    let st = c .before .before .before .before .before .before .before .before .before .before .before .before .before .before .before
+    .before in
     (λ on. sound-climbs (whole st) (st .pre .0 .sound on), st .pre .3)
 
 outcome-requires-2 : tie.Need-outcome-requires-2
@@ -96,7 +97,8 @@ enum-told-2 c = search needs
 
 departs-requires : tie.Need-departs-requires
 departs-requires c κs =
-    let st = c .before .before .before .before .before .before .before .before .before .before .before .before .before .before .before in
+    let st = c .before .before .before .before .before .before .before .before .before .before .before .before .before .before .before
+    .before in
     (st .pre .0, st .pre .1, st .pre .2)
 
 lay-went-requires : tie.Need-lay-went-requires
@@ -108,8 +110,8 @@ outcome-requires-3 c κs = search needs
 enum-known-read-2 : tie.Need-enum-known-read-2
 enum-known-read-2 c = search needs
 
-cast-t62 : tie.Need-cast-t62
-cast-t62 c = search needs
+cast-t66 : tie.Need-cast-t66
+cast-t66 c = search needs
 
 lay-at-requires-2 : tie.Need-lay-at-requires-2
 lay-at-requires-2 c κs = search needs
@@ -130,7 +132,7 @@ returns c =
     let a = st .args in
     rw (c .outcome .ensures)
     (end-in-place (whole st) (now (a .input)) (a .place) (st .pre .1) (a .at) (now (a .out)) (lay .lay-at .result) _ _
-    (a .active) (a .visit) (a .size) (read-at g (v .enum-told .given .1)) refl (lay .lay-at .ensures))
+    (a .active) (a .visit) (a .charged) (a .size) (read-at g (v .enum-told .given .1)) refl (lay .lay-at .ensures))
 
 same-length-2 : tie.Need-same-length-2
 same-length-2 c = search needs
@@ -144,8 +146,10 @@ returns-2 c =
     let st = begun g in
     let a = st .args in
     rw (c .outcome2 .ensures)
-    (arrival-in-place (whole st) (now (a .input)) (a .place) (st .pre .1) (a .at) (now (a .out)) (lay .arrives .result) _ (a .sound) (st .pre .0)
-    _ (v .read .given .0 .0) (a .active) (a .visit) (u .used .result) (a .size) (read-at g (v .read .given .1)) (moves-on u (v .read .given .1))
+    (arrival-in-place (whole st) (now (a .input)) (a .place) (st .pre .1) (a .at) (now (a .out)) (lay .arrives .result) _ (a .sound)
+    (st .pre .0)
+    _ (v .read .given .0 .0) (a .active) (a .visit) (a .charged) (u .used .result) (a .size) (read-at g (v .read .given .1))
+    (moves-on u (v .read .given .1))
     (lay .arrives .ensures (whole st) refl refl refl (λ on. record { sound = st .pre .0 .sound on; wide = st .pre .1 .bytes })))
 
 same-length-3 : tie.Need-same-length-3
@@ -161,8 +165,10 @@ returns-3 c =
     let st = begun g in
     let a = st .args in
     rw (c .outcome3 .ensures)
-    (send-in-place (whole st) (now (a .input)) (a .place) (st .pre .1) (a .at) (now (a .out)) (lay .lay-went .result) _ (a .sound) (st .pre .0)
-    _ (d .departs .result) (u .used .result) (read-at g (v .enum-told2 .given .1)) (moves-on u (v .enum-told2 .given .1)) (d .departs .ensures)
+    (send-in-place (whole st) (now (a .input)) (a .place) (st .pre .1) (a .at) (now (a .out)) (lay .lay-went .result) _ (a .sound)
+    (st .pre .0)
+    _ (d .departs .result) (u .used .result) (read-at g (v .enum-told2 .given .1)) (moves-on u (v .enum-told2 .given .1))
+    (d .departs .ensures)
     (lay .lay-went .ensures))
 
 same-length-4 : tie.Need-same-length-4
@@ -178,7 +184,8 @@ returns-4 c =
     let a = st .args in
     rw (c .outcome4 .ensures)
     (stop-in-place (whole st) (now (a .input)) (a .place) (st .pre .1) (a .at) (now (a .out)) (lay .lay-at2 .result) _
-    (v .read2 .given .0 .0) (v .read2 .given .0 .1 .0) (a .active) (a .visit) (a .size) (read-at g (v .read2 .given .1)) (lay .lay-at2 .ensures))
+    (v .read2 .given .0 .0) (v .read2 .given .0 .1 .0) (a .active) (a .visit) (a .charged) (a .size) (read-at g (v .read2 .given .1))
+    (lay .lay-at2 .ensures))
 
 pub event-spec : {M : Type 1} → statement M
 event-spec =
@@ -189,7 +196,7 @@ event-spec =
     used-requires
     add-after
     enum-told
-    element-copy-out-t40
+    element-copy-out-t42
     lay-at-requires
     outcome-requires
     enum-known-read
@@ -200,7 +207,7 @@ event-spec =
     lay-went-requires
     outcome-requires-3
     enum-known-read-2
-    cast-t62
+    cast-t66
     lay-at-requires-2
     outcome-requires-4
     same-length

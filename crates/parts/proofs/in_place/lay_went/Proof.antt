@@ -22,6 +22,9 @@ cast-lay-out c = search needs
 cast-lay-out-2 : tie.Need-cast-lay-out-2
 cast-lay-out-2 c = search needs
 
+since-requires : tie.Need-since-requires
+since-requires c κs = search needs
+
 lay-out-requires : tie.Need-lay-out-requires
 lay-out-requires c κs = search needs
 
@@ -31,8 +34,9 @@ same-length-2 c = search needs
 returns-2 : tie.Need-returns-2
 returns-2 c =
     let lay = c .before .before in
-    let i = lay .before .before .before .before .before in
-    rw (not-false (i .before .before .before .args .went .some) (i .if1 .left)) (lay .lay-out .ensures)
+    let s = lay .before .before in
+    let i = s .before .before .before .before in
+    rw (not-false (i .before .before .before .args .went .some) (i .if1 .left)) (rw (s .since .ensures) at (lay .lay-out .ensures))
 
 pub lay-went-spec : {M : Type 1} → statement M
 lay-went-spec =
@@ -43,6 +47,7 @@ lay-went-spec =
     returns
     cast-lay-out
     cast-lay-out-2
+    since-requires
     lay-out-requires
     same-length-2
     returns-2)

@@ -14,7 +14,7 @@ use Rattle.state.specs.Queue.{Shaped}
 use Rattle.state.proofs.Shapes.{shaped, link-weights}
 use Rattle.sound.specs.Sound.{SoundLink}
 use Rattle.lines.specs.Line.{lineRoom}
-use Rattle.steps.specs.Fields.{lentLink, lentTree}
+use Rattle.steps.specs.Fields.{lentLink, lentTotals, lentTree}
 use Rattle.steps.specs.Rounds.{Kept}
 use Rattle.steps.proofs.Wholes.{tree-fields, apart-is}
 use Rattle.parts.specs.Steps.{Taken}
@@ -26,17 +26,24 @@ use Rattle.parts.proofs.in_place.part_of.Statement.{statement}
 use Rattle.parts.proofs.in_place.part_of.Tie as tie
 
 abbrev Inv-loop : tie.InvT-loop
-Inv-loop sound input place out₀ tree parent weight longest balance₀ residual₀ start₀ held₀ lengths₀ tags₀ packets₀ bytes₀ sums kept size₀
-    active₀ visit₀ laid₀ more₀ from₀ out balance residual start held lengths tags packets bytes size active visit laid more from =
+Inv-loop sound input place out₀ tree parent weight longest balance₀ residual₀ start₀ held₀ lengths₀ tags₀ marks₀ packets₀ bytes₀ sums kept
+    size₀
+    active₀ visit₀ charged₀ laid₀ more₀ from₀ out balance residual start held lengths tags marks packets bytes size active visit charged
+    laid
+    more from =
     let lent = lentTree (tree .count) (tree .leaves) parent weight longest (tree .follows) in
-    let link = lentLink lent size active visit balance residual start held lengths tags packets bytes in
-    Laying (lentLink lent size₀ active₀ visit₀ balance₀ residual₀ start₀ held₀ lengths₀ tags₀ packets₀ bytes₀) input place out₀
+    let link = lentLink lent size active visit balance residual start held lengths tags marks (lentTotals packets bytes charged) in
+    Laying (lentLink lent size₀ active₀ visit₀ balance₀ residual₀ start₀ held₀ lengths₀ tags₀ marks₀
+    (lentTotals packets₀ bytes₀ charged₀)) input place out₀
     (record { laid = laid; more = more; link = link; place = from }) out
     × Shaped link
 
 abbrev μ-loop : tie.MeasureT-loop
-μ-loop sound input place out₀ tree parent weight longest balance₀ residual₀ start₀ held₀ lengths₀ tags₀ packets₀ bytes₀ sums kept size₀
-    active₀ visit₀ laid₀ more₀ from₀ out balance residual start held lengths tags packets bytes size active visit laid more from =
+μ-loop sound input place out₀ tree parent weight longest balance₀ residual₀ start₀ held₀ lengths₀ tags₀ marks₀ packets₀ bytes₀ sums kept
+    size₀
+    active₀ visit₀ charged₀ laid₀ more₀ from₀ out balance residual start held lengths tags marks packets bytes size active visit charged
+    laid
+    more from =
     stepsLeft input more from
 
 -- where the link was handed in
@@ -65,7 +72,7 @@ first c = handed (weighed c)
 apart : (c : tie.After-residuals Inv-loop μ-loop)
     → lentLink (lent (weighed c)) (first c .args .link .size) (first c .args .link .active) (first c .args .link .place)
     (c .before .balances .result) (c .residuals .result) (first c .args .link .start) (first c .args .link .held)
-    (first c .args .link .lengths) (first c .args .link .tags) (first c .args .link .totals .packets) (first c .args .link .totals .bytes)
+    (first c .args .link .lengths) (first c .args .link .tags) (first c .args .link .marks) (first c .args .link .totals)
     ≡ first c .args .link
 apart c =
     let st = first c in
@@ -73,7 +80,7 @@ apart c =
     (c .before .balances .ensures) (c .residuals .ensures)
 
 abbrev apart-at : tie.At-loop Inv-loop μ-loop → tie.After-residuals Inv-loop μ-loop
-apart-at h = h .before .before .before .before .before .before .before .before .before .before .before .before
+apart-at h = h .before .before .before .before .before .before .before .before .before .before .before .before .before
 
 abbrev begun : tie.At-loop Inv-loop μ-loop → tie.Start Inv-loop μ-loop
 begun h = first (apart-at h)
@@ -82,8 +89,8 @@ begun h = first (apart-at h)
 abbrev linkNow : tie.At-loop Inv-loop μ-loop → Tree → Link
 linkNow h t =
     let v = h .loop in
-    lentLink t (v .size) (v .active) (v .visit) (v .balance) (v .residual) (v .start) (v .held) (v .lengths) (v .tags) (v .packets)
-    (v .bytes)
+    lentLink t (v .size) (v .active) (v .visit) (v .balance) (v .residual) (v .start) (v .held) (v .lengths) (v .tags) (v .marks)
+    (lentTotals (v .packets) (v .bytes) (v .charged))
 
 as-sound : (h : tie.At-loop Inv-loop μ-loop) → Exactly (begun h .args .sound) (SoundLink (linkNow h (lent (weighed (apart-at h)))))
 as-sound h =
@@ -100,7 +107,7 @@ room c = let h = c .before .before .loop in leb-true (h .laid + lineRoom) (lengt
 
 -- where the event that has happened was taken
 abbrev took : tie.After-event Inv-loop μ-loop → tie.Then1 Inv-loop μ-loop
-took e = e .before .before .before .before .before .before .before .before .before .before .before .before .before .before
+took e = e .before .before .before .before .before .before .before .before .before .before .before .before .before .before .before
 
 weight-numbers-requires : tie.Need-weight-numbers-requires Inv-loop μ-loop
 weight-numbers-requires c κs = search needs
@@ -112,11 +119,12 @@ residuals-requires : tie.Need-residuals-requires Inv-loop μ-loop
 residuals-requires c κs = search needs
 
 sums-now-requires : tie.Need-sums-now-requires Inv-loop μ-loop
-sums-now-requires c κs = λ e. first (c .before .before .before .before .before .before .before .before) .pre .sound e .state .fits .tree
+sums-now-requires c κs = λ e. first (c .before .before .before .before .before .before .before .before .before) .pre .sound e .state .fits
+    .tree
 
 loop-holds : tie.Need-loop-holds Inv-loop μ-loop
 loop-holds c =
-    let z = c .before .before .before .before .before .before .before .before .before .before .before in
+    let z = c .before .before .before .before .before .before .before .before .before .before .before .before in
     let st = first z in
     let a = st .args in (
       laying-starts _ (now (a .input)) (a .place) (now (a .out)),
@@ -128,7 +136,7 @@ takes-one-requires c κs = let y = c .loop .inv .0 in omega (arith, y .within, y
 
 event-requires : tie.Need-event-requires Inv-loop μ-loop
 event-requires c κs =
-    let t = c .before .before .before .before .before .before .before .before .before .before .before .before .before in
+    let t = c .before .before .before .before .before .before .before .before .before .before .before .before .before .before in
     let h = t .before .before in
     let sums = h .before .before .before .sums-now in (
       as-sound h,

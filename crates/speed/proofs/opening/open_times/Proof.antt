@@ -14,7 +14,7 @@ use Rattle.speed.proofs.opening.open_times.Tie as tie
 abbrev Inv-loop : tie.InvT-loop
 Inv-loop link times tree size held balance₀ residual₀ active₀ place₀ n₀ balance residual active place n =
     (n ≤ times) × Opened link n (lentLink (link .tree) (link .size) active place balance residual (link .start) (link .held) (link .lengths)
-    (link .tags) (link .totals .packets) (link .totals .bytes))
+    (link .tags) (link .marks) (link .totals))
 
 abbrev μ-loop : tie.MeasureT-loop
 μ-loop link times tree size held balance₀ residual₀ active₀ place₀ n₀ balance residual active place n = times - n

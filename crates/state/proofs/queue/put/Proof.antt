@@ -25,6 +25,12 @@ mul-tags c = search needs
 element-write-tags : tie.Need-element-write-tags
 element-write-tags c = search needs
 
+mul-marks : tie.Need-mul-marks
+mul-marks c = search needs
+
+element-write-marks : tie.Need-element-write-marks
+element-write-marks c = search needs
+
 element-copy-out-held : tie.Need-element-copy-out-held
 element-copy-out-held c = search needs
 
@@ -51,6 +57,8 @@ put-spec =
     element-write-lengths
     mul-tags
     element-write-tags
+    mul-marks
+    element-write-marks
     element-copy-out-held
     add-held
     element-write-held

@@ -107,7 +107,7 @@ element-write-bytes : tie.Need-element-write-bytes Inv-loop μ-loop
 element-write-bytes c = search needs
 
 returns : tie.Need-returns Inv-loop μ-loop
-returns c = λ t same.
+returns c = λ t charged same.
     let f = c .before in
     let g = f .before .before in
     let h = g .before .before in
@@ -125,7 +125,7 @@ returns c = λ t same.
     (h .loop .bytes) (h .loop .inv .2) z (f .changed2 .ensures) t same
     in
     let costs = ap (λ (x : ℕ). changedUp t (changed (a .fewer) x) (a .class) (a .bytes .now)) (k .cost .ensures) in
-    λ n. record { packets = packets n; bytes = (bytes ∙ costs) n }
+    λ n. record { packets = packets n; bytes = (bytes ∙ costs) n; charged = charged }
 
 element-copy-out-wide : tie.Need-element-copy-out-wide Inv-loop μ-loop
 element-copy-out-wide c = search needs

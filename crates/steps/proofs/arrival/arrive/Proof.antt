@@ -11,12 +11,13 @@ use Rattle.checks.specs.Check.{firstBroken}
 use Rattle.tree.specs.Class.{longestOf, isLeaf}
 use Rattle.state.specs.declared.Link.{Link}
 use Rattle.state.specs.declared.Packet.{Packet}
-use Rattle.state.specs.Queue.{withTotals}
+use Rattle.state.specs.Queue.{withTotals, laidLast, queued}
 use Rattle.state.specs.State.{meaning}
 use Rattle.state.proofs.Meaning.{meaning-held}
 use Rattle.calls.specs.declared.Arrival.{Arrival}
 use Rattle.calls.specs.Arrival.{arrivalChecks, arrivalAnswer, arrivalLeaves}
 use Rattle.calls.proofs.Arrivals.{unsound-number, no-leaf-number, arrival-refused, arrival-taken, bytes-read}
+use Rattle.steps.specs.Fields.{lentTotals}
 use Rattle.steps.specs.Arrivals.{lentWaiting, ArrivesOn}
 use borrow.Author.Needs.{needs}
 use Rattle.steps.proofs.arrival.arrive.Statement.{statement}
@@ -37,7 +38,8 @@ returns c =
     let i = c .before in
     let a = i .before .args in
     λ l leaves parents longest takes.
-    let now = lentWaiting l (a .start .now) (a .held .now) (a .lengths .now) (a .tags .now) (a .packets .now) (a .bytes .now) in
+    let now = lentWaiting l (a .start .now) (a .held .now) (a .lengths .now) (a .tags .now) (a .marks .now)
+    (lentTotals (a .packets .now) (a .bytes .now) (a .charged)) in
     rw (not-true (a .sound) (i .if1 .taken))
     (refuses false now (a .class) (a .packet) _ (c .refused .result) (c .refused .ensures) (sym (unsound-number (meaning now) _ _)) refl)
 
@@ -54,7 +56,8 @@ returns-2 c =
     let h = e .before in
     let a = h .before .before .args in
     λ l leaves parents longest takes.
-    let now = lentWaiting l (a .start .now) (a .held .now) (a .lengths .now) (a .tags .now) (a .packets .now) (a .bytes .now) in
+    let now = lentWaiting l (a .start .now) (a .held .now) (a .lengths .now) (a .tags .now) (a .marks .now)
+    (lentTotals (a .packets .now) (a .bytes .now) (a .charged)) in
     let off : isLeaf (l .tree) (a .class) ≡ false =
     rw leaves (sym (h .holds .ensures .0) ∙ not-true (h .holds .result) (e .if2 .taken)) in
     rw (not-false (a .sound) (h .before .if1 .left))
@@ -87,7 +90,8 @@ inside j =
 -- the link at entry
 abbrev here : tie.After-judge → Link → Link
 here j l = let a = begun j .args in
-    lentWaiting l (a .start .now) (a .held .now) (a .lengths .now) (a .tags .now) (a .packets .now) (a .bytes .now)
+    lentWaiting l (a .start .now) (a .held .now) (a .lengths .now) (a .tags .now) (a .marks .now)
+    (lentTotals (a .packets .now) (a .bytes .now) (a .charged))
 
 -- the verdict is that of the checks on a link that is sound
 said : (j : tie.After-judge) (l : Link) → l .tree .leaves ≡ begun j .args .leaves → l .tree .longest ≡ begun j .args .longest .now
@@ -107,36 +111,42 @@ sounds j = not-false (begun j .args .sound) (j .before .before .before .before .
 enum-told : tie.Need-enum-told
 enum-told c = search needs
 
+marked-with-requires : tie.Need-marked-with-requires
+marked-with-requires c κs = search needs
+
 put-requires : tie.Need-put-requires
 put-requires c κs =
-    let e = c .before .before .before in
+    let e = c .before .before .before .before .before in
     let j = e .before .before in
     (inside j, j .judge .ensures .room (e .enum-told .given .1))
 
 recount-requires : tie.Need-recount-requires
 recount-requires c κs =
     let p = c .before .before in
-    let e = p .before .before .before .before in
+    let e = p .before .before .before .before .before .before in
     let j = e .before .before in
     (inside j, begun j .pre (sounds j))
 
-mul-t32 : tie.Need-mul-t32
-mul-t32 c = omega (arith, inside (c .before .before .before .before .before .before .before .before .before))
+mul-t36 : tie.Need-mul-t36
+mul-t36 c = omega (arith, inside (c .before .before .before .before .before .before .before .before .before .before .before))
 
-element-copy-out-t35 : tie.Need-element-copy-out-t35
-element-copy-out-t35 c = omega (arith, inside (c .before .before .before .before .before .before .before .before .before))
+element-copy-out-t39 : tie.Need-element-copy-out-t39
+element-copy-out-t39 c = omega (arith, inside (c .before .before .before .before .before .before .before .before .before .before .before))
 
 returns-3 : tie.Need-returns-3
 returns-3 c =
     let n = c .before in
     let p = n .before .before .before in
-    let e = p .before .before .before .before in
+    let m = p .before .before .before .before .before in
+    let e = m .before in
     let j = e .before .before in
     let a = begun j .args in
     λ l leaves parents longest takes.
     let passed = e .enum-told .given .1 in
     let passes = sym (said j l leaves longest) ∙ passed in
-    let link = ap₂ withTotals (p .put .ensures l) (n .recount .ensures (l .tree) parents) in
+    let waits = queued l (a .start .now) (a .held .now) (a .lengths .now) (a .tags .now) (a .marks .now) in
+    let laid = p .put .ensures l ∙ ap (laidLast waits (a .class)) (m .marked-with .ensures) in
+    let link = ap₂ withTotals laid (n .recount .ensures (l .tree) (a .charged) parents) in
     let on = takes (sounds j) in
     let bytes =
     ap (λ (x : Link). getD (x .totals .bytes) (a .class) 0) link
@@ -175,10 +185,11 @@ arrive-spec =
     element-copy-out-judge-2
     judge-requires
     enum-told
+    marked-with-requires
     put-requires
     recount-requires
-    mul-t32
-    element-copy-out-t35
+    mul-t36
+    element-copy-out-t39
     returns-3
     enum-told-2
     refused-requires-3

@@ -1,6 +1,6 @@
 -- `leaf::goes` meets its contract.
 use native.Mathlib.Omega.{arith}
-use Rattle.steps.specs.Fields.{lentLink}
+use Rattle.steps.specs.Fields.{lentLink, lentTotals}
 use Rattle.steps.proofs.Goings.{goes-first, goes-takes, goes-pays, goes-climbs, goes-off, goes-more, goes-last}
 use borrow.Author.Needs.{needs}
 use Rattle.steps.proofs.leaf.goes.Statement.{statement}
@@ -22,6 +22,9 @@ pay-requires c κs =
 recount-requires : tie.Need-recount-requires
 recount-requires c κs = let st = c .before .before .before .before .before .before .before .before in goes-climbs (st .pre .3)
 
+grown-requires : tie.Need-grown-requires
+grown-requires c κs = search needs
+
 element-copy-out-wide : tie.Need-element-copy-out-wide
 element-copy-out-wide c = search needs
 
@@ -30,7 +33,7 @@ wide-requires c κs = search needs
 
 take-requires : tie.Need-take-requires
 take-requires c κs =
-    let n = c .before .before .before .before in
+    let n = c .before .before .before .before .before in
     let st = n .before .before .before .before .before .before .before .before .before in
     goes-takes (st .pre .3)
 
@@ -38,21 +41,23 @@ returns : tie.Need-returns
 returns c =
     let m = c .before in
     let w = m .before .before .before in
-    let n = w .before .before in
+    let d = w .before .before in
+    let n = d .before in
     let y = n .before .before .before in
     let k = y .before .before .before in
     let f = k .before in
     let a = f .before .before .args in
     λ t size place s. (
       f .first .ensures (lentLink t size (a .active) place (a .balance .now) (a .residual .now) (a .start .now) (a .held .now)
-          (a .lengths .now) (a .tags .now) (a .packets .now) (a .bytes .now)) (a .held .now),
-      goes-more s (f .first .ensures) (k .cost .ensures) _ _ (y .pay .ensures) (λ l. m .take .ensures l (a .lengths .now) (a .tags .now))
-          (n .recount .ensures) (omega (arith, w .wide .ensures, c .if1 .taken)),
+          (a .lengths .now) (a .tags .now) (a .marks .now) (lentTotals (a .packets .now) (a .bytes .now) (a .charged))) (a .held .now),
+      goes-more s (f .first .ensures) (k .cost .ensures) _ _ (y .pay .ensures) (λ l. m .take .ensures l (a .lengths .now) (a .tags .now)
+          (a .marks .now))
+          (n .recount .ensures) (d .grown .ensures) (omega (arith, w .wide .ensures, c .if1 .taken)),
     )
 
 turn-off-requires : tie.Need-turn-off-requires
 turn-off-requires c κs =
-    let n = c .before .before .before .before .before .before .before .before in
+    let n = c .before .before .before .before .before .before .before .before .before in
     let y = n .before .before .before in
     let k = y .before .before .before in
     let f = k .before in
@@ -64,16 +69,18 @@ returns-2 c =
     let g = c .before .before .before in
     let m = g .before in
     let w = m .before .before .before in
-    let n = w .before .before in
+    let d = w .before .before in
+    let n = d .before in
     let y = n .before .before .before in
     let k = y .before .before .before in
     let f = k .before in
     let a = f .before .before .args in
     λ t size place s. (
       f .first .ensures (lentLink t size (a .active) place (a .balance .now) (a .residual .now) (a .start .now) (a .held .now)
-          (a .lengths .now) (a .tags .now) (a .packets .now) (a .bytes .now)) (a .held .now),
-      goes-last s (f .first .ensures) (k .cost .ensures) _ _ (y .pay .ensures) (λ l. m .take .ensures l (a .lengths .now) (a .tags .now))
-          (n .recount .ensures) (omega (arith, w .wide .ensures, g .if1 .left)) _ _ _ (c .turn-off .ensures),
+          (a .lengths .now) (a .tags .now) (a .marks .now) (lentTotals (a .packets .now) (a .bytes .now) (a .charged))) (a .held .now),
+      goes-last s (f .first .ensures) (k .cost .ensures) _ _ (y .pay .ensures) (λ l. m .take .ensures l (a .lengths .now) (a .tags .now)
+          (a .marks .now))
+          (n .recount .ensures) (d .grown .ensures) (omega (arith, w .wide .ensures, g .if1 .left)) _ _ _ (c .turn-off .ensures),
     )
 
 pub goes-spec : {M : Type 1} → statement M
@@ -84,6 +91,7 @@ goes-spec =
     cost-requires
     pay-requires
     recount-requires
+    grown-requires
     element-copy-out-wide
     wide-requires
     take-requires

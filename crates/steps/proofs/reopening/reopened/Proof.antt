@@ -60,12 +60,12 @@ active-is c k e =
 -- what is found on the one is found on the other
 finds : (c : tie.After-weights-of) (size : Bytes) (k : Unseen) (b r s l b′ r′ : List ℕ) (f : Found)
     → Finds (closedLink (made c) size k b r s l) f
-    (λ after active place. lentLink (made c) after active place b′ r′ s (k .held) l (k .tags) (k .packets) (k .bytes))
+    (λ after active place. lentLink (made c) after active place b′ r′ s (k .held) l (k .tags) (k .marks) (k .totals))
     → Finds (closedLink (lent (c .before .before)) size k b r s l) f
-    (λ after active place. lentLink (lent (c .before .before)) after active place b′ r′ s (k .held) l (k .tags) (k .packets) (k .bytes))
+    (λ after active place. lentLink (lent (c .before .before)) after active place b′ r′ s (k .held) l (k .tags) (k .marks) (k .totals))
 finds c size k b r s l b′ r′ f =
     subst (λ (t : Tree). Finds (closedLink t size k b r s l) f
-    (λ after active place. lentLink t after active place b′ r′ s (k .held) l (k .tags) (k .packets) (k .bytes))) (same c)
+    (λ after active place. lentLink t after active place b′ r′ s (k .held) l (k .tags) (k .marks) (k .totals))) (same c)
 
 sums-of-requires : tie.Need-sums-of-requires
 sums-of-requires c κs =
