@@ -4,9 +4,9 @@
 #   cases/link_cases.py            checks that both files are what the text packs to, and each line of the text what the model says
 #   cases/link_cases.py --write    puts the model's lines into the text and packs it anew
 # It says what differs, by the names of the cases. Its status is 1 where something differs, 2 where the text cannot be read.
-# The model works the rules (R86 to R164, R276, R277 and R308 to R311) in plain whole numbers, and judges nothing by what the crates answer. It was
-# written beside our definitions and the program's source: a second computation, and not the independent reading, which is
-# second/second.rs.
+# The model works the rules (R86 to R164, R276, R277, R308 to R311, and of the second engine R315 to R334) in plain whole numbers, and judges
+# nothing by what the crates answer. It was written beside our definitions and the program's source: a second computation, and not the
+# independent reading, which is second/second.rs.
 import difflib
 import os
 import sys
@@ -49,6 +49,9 @@ class Link:
         self.bytes = [0] * NUMBERS
         self.mark = [0] * (NUMBERS * PLACES)
         self.charged = 0
+        # of the second engine: the classes that have their quota in this round, and the quotas
+        self.asked = set()
+        self.quota = [0] * NUMBERS
 
     def copy(self):
         other = Link.__new__(Link)
@@ -309,21 +312,29 @@ def hand_down(link, i):
     return quota
 
 
-# A round opens: the leaves that hold a packet take part, and every active class gets its share, from the top down.
-# In a surplus round the root hands down nothing and keeps its account as it is, and so does the size in force. In a main round under
-# rule 2 the size becomes that of the active classes, and the root takes the difference once its residual has joined its balance (R230).
-def open_round(link):
+# A round begins at place 1: the leaves that hold a packet take part. Whether it is a surplus round.
+# In a surplus round the root keeps its account as it is, and so does the size in force. In a main round under rule 2 the size becomes
+# that of the active classes, and the root takes the difference once its residual has joined its balance (R230).
+def begin_round(link):
     leaves = {i for i in link.classes() if link.is_leaf(i) and link.held[i] > 0}
     link.active = leaves | above(link, leaves)
+    link.place = 1
+    if has_surplus(link):
+        return True
+    link.balance[0] += link.residual[0]
+    link.residual[0] = 0
+    if link.rule == 2:
+        old, link.size = link.size, size_of(link, [i for i in link.classes() if i in link.active])
+        link.balance[0] += link.size - old
+        # B + R + new is never below old: the model holds itself to it.
+        assert link.balance[0] >= 0, "the root cannot take the difference of the sizes"
+    return False
+
+
+# A round opens: every active class gets its share, from the top down; in a surplus round the root hands down nothing.
+def open_round(link):
     quota = [0] * NUMBERS
-    if not has_surplus(link):
-        link.balance[0] += link.residual[0]
-        link.residual[0] = 0
-        if link.rule == 2:
-            old, link.size = link.size, size_of(link, [i for i in link.classes() if i in link.active])
-            link.balance[0] += link.size - old
-            # B + R + new is never below old: the model holds itself to it.
-            assert link.balance[0] >= 0, "the root cannot take the difference of the sizes"
+    if not begin_round(link):
         quota[0] = hand_down(link, 0)
     for i in link.classes():
         if i in link.active:
@@ -331,7 +342,6 @@ def open_round(link):
             link.residual[i] = 0
             if not link.is_leaf(i):
                 quota[i] = hand_down(link, i)
-    link.place = 1
 
 
 # A class turns inactive: its balance and residual go to its parent's residual, and so on up while no child is active.
@@ -361,14 +371,15 @@ def next_leaf(link):
         assert rounds <= 2, "the model opens a third round in one send"
 
 
-def send(before):
+# A send by one engine: its own soundness, and how it finds the next leaf.
+def send_by(before, sound, next_one):
     refused = "out %d 0 class 0 length 0 tag 0 rounds 0 waited 0 same"
-    if not is_sound(before):
+    if not sound(before):
         return before, refused % NOT_SOUND
     if not any(before.held):
         return before, refused % NONE_WAITS
     link = before.copy()
-    i, rounds = next_leaf(link)
+    i, rounds = next_one(link)
     link.place = i
     length, tag, mark = link.take_first(i)
     link.balance[i] -= charge(length)
@@ -377,10 +388,85 @@ def send(before):
     if link.held[i] == 0:
         turn_inactive(link, i)
     # A state stays sound: the model holds itself to it.
-    assert is_sound(link), "the model's record is not sound after a send"
+    assert sound(link), "the model's record is not sound after a send"
     waited = (link.charged - mark) % WRAP
     went = "out 0 0 class %d length %d tag %d rounds %d waited %d" % (i, length, tag, rounds, waited)
     return link, "%s %s" % (went, same(before, link))
+
+
+def send(before):
+    return send_by(before, is_sound, next_leaf)
+
+
+# ---- The model: the second engine ----
+
+
+# A class that has no quota yet asks its parent, which asks its own, up to the root (R317). It takes its residual and its due, which its
+# parent pays, and works out its quota; a leaf has no child to hand down to.
+def ask(link, i):
+    if i in link.asked:
+        return
+    due = 0
+    if i > 0:
+        ask(link, link.parent[i])
+        due = link.weight[i] * link.quota[link.parent[i]]
+        link.balance[link.parent[i]] -= due
+    link.balance[i] += link.residual[i] + due
+    link.residual[i] = 0
+    link.quota[i] = 0 if link.is_leaf(i) else link.balance[i] // weight_sum(link, i)
+    link.asked.add(i)
+
+
+# The three clauses on who has asked, of every class number (R327 to R329).
+def asked_right(link):
+    for i in range(NUMBERS):
+        yet = [k for k in link.children(i) if k in link.active and k not in link.asked]
+        if i in link.asked and link.balance[i] < link.quota[i] * sum(link.weight[k] for k in yet):
+            return False
+        if i in link.classes() and i in link.active and i in link.asked and link.parent[i] not in link.asked:
+            return False
+        if link.is_leaf(i) and i in link.active and i < link.place and i not in link.asked:
+            return False
+    return True
+
+
+def second_sound(link):
+    return is_sound(link) and asked_right(link)
+
+
+# An arrival is the first engine's, on a record that is sound by the second's list.
+def second_arrive(before, i, length, tag):
+    if not second_sound(before):
+        return before, "in %d 0 bytes 0 same" % NOT_SOUND
+    link, line = arrive(before, i, length, tag)
+    words = line.split()
+    return link, " ".join(words[:5] + words[7:])
+
+
+# Leaf by leaf from the place on, each visit asks first (R320); rounds open, with nothing shared out, until a leaf can send (R322, R323).
+def next_visited(link):
+    rounds = 0
+    while True:
+        for i in link.classes():
+            if i >= link.place and i in link.active and link.is_leaf(i):
+                ask(link, i)
+                if can_send(link, i):
+                    return i, rounds
+        surplus = begin_round(link)
+        link.asked = {0} if surplus else set()
+        link.quota[0] = 0
+        rounds += 1
+        assert rounds <= 2, "the model opens a third round in one send"
+
+
+def second_send(before):
+    return send_by(before, second_sound, next_visited)
+
+
+# Who has asked, as a number, and the quota of each class from the root on.
+def quotas(link):
+    each = (str(link.quota[i]) for i in range(min(link.count, 63) + 1))
+    return "asked %d quotas %s" % (bits(link.asked), " ".join(each))
 
 
 # ---- The model: the commands that the cases have beside the calls ----
@@ -423,6 +509,8 @@ FIELDS = (
     ("bytes", "class", 64),
     ("mark", "waiting", 64),
     ("charged", "", 64),
+    ("asked", "set", 64),
+    ("quota", "class", 64),
 )
 FIELD_NUMBER = {name: number for number, (name, _, _) in enumerate(FIELDS)}
 
@@ -478,7 +566,7 @@ class Model:
             line = "# " + arguments[0]
         elif word == "plan":
             self.link, line = fresh(read_plan(arguments[0]) or Link())
-        elif word == "fresh":
+        elif word in ("fresh", "second fresh"):
             self.link, line = fresh(self.link)
         elif word == "arrive":
             self.link, line = arrive(self.link, *arguments)
@@ -502,6 +590,14 @@ class Model:
             line = totals(self.link)
         elif word == "fit":
             self.link = fit(self.link)
+        elif word == "second arrive":
+            self.link, line = second_arrive(self.link, *arguments)
+        elif word == "second send":
+            self.link, line = second_send(self.link)
+        elif word == "second sound":
+            line = "sound yes" if second_sound(self.link) else "sound no"
+        elif word == "quotas":
+            line = quotas(self.link)
         return line
 
 
@@ -509,6 +605,7 @@ class Model:
 
 # The commands by their numbers, which are their first bytes.
 WORDS = (None, "case", "plan", "fresh", "arrive", "take", "store", "keep", "back", "sound", "compare", "send", "books", "totals", "fit")
+WORDS += ("second fresh", "second arrive", "second send", "second sound", "quotas")
 
 
 class Unreadable(Exception):
@@ -638,6 +735,8 @@ class Reader:
 
     def add_command(self, at, words, line):
         word, rest = words[0], words[1:]
+        if word == "second" and rest:
+            word, rest = " ".join(words[:2]), words[2:]
         if word not in WORDS:
             raise Unreadable('"%s" is no command' % word)
         if word == "case":
@@ -659,7 +758,7 @@ class Reader:
             return [self.trees[" ".join(rest)]]
         if word == "plan":
             return [b""]
-        if word == "arrive":
+        if word in ("arrive", "second arrive"):
             return numbers(rest, [("CLASS", 64), ("LENGTH", 16), ("TAG", 32)])
         if word == "take":
             return numbers(rest, [("CLASS", 64)])
@@ -702,7 +801,7 @@ def packed(command):
         if len(arguments[0]) > 65535:
             raise Unreadable("%s:%d: a plan of more than 65535 bytes" % (TEXT, command.at))
         return first + len(arguments[0]).to_bytes(2, "big") + arguments[0]
-    widths = {"arrive": (8, 2, 4), "take": (8,), "store": (1, 2, 8)}.get(command.word, ())
+    widths = {"arrive": (8, 2, 4), "second arrive": (8, 2, 4), "take": (8,), "store": (1, 2, 8)}.get(command.word, ())
     return first + b"".join(value.to_bytes(width, "big") for value, width in zip(arguments, widths))
 
 
@@ -713,7 +812,7 @@ def packed_size(packed_bytes, at):
         return 2 + int.from_bytes(packed_bytes[at + 1 : at + 2], "big")
     if word == "plan":
         return 3 + int.from_bytes(packed_bytes[at + 1 : at + 3], "big")
-    return {"arrive": 15, "take": 9, "store": 12}.get(word, 1)
+    return {"arrive": 15, "second arrive": 15, "take": 9, "store": 12}.get(word, 1)
 
 
 # Packed commands, cut where a case begins: the name and the bytes of each.

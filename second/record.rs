@@ -1,8 +1,8 @@
 //! Records runs of the second program: record FOLDER GENERATE SECOND LISTING writes FOLDER/stdin (the inputs) and FOLDER/stdout
-//! (what their lines come to, and for a short input the lines that say why each leaf is silent, and those of the totals that wait under
-//! each class, after the plan and after each event). Run 0 is the one in which a packet waits nearly its bound, run 1 the listing. With
-//! FIRST and MANY after these words it records the runs of these seeds instead, but for large inputs, and asks of each why its leaves are
-//! silent and what waits under its classes.
+//! (what their lines come to, and for a short input the same of the second engine, the lines that say why each leaf is silent, and those
+//! of the totals that wait under each class, after the plan and after each event). Run 0 is the one in which a packet waits nearly its
+//! bound, run 1 the listing. With FIRST and MANY after these words it records the runs of these seeds instead, but for large inputs, and
+//! asks of each what it asks of a short one.
 //! The proved program `recorded` reads the first and must print the second. Build: rustc -O --edition 2021 record.rs
 
 use std::io::Write;
@@ -85,6 +85,7 @@ fn main() {
         inputs.extend(&input[..read]);
         lines.push_str(&format!("run {runs}{}", tally_of(&text)));
         if asked {
+            lines.push_str(&format!(" second{}", tally_of(&text)));
             lines.push_str(&format!(" silent{}", tally_of(&output_of(second, Some("silent-each"), &input))));
             lines.push_str(&format!(" totals{}", tally_of(&output_of(second, Some("totals-each"), &input))));
         }

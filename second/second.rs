@@ -5,7 +5,8 @@
 //! With words it prints a run worked step by step, for docs/by-hand.md (see by_hand.rs) and for the desk's own runs (see desk.rs), why
 //! leaves are silent (see silent.rs), what waits under each class (see totals.rs), how far apart two siblings are (see siblings.rs), a
 //! plan's bytes written back (see write.rs), a plan whose shares don't add up mended (see mend.rs), or another box's recording checked
-//! (see claims.rs). The program of waited.rs has this one as a part and reads its lines.
+//! (see claims.rs). The program of waited.rs has this one as a part and reads its lines; that of engine2.rs has it as a part too, and works the
+//! engine as published beside this one, with the reader, the queues and the charges from here and with accounts of its own.
 //! Build: rustc -O --edition 2021 second.rs; test: rustc -O --edition 2021 --test second.rs -o second_test
 
 #[path = "by_hand.rs"]
@@ -17,7 +18,7 @@ mod desk;
 #[path = "mend.rs"]
 mod mend;
 #[path = "plan.rs"]
-mod plan;
+pub mod plan;
 #[cfg(test)]
 #[path = "random_plans.rs"]
 mod random_plans;
@@ -26,7 +27,7 @@ mod siblings;
 #[path = "silent.rs"]
 mod silent;
 #[path = "totals.rs"]
-mod totals;
+pub mod totals;
 #[path = "write.rs"]
 mod write;
 
@@ -36,16 +37,16 @@ use std::io::Write;
 /// "that leaf already holds 32 packets".
 const MOST_WAITING: usize = 32;
 /// "the place is 1 to 64", and a fresh link has "place 64".
-const LAST_PLACE: usize = 64;
+pub const LAST_PLACE: usize = 64;
 
 // ---------------------------------------------------------------------------------------------
 // The link's state.
 
 /// "Each class has an account: a balance B, and for the root and inner classes a residual R."
 #[derive(Clone, Copy, PartialEq, Eq, Debug)]
-struct Account {
-    balance: u64,
-    residual: u64,
+pub struct Account {
+    pub balance: u64,
+    pub residual: u64,
 }
 
 /// A waiting packet: "each a length and a tag". "Each waiting place gains a mark: the running total of bytes charged on the link when the
@@ -53,15 +54,15 @@ struct Account {
 /// sent since it was accepted, to which every send adds; so it is "the total less the mark, modulo 2 to the power 64". As "any values of
 /// them are sound", any sum is, and the soundness list below does not speak of it.
 #[derive(Clone, Copy, PartialEq, Eq, Debug)]
-struct Packet {
-    length: u64,
-    tag: u64,
-    since: u64,
+pub struct Packet {
+    pub length: u64,
+    pub tag: u64,
+    pub since: u64,
 }
 
 impl Packet {
     /// What the packet costs on the wire.
-    fn charge(&self) -> u64 {
+    pub fn charge(&self) -> u64 {
         charge(self.length)
     }
 }
@@ -70,44 +71,45 @@ impl Packet {
 /// `size` is Q, the whole-tree size; `in_force` is "the size in force, which a sound state keeps". "Keep both totals for each class beside
 /// the queues": `totals` has those of all 64 class numbers.
 #[derive(Clone, PartialEq, Eq, Debug)]
-struct Link {
-    tree: Tree,
-    size: u64,
-    in_force: u64,
-    accounts: Vec<Account>,
-    active: Vec<bool>,
-    place: usize,
-    queues: Vec<Vec<Packet>>,
-    totals: Vec<totals::Total>,
+pub struct Link {
+    pub tree: Tree,
+    pub size: u64,
+    pub in_force: u64,
+    pub accounts: Vec<Account>,
+    pub active: Vec<bool>,
+    pub place: usize,
+    pub queues: Vec<Vec<Packet>>,
+    pub totals: Vec<totals::Total>,
 }
 
 /// The answer to a send: "class, length, tag and the number of rounds opened in that call"; the length is bare. "A send also answers the
 /// bytes charged from acceptance to the end of that packet": `wait`.
 #[derive(Clone, PartialEq, Eq, Debug)]
-struct Sent {
-    class: usize,
-    length: u64,
-    tag: u64,
-    rounds: usize,
-    wait: u64,
+pub struct Sent {
+    pub class: usize,
+    pub length: u64,
+    pub tag: u64,
+    pub rounds: usize,
+    pub wait: u64,
     /// Which of the opened rounds were surplus rounds, in order (for the tests and the counts).
-    surplus: Vec<bool>,
-    /// Each moment at which a round has closed (for two siblings, side by side).
-    closings: Vec<Closing>,
+    pub surplus: Vec<bool>,
+    /// Each moment at which a round has closed (for two siblings, side by side, and for the two engines).
+    pub closings: Vec<Closing>,
 }
 
 impl Sent {
     /// `out` class length tag rounds, and the bytes from acceptance on: "`out` lines gain it as a last field".
-    fn line(&self) -> String {
+    pub fn line(&self) -> String {
         format!("out {} {} {} {} {}", self.class, self.length, self.tag, self.rounds, self.wait)
     }
 }
 
-/// "the round has closed at that moment, and a new one is opened in the same call": all balances then, and the quotas of the new one.
+/// "the round has closed at that moment, and a new one is opened in the same call": all balances and residuals then, and the quotas of the new one.
 #[derive(Clone, PartialEq, Eq, Debug)]
-struct Closing {
-    balances: Vec<u64>,
-    quotas: Vec<u64>,
+pub struct Closing {
+    pub balances: Vec<u64>,
+    pub residuals: Vec<u64>,
+    pub quotas: Vec<u64>,
 }
 
 /// What an opening did, kept so that the tests can see the quotas.
@@ -133,7 +135,7 @@ fn link_without_classes() -> Link {
 
 /// "root balance Q, every other B and R zero, queues empty, nothing active, place 64"; "a fresh link starts with the whole-tree size", under
 /// both rules; a bad tree: 11 at 0.
-fn fresh_link(tree: &Tree) -> (Link, Option<Refusal>) {
+pub fn fresh_link(tree: &Tree) -> (Link, Option<Refusal>) {
     if !obeys_plan_rules(tree) {
         return (link_without_classes(), Some(Refusal { number: 11, place: 0 }));
     }
@@ -215,7 +217,7 @@ impl Link {
     }
 
     /// Gives the first rule of "A state is sound when" that is broken, or nothing for a sound state.
-    fn broken_rule(&self) -> Option<&'static str> {
+    pub fn broken_rule(&self) -> Option<&'static str> {
         if !obeys_plan_rules(&self.tree) {
             return Some("its tree obeys the plan rules");
         }
@@ -297,7 +299,7 @@ impl Link {
 
 /// An arrival: "Arrival: 11, 12, 13, 14"; a taken packet joins the end of its leaf's queue, and nothing else changes but the totals. It
 /// answers what adding to the queue does.
-fn arrival(link: &mut Link, class: usize, length: u64, tag: u64) -> Result<u64, Refusal> {
+pub fn arrival(link: &mut Link, class: usize, length: u64, tag: u64) -> Result<u64, Refusal> {
     // 11: "the state is not sound"
     if link.broken_rule().is_some() {
         return refuse(11, 0);
@@ -334,7 +336,7 @@ fn add_to_queue(link: &mut Link, leaf: usize, packet: Packet) -> u64 {
 }
 
 /// A send: "Send: 11, 15", then steps 1 to 4 of "Sending" until a packet goes.
-fn send(link: &mut Link) -> Result<Sent, Refusal> {
+pub fn send(link: &mut Link) -> Result<Sent, Refusal> {
     // 11: "the state is not sound"
     if link.broken_rule().is_some() {
         return refuse(11, 0);
@@ -355,10 +357,11 @@ fn send(link: &mut Link) -> Result<Sent, Refusal> {
         // "a main round always sends", so no other round is opened after one in the same call.
         assert!(surplus.last() != Some(&false), "a main round sent nothing");
         let balances = link.accounts.iter().map(|account| account.balance).collect();
+        let residuals = link.accounts.iter().map(|account| account.residual).collect();
         let opening = open_round(link);
         link.assert_sound("an opening");
         surplus.push(opening.surplus);
-        closings.push(Closing { balances, quotas: opening.quotas });
+        closings.push(Closing { balances, residuals, quotas: opening.quotas });
         // "That number is at most 2: a surplus round that sends nothing is followed by a main round"
         assert!(surplus.len() <= 2, "more than 2 rounds opened in one send");
         assert!(surplus != [true, true], "a surplus round that sent nothing is followed by another");
@@ -381,7 +384,7 @@ fn search(link: &mut Link) -> Option<usize> {
 
 /// So many bytes are "charged on the link": each packet that waits has waited for them, and the one that they are charged for still waits,
 /// as its own bytes count "to the end of that packet".
-fn charged_on_the_link(link: &mut Link, bytes: u64) {
+pub fn charged_on_the_link(link: &mut Link, bytes: u64) {
     for packet in link.queues.iter_mut().flatten() {
         // "modulo 2 to the power 64"; that no sum of a run from a fresh link gets there is checked by the run (`Run::left`)
         packet.since = packet.since.wrapping_add(bytes);

@@ -128,10 +128,15 @@ fn arrival(bytes: &mut Vec<u8>, class: usize, length: u16, tag: u32) {
     bytes.extend(tag.to_be_bytes());
 }
 
-// A recording in which each leaf holds so many packets at the start.
+// A recording of 63 classes in which each leaf holds so many packets at the start.
 pub fn recording(shape: Shape, weights: Weights, lengths: Lengths, deep: usize, pairs: usize, seed: u64) -> Recording {
+    recording_of(63, shape, weights, lengths, deep, pairs, seed)
+}
+
+// The same of so many classes.
+pub fn recording_of(classes: usize, shape: Shape, weights: Weights, lengths: Lengths, deep: usize, pairs: usize, seed: u64) -> Recording {
     let mut random = Random(seed);
-    let (mut input, leaves) = plan(shape, 63, weights, lengths, &mut random);
+    let (mut input, leaves) = plan(shape, classes, weights, lengths, &mut random);
     let (mut link, _) = Plain::read(&input).expect("a plan");
     let mut tag = 0;
     let mut comes = |link: &mut Plain, input: &mut Vec<u8>, class: usize| {

@@ -1,9 +1,11 @@
 // Commands on one link record, a line for each answer: fresh links, arrivals, sends and soundness of any record of numbers (demands 1
-// and 2); it runs, and is compared with the written-down answers.
+// and 2), in both engines; it runs, and is compared with the written-down answers. The record is the second engine's: the first engine's
+// calls take the link inside.
 mod books;
 mod fields;
 mod fit;
 mod same;
+mod second;
 
 ghost use Prim.Native.Nat.{_<_, _≤_};
 ghost use Rattle.state.specs.Queue.{startOf, heldOf};
@@ -16,6 +18,7 @@ use packed::command::number_16;
 use packed::command::number_32;
 use packed::command::number_64;
 use packed::command::part;
+use published_link::Second;
 use shown::either;
 use shown::number;
 use shown::pair;
@@ -68,8 +71,23 @@ const TOTALS: u64 = 13;
 // The totals are made to fit.
 const FIT: u64 = 14;
 
+// The second engine's: a fresh link of the tree at hand.
+const SECOND_FRESH: u64 = 15;
+
+// Its arrival: class 8, length 2, tag 4.
+const SECOND_ARRIVE: u64 = 16;
+
+// Its send.
+const SECOND_SEND: u64 = 17;
+
+// Whether the record is sound by its list.
+const SECOND_SOUND: u64 = 18;
+
+// Who has asked, and the quotas.
+const QUOTAS: u64 = 19;
+
 // A word, then a verdict's number and place.
-fn print_verdict(text: &[u8], v: Verdict) {
+pub(crate) fn print_verdict(text: &[u8], v: Verdict) {
     pair(text, checks::number(v) as u64, checks::place(v) as u64);
 }
 
@@ -172,10 +190,10 @@ fn take(before: Link, command: &[u8]) -> Link {
 }
 
 // A value stored into one number of the record.
-fn store(before: Link, command: &[u8]) -> Link {
+fn store(before: Second, command: &[u8]) -> Second {
     let field = number_8(command, 1);
     let index = number_16(command, 2) as usize;
-    fields::stored(before, field, index, number_64(command, 4))
+    second::stored(before, field, index, number_64(command, 4))
 }
 
 // Whether the record is sound.
@@ -185,13 +203,13 @@ fn sound(link: Link) -> Link {
 }
 
 // Whether the record is the very same as the kept one.
-fn compare(link: Link, kept: Link) -> Link {
+fn compare(held: Second, kept: Second) -> Second {
     word(b"kept");
-    compared(kept, link)
+    second::compared(kept, held)
 }
 
 // A send's answer.
-fn sent(answer: Departure) {
+pub(crate) fn sent(answer: Departure) {
     let verdict = answer.verdict;
     print_verdict(b"out ", verdict);
     number(b" class ", answer.class as u64);
@@ -208,21 +226,12 @@ fn send(before: Link) -> Link {
     compared(before, got.link)
 }
 
-// The record after a command.
-fn after(link: Link, kept: Link, command: &[u8]) -> Link {
+// The link inside after a command on it alone.
+fn link_after(link: Link, command: &[u8]) -> Link {
     match number_8(command, 0) {
-        NAME => {
-            name(command);
-            link
-        }
-        PLAN => plan(command),
-        FRESH => fresh(link.tree),
         ARRIVE => arrive(link, command),
         TAKE => take(link, command),
-        STORE => store(link, command),
-        BACK => kept,
         SOUND => sound(link),
-        COMPARE => compare(link, kept),
         SEND => send(link),
         BOOKS => books::show(link),
         TOTALS => books::totals(link),
@@ -231,10 +240,32 @@ fn after(link: Link, kept: Link, command: &[u8]) -> Link {
     }
 }
 
+// The record after a command. A fresh link of the first engine is one in which no class has a quota.
+fn after(held: Second, kept: Second, command: &[u8]) -> Second {
+    let link = held.link;
+    match number_8(command, 0) {
+        NAME => {
+            name(command);
+            held
+        }
+        PLAN => second::unasked(plan(command)),
+        FRESH => second::unasked(fresh(link.tree)),
+        STORE => store(held, command),
+        BACK => kept,
+        COMPARE => compare(held, kept),
+        SECOND_FRESH => second::fresh(held),
+        SECOND_ARRIVE => second::arrive(held, command),
+        SECOND_SEND => second::send(held),
+        SECOND_SOUND => second::sound(held),
+        QUOTAS => second::quotas(held),
+        _ => second::with_link(held, link_after(link, command)),
+    }
+}
+
 // The kept record after a command.
-fn kept_after(link: Link, kept: Link, command: &[u8]) -> Link {
+fn kept_after(held: Second, kept: Second, command: &[u8]) -> Second {
     if number_8(command, 0) == KEEP {
-        return link;
+        return held;
     }
     kept
 }
@@ -246,7 +277,7 @@ fn size(command: &[u8]) -> usize
     match number_8(command, 0) {
         NAME => 2 + number_8(command, 1) as usize,
         PLAN => 3 + number_16(command, 1) as usize,
-        ARRIVE => 15,
+        ARRIVE | SECOND_ARRIVE => 15,
         TAKE => 9,
         STORE => 12,
         _ => 1,
@@ -255,13 +286,13 @@ fn size(command: &[u8]) -> usize
 
 // Every command, one after the other, on one link record and a kept one.
 fn run(input: &[u8]) {
-    let mut link = Link::none();
-    let mut kept = Link::none();
+    let mut held = second::unasked(Link::none());
+    let mut kept = held;
     let mut at: usize = 0;
     while at < input.len() {
         let command = &input[at..];
-        link = after(link, kept, command);
-        kept = kept_after(link, kept, command);
+        held = after(held, kept, command);
+        kept = kept_after(held, kept, command);
         at = next(at, size(command), input.len());
     }
 }

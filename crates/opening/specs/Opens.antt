@@ -9,8 +9,9 @@ use Rattle.tree.specs.declared.Tree.{Tree}
 use Rattle.state.specs.declared.Account.{Account}
 use Rattle.state.specs.Account.{fundsOf, tookQuota, handedDown}
 use Rattle.tree.specs.Sum.{table}
-use Rattle.rules.specs.Opening.{Kind, kindOf, sizeIn, resized, quota, openedAccount, openedAccounts}
+use Rattle.rules.specs.Opening.{Kind, kindIs, kindOf, sizeIn, resized, quota, openedAccount, openedAccounts}
 use Rattle.opening.specs.declared.Shared.{Shared}
+use Rattle.opening.specs.declared.Begun.{Begun}
 use Rattle.state.specs.Account.{zipAccounts}
 
 -- an account that takes its due and shares out what it has over a weight sum
@@ -28,6 +29,12 @@ abbrev pub classShared : Bool → Bool → ℕ → ℕ → Account → Shared
 classShared on leaf sum due a =
     cond on (cond leaf (record { account = tookQuota a due; quota = 0 }) (sharedOut sum a due)) (record { account = a; quota = 0 })
 
+-- a round has begun on these accounts with this size in force, and shares out nothing yet
+pub record BeginsWith (t : Tree) (active size : ℕ) (accounts : List Account) (r : Begun) (after : List Account) : Type 0 where
+  pub kind-is : kindIs (r .surplus) ≡ kindOf t active accounts
+  pub size-is : r .size .0 ≡ sizeIn (kindOf t active accounts) t active size
+  pub accounts-are : after ≡ resized (kindOf t active accounts) size (sizeIn (kindOf t active accounts) t active size) accounts
+
 -- a round has opened on these accounts with this size in force: what is in force then, and the accounts
 pub record OpensWith (t : Tree) (active size : ℕ) (accounts : List Account) (new : ℕ) (after : List Account) : Type 0 where
   pub size-is : new ≡ sizeIn (kindOf t active accounts) t active size
@@ -36,6 +43,7 @@ pub record OpensWith (t : Tree) (active size : ℕ) (accounts : List Account) (n
       (resized (kindOf t active accounts) size (sizeIn (kindOf t active accounts) t active size) accounts)
 
 -- the opening has come to class i
-pub record OpenedUpTo (kind : Kind) (t : Tree) (active : ℕ) (accounts : List Account) (i : ℕ) (quotas balance residual : List ℕ) : Type 0 where
-  pub shares : quotas ≡ table (quota kind t active accounts) i ++ replicate (64 - i) 0
-  pub opened : zipAccounts balance residual ≡ table (openedAccount kind t active accounts) i ++ drop i accounts
+pub record OpenedUpTo (kind : Kind) (t : Tree) (active : ℕ) (accounts : List Account) (i : ℕ) (quotas balance residual : List ℕ) : Type 0
+  where
+    pub shares : quotas ≡ table (quota kind t active accounts) i ++ replicate (64 - i) 0
+    pub opened : zipAccounts balance residual ≡ table (openedAccount kind t active accounts) i ++ drop i accounts

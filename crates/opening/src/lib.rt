@@ -10,7 +10,7 @@ ghost use Rattle.tree.specs.Rules.{PlanRules};
 ghost use Rattle.rules.specs.Active.{weightSums};
 ghost use Rattle.tree.specs.Size.{mostSize, SizeRight};
 ghost use Rattle.rules.specs.Opening.{kindIs, kindOf, sizeIn, resized, openedAccounts};
-ghost use Rattle.opening.specs.Opens.{sharedOut, rootShared, classShared, OpensWith};
+ghost use Rattle.opening.specs.Opens.{sharedOut, rootShared, classShared, BeginsWith, OpensWith};
 ghost use Rattle.units.specs.Unit.{surplusOf};
 use active::active_size;
 use state::Account;
@@ -182,7 +182,35 @@ fn resize(surplus: bool, old: Bytes, size: Bytes, balance: &mut [u64; 64], resid
     keep(0, root.take_size(old, size), balance, residual);
 }
 
-// A round opens: the accounts are shared out, in a main round or a surplus round, and the size in force is handed back.
+// What a round opens with: whether it is a surplus round, and the size in force.
+pub struct Begun {
+    pub surplus: bool,
+    pub size: Bytes,
+}
+
+// A round begins, and shares out nothing yet: which kind it is, the size in force, and in a main round the root takes the difference.
+pub fn begin_round(
+    tree: Tree,
+    active: u64,
+    sums: [Weight; Link::CLASSES],
+    size: Bytes,
+    balance: &mut [u64; 64],
+    residual: &mut [u64; 64],
+) -> Begun
+    requires { ⌜ CanResize tree active (size .0) (zipAccounts (now balance) (now residual)) × (sums ≡ weightSums tree active) ⌝ }
+    ensures { λ r. ⌜ BeginsWith tree active (size .0) (zipAccounts (now (balance .entry)) (now (residual .entry))) r
+        (zipAccounts (now (balance .exit)) (now (residual .exit))) ⌝ }
+{
+    let surplus = is_surplus(tree, active, sums, balance, residual);
+    let after = size_after(surplus, tree, active, size);
+    resize(surplus, size, after, balance, residual);
+    Begun {
+        surplus,
+        size: after,
+    }
+}
+
+// A round opens: it begins, the accounts are shared out, and the size in force is handed back.
 pub fn open_round(
     tree: Tree,
     active: u64,
@@ -195,9 +223,8 @@ pub fn open_round(
     ensures { λ r. ⌜ OpensWith tree active (size .0) (zipAccounts (now (balance .entry)) (now (residual .entry))) (r .0)
         (zipAccounts (now (balance .exit)) (now (residual .exit))) ⌝ }
 {
-    let surplus = is_surplus(tree, active, sums, balance, residual);
-    let after = size_after(surplus, tree, active, size);
-    resize(surplus, size, after, balance, residual);
-    open_accounts(tree, active, surplus, sums, balance, residual);
+    let begun = begin_round(tree, active, sums, size, balance, residual);
+    let after = begun.size;
+    open_accounts(tree, active, begun.surplus, sums, balance, residual);
     after
 }

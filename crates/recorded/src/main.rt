@@ -1,7 +1,7 @@
 // Recorded runs: inputs one after the other, each after its length plus 1 in three bytes; prints for each how many lines its run has and
-// a sum over their bytes. Where 128 is added to the first of the three, it does the same for the lines that say why each leaf is silent
-// and for those of each class's totals, after the plan and after each event. The expected sums are those of the second program's lines
-// (bin/record writes both files). Serves demands 1 and 2.
+// a sum over their bytes. Where 128 is added to the first of the three, it does the same for the run over the second engine, and for the
+// lines that say why each leaf is silent and those of each class's totals, after the plan and after each event. The expected sums are
+// those of the second program's lines (bin/record writes both files). Serves demands 1 and 2.
 ghost use Prim.Native.Nat.{_<_};
 use libc::STDIN_FILENO;
 use lines::Line;
@@ -75,6 +75,20 @@ fn whole(input: &[u8]) -> Tally {
         part = parts::part(part.link, input, part.place, &mut text);
         let laid = part.laid;
         tally = with_text(tally, &text[..laid]);
+    }
+    tally
+}
+
+// All lines of the run over the second engine, event by event.
+fn whole_second(input: &[u8]) -> Tally {
+    let mut step = published_run::first(input);
+    let line = step.line;
+    let mut tally = with_line(none(), line);
+    while step.more {
+        let second = step.link;
+        step = published_run::next(second, input, step.place);
+        let said = step.line;
+        tally = with_line(tally, said);
     }
     tally
 }
@@ -180,6 +194,8 @@ fn show_run(k: usize, asked: bool, input: &[u8]) {
     number(b"run ", k as u64);
     show(whole(input));
     if asked {
+        word(b" second");
+        show(whole_second(input));
         show_both(after_each(input));
     }
     word(b"\n");
@@ -188,7 +204,7 @@ fn show_run(k: usize, asked: bool, input: &[u8]) {
 // The most inputs.
 const RUNS: usize = 10_000;
 
-// What is added to a length where it is asked why leaves are silent and what the totals are.
+// What is added to a length where it is asked for the second engine, why leaves are silent and what the totals are.
 const ASKED: usize = 8_388_608;
 
 // The number before the next input; 0 where there is none.

@@ -74,7 +74,7 @@ pub struct Gone {
 }
 
 // Leaf i sends its first packet; if that was its last, it turns inactive at once, and so on up.
-pub(crate) fn goes(
+pub fn goes(
     i: usize,
     active: u64,
     count: usize,

@@ -6,16 +6,16 @@ use Rattle.link_cases.proofs.run.Statement.{statement}
 use Rattle.link_cases.proofs.run.Tie as tie
 
 abbrev Inv-loop : tie.InvT-loop
-Inv-loop input link₀ kept₀ at₀ link kept at = Unit {0}
+Inv-loop input held₀ kept₀ at₀ held kept at = Unit {0}
 
 abbrev μ-loop : tie.MeasureT-loop
-μ-loop input link₀ kept₀ at₀ link kept at = length input - at
+μ-loop input held₀ kept₀ at₀ held kept at = length input - at
 
 none-requires : tie.Need-none-requires Inv-loop μ-loop
 none-requires c κs = tt
 
-none-requires-2 : tie.Need-none-requires-2 Inv-loop μ-loop
-none-requires-2 c κs = tt
+unasked-requires : tie.Need-unasked-requires Inv-loop μ-loop
+unasked-requires c κs = tt
 
 loop-holds : tie.Need-loop-holds Inv-loop μ-loop
 loop-holds c = tt
@@ -57,7 +57,7 @@ run-spec =
     Inv-loop
     μ-loop
     none-requires
-    none-requires-2
+    unasked-requires
     loop-holds
     sub-command
     part-command-start

@@ -16,7 +16,8 @@ use Rattle.opening.proofs.open_accounts.Tie as tie
 abbrev Inv-loop : tie.InvT-loop
 Inv-loop active surplus balance₀ residual₀ tree sums quotas₀ i₀ balance residual quotas i =
     (1 ≤ i) × (i ≤ 64)
-    × ((accounts : List Account) → CanOpen tree active accounts → OpenedUpTo (kindIs surplus) tree active accounts 1 quotas₀ balance₀ residual₀
+    × ((accounts : List Account) → CanOpen tree active accounts → OpenedUpTo (kindIs surplus) tree active accounts 1 quotas₀ balance₀
+    residual₀
     → OpenedUpTo (kindIs surplus) tree active accounts i quotas balance residual)
 
 abbrev μ-loop : tie.MeasureT-loop

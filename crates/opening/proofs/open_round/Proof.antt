@@ -1,93 +1,37 @@
 -- `opening::open_round` meets its contract.
-use mathlib.Core.Bool.{Bool, true, false}
-use mathlib.Core.List.{List}
-use mathlib.Core.Path.{_≡_, refl, sym, ap, subst, _∙_}
-use Prim.Native.Nat.{ℕ, _≤_}
-use native.Mathlib.Omega.{arith}
-use Rattle.tree.specs.declared.Tree.{Tree}
-use Rattle.tree.specs.Rules.{PlanRules}
-use Rattle.tree.specs.Size.{mostSize, SizeRight}
-use Rattle.tree.proofs.Rules.{size-ceiling}
-use Rattle.state.specs.declared.Account.{Account}
-use Rattle.rules.specs.Opening.{Kind, main, surplus, kindIs, kindOf, sizeIn, resized, openedAccounts}
+use mathlib.Core.Path.{_≡_, sym, ap, subst, _∙_}
+use Rattle.rules.specs.Opening.{Kind, kindIs, kindOf, sizeIn, resized, openedAccounts}
 use Rattle.rules.specs.Steps.{CanOpen}
-use Rattle.rules.proofs.Sizes.{main-right}
 use Rattle.state.specs.Account.{zipAccounts}
 use borrow.Author.Needs.{needs}
 use Rattle.opening.proofs.open_round.Statement.{statement}
 use Rattle.opening.proofs.open_round.Tie as tie
 
--- the size in force fits
-in-most : (k : Kind) (t : Tree) (active size : ℕ) → PlanRules t → SizeRight t size → sizeIn k t active size ≤ mostSize
-in-most main t active size rules right = omega (arith, main-right t active .most, size-ceiling t rules)
-in-most surplus t active size rules right = omega (arith, right .most, size-ceiling t rules)
-
-is-surplus-requires : tie.Need-is-surplus-requires
-is-surplus-requires c κs = let pre = c .before .before .pre in (pre .0 .before, pre .1)
-
-size-after-requires : tie.Need-size-after-requires
-size-after-requires c κs = let pre = c .before .before .before .pre in (pre .0 .before .rules, pre .0 .right)
-
-resize-requires : tie.Need-resize-requires
-resize-requires c κs =
-    let n = c .before .before in
-    let s = n .before in
-    let st = s .before .before .before in
-    let a = st .args in
-    let can = st .pre .0 in (
-      can .before .many,
-      can .before .small 0 (omega arith),
-      omega (arith, n .size-after .ensures, in-most (kindIs (s .is-surplus .result)) (a .tree) (a .active) (a .size .0) (can .before .rules) (can .right)),
-      λ r.
-          omega (
-            arith,
-            n .size-after .ensures ∙ ap (λ (b : Bool). sizeIn (kindIs b) (a .tree) (a .active) (a .size .0)) r,
-            can .covers (sym (s .is-surplus .ensures) ∙ ap kindIs r),
-          ),
-    )
-
--- the accounts that are shared out
-shared : (c : tie.After-resize)
-    → zipAccounts (c .resize .last .1 .1 .1 .0) (c .resize .last .1 .1 .1 .1 .0)
-    ≡ resized (kindOf (c .before .before .before .before .before .before .before .args .tree) (c .before .before .before .before .before .before .before .args .active)
-    (zipAccounts (c .before .before .before .before .before .before .before .args .balance .now) (c .before .before .before .before .before .before .before .args .residual .now)))
-    (c .before .before .before .before .before .before .before .args .size .0)
-    (sizeIn (kindOf (c .before .before .before .before .before .before .before .args .tree) (c .before .before .before .before .before .before .before .args .active)
-    (zipAccounts (c .before .before .before .before .before .before .before .args .balance .now) (c .before .before .before .before .before .before .before .args .residual .now)))
-    (c .before .before .before .before .before .before .before .args .tree) (c .before .before .before .before .before .before .before .args .active)
-    (c .before .before .before .before .before .before .before .args .size .0))
-    (zipAccounts (c .before .before .before .before .before .before .before .args .balance .now) (c .before .before .before .before .before .before .before .args .residual .now))
-shared c =
-    let n = c .before .before .before in
-    let s = n .before in
-    let a = s .before .before .before .args in
-    let xs = zipAccounts (a .balance .now) (a .residual .now) in
-    c .resize .ensures
-    ∙ ap (λ (m : ℕ). resized (kindIs (s .is-surplus .result)) (a .size .0) m xs) (n .size-after .ensures)
-    ∙ ap (λ (k : Kind). resized k (a .size .0) (sizeIn k (a .tree) (a .active) (a .size .0)) xs) (s .is-surplus .ensures)
+begin-round-requires : tie.Need-begin-round-requires
+begin-round-requires c κs = c .before .before .pre
 
 open-accounts-requires : tie.Need-open-accounts-requires
 open-accounts-requires c κs =
-    let r = c .before .before in
-    let st = r .before .before .before .before .before .before .before in
-    (subst (CanOpen (st .args .tree) (st .args .active)) (sym (shared r)) (st .pre .0 .after), st .pre .1)
+    let b = c .before .before .before in
+    let st = b .before .before .before in
+    (subst (CanOpen (st .args .tree) (st .args .active)) (sym (b .begin-round .ensures .accounts-are)) (st .pre .0 .after), st .pre .1)
 
 returns : tie.Need-returns
 returns c =
-    let r = c .before .before .before in
-    let n = r .before .before .before in
-    let s = n .before in
-    let a = s .before .before .before .args in
+    let b = c .before .before .before .before in
+    let a = b .before .before .before .args in
+    let begun = b .begin-round .ensures in
     let xs = zipAccounts (a .balance .now) (a .residual .now) in
     let k = kindOf (a .tree) (a .active) xs in
     record {
-      size-is = n .size-after .ensures ∙ ap (λ (x : Kind). sizeIn x (a .tree) (a .active) (a .size .0)) (s .is-surplus .ensures);
+      size-is = begun .size-is;
       accounts-are =
           c .open-accounts .ensures
-          ∙ ap (openedAccounts (kindIs (s .is-surplus .result)) (a .tree) (a .active)) (shared r)
-          ∙ ap (λ (x : Kind). openedAccounts x (a .tree) (a .active) (resized k (a .size .0) (sizeIn k (a .tree) (a .active) (a .size .0)) xs))
-          (s .is-surplus .ensures);
+          ∙ ap (openedAccounts (kindIs (b .begin-round .result .surplus)) (a .tree) (a .active)) (begun .accounts-are)
+          ∙ ap (λ (x : Kind). openedAccounts x (a .tree) (a .active) (resized k (a .size .0) (sizeIn k (a .tree) (a .active) (a .size .0))
+          xs))
+          (begun .kind-is);
     }
 
 pub open-round-spec : {M : Type 1} → statement M
-open-round-spec = tie.close (tie.spec is-surplus-requires size-after-requires resize-requires open-accounts-requires returns)
+open-round-spec = tie.close (tie.spec begin-round-requires open-accounts-requires returns)

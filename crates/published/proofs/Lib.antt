@@ -1,0 +1,19 @@
+-- The laws of the engine as published.
+pub mod SixSends
+pub mod Shares
+pub mod OneTake
+pub mod Takers
+pub mod Asks
+pub mod Visits
+pub mod Closed
+pub mod Opens
+pub mod Settles
+pub mod Stands
+pub mod Sends
+pub mod Passages
+pub mod OneArrival
+pub mod OneSend
+pub mod AnyRun
+pub mod Contracts
+pub mod OnTheWay
+pub mod Shapes

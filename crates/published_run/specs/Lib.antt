@@ -1,0 +1,2 @@
+-- The lines of a whole run of the second engine.
+pub mod Steps

@@ -1,0 +1,3 @@
+-- What a whole send of the second engine over lent arrays says.
+pub mod Under
+pub mod Whole
