@@ -55,17 +55,16 @@ struct Given<const WORDS: usize, R> {
 #[rustfmt::skip]
 extern "C" {
     #[link_name = "steps::send"]
-    fn first_step(out: *mut u64, count: u64, leaves: u64, parent: *const u8, weight: *const u32, longest: *const u16, follows: u64,
-        known: u64, kept: *const u32, size: *const u64, active: u64, place: u64, balance: *mut u64, residual: *mut u64, start: *mut u8,
-        held: *mut u8, lengths: *const u16, tags: *const u32, marks: *const u64, charged: u64, packets: *mut u64, bytes: *mut u64);
-    #[link_name = "published_send::send"]
-    fn second_step(out: *mut u64, count: u64, leaves: u64, parent: *const u8, weight: *const u32, longest: *const u16, follows: u64,
-        size: *const u64, active: u64, place: u64, asked: u64, balance: *mut u64, residual: *mut u64, quotas: *mut u64, start: *mut u8,
-        held: *mut u8, lengths: *const u16, tags: *const u32, marks: *const u64, charged: u64, packets: *mut u64, bytes: *mut u64);
-    #[link_name = "steps::arrival::arrive"]
-    fn arrival_step(out: *mut u64, sound: u64, class: u64, packet: *const u32, leaves: u64, parent: *const u8, longest: *const u16,
-        start: *const u8, held: *mut u8, lengths: *mut u16, tags: *mut u32, marks: *mut u64, charged: u64, packets: *mut u64,
+    fn first_step(out: *mut u64, shape: *const u64, children: *const u64, kept: *mut u32, stand: *const [u64; 5], balance: *mut u64,
+        residual: *mut u64, start: *mut u8, held: *mut u8, lengths: *const u16, tags: *const u32, marks: *const u64, packets: *mut u64,
         bytes: *mut u64);
+    #[link_name = "published_send::send"]
+    fn second_step(out: *mut u64, shape: *const u64, children: *const u64, kept: *mut u32, stand: *const [u64; 5], asked: u64,
+        balance: *mut u64, residual: *mut u64, quotas: *mut u64, start: *mut u8, held: *mut u8, lengths: *const u16, tags: *const u32,
+        marks: *const u64, packets: *mut u64, bytes: *mut u64);
+    #[link_name = "steps::arrival::arrive"]
+    fn arrival_step(out: *mut u64, sound: u64, class: u64, packet: *const u32, shape: *const u64, start: *const u8, held: *mut u8,
+        lengths: *mut u16, tags: *mut u32, marks: *mut u64, charged: u64, packets: *mut u64, bytes: *mut u64);
     #[link_name = "link::send"]
     fn first_send(out: *mut Given<6, First>, link: *const First);
     #[link_name = "link::arrive"]
@@ -94,6 +93,8 @@ fn clock() -> f64 {
 #[derive(Clone)]
 struct Lent {
     link: Box<Second>,
+    shape: [u64; 195],
+    children: [u64; 64],
     balance: [u64; 64],
     residual: [u64; 64],
 }
@@ -129,7 +130,16 @@ impl Lent {
         }
         link.link.size = size;
         link.link.place = 64;
-        let mut lent = Lent { link, balance: [0; 64], residual: [0; 64] };
+        // the tree as numbers: parents, weights, longest packets, how many classes, the leaves, the rule; and the sets of children
+        let (t, mut shape, mut children) = (&link.link.tree, [0; 195], [0u64; 64]);
+        for i in 0..64 {
+            (shape[i], shape[64 + i], shape[128 + i]) = (t.parent[i] as u64, t.weight[i] as u64, t.longest[i] as u64);
+        }
+        (shape[192], shape[193], shape[194]) = (t.count, t.leaves, t.follows);
+        for i in 1..=t.count as usize {
+            children[t.parent[i] as usize] |= 1 << i;
+        }
+        let mut lent = Lent { link, shape, children, balance: [0; 64], residual: [0; 64] };
         lent.balance[0] = size;
         (lent, at + 1)
     }
@@ -138,9 +148,8 @@ impl Lent {
         let (l, mut out) = (&mut self.link.link, [0u64; 3]);
         unsafe {
             arrival_step(
-                out.as_mut_ptr(), 1, class, packet.as_ptr(), l.tree.leaves, l.tree.parent.as_ptr(), l.tree.longest.as_ptr(), l.start.as_ptr(),
-                l.held.as_mut_ptr(), l.lengths.as_mut_ptr(), l.tags.as_mut_ptr(), l.marks.as_mut_ptr(), l.charged, l.packets.as_mut_ptr(),
-                l.bytes.as_mut_ptr(),
+                out.as_mut_ptr(), 1, class, packet.as_ptr(), self.shape.as_ptr(), l.start.as_ptr(), l.held.as_mut_ptr(),
+                l.lengths.as_mut_ptr(), l.tags.as_mut_ptr(), l.marks.as_mut_ptr(), l.charged, l.packets.as_mut_ptr(), l.bytes.as_mut_ptr(),
             )
         }
         assert_eq!(out[0] & 255, 0, "an arrival is refused");
@@ -148,33 +157,32 @@ impl Lent {
 
     // A send of the first engine, with nothing kept of the last opening: the class and the rounds opened.
     fn first(&mut self) -> (u64, u64) {
-        let (l, mut out, kept) = (&mut self.link.link, [0u64; 9], [0u32; 64]);
-        let t = &l.tree;
+        let (l, mut out, mut kept) = (&mut self.link.link, [0u64; 10], [0u32; 64]);
+        let stand = [0, l.size, l.active, l.place, l.charged];
         unsafe {
             first_step(
-                out.as_mut_ptr(), t.count, t.leaves, t.parent.as_ptr(), t.weight.as_ptr(), t.longest.as_ptr(), t.follows, 0, kept.as_ptr(),
-                &l.size, l.active, l.place, self.balance.as_mut_ptr(), self.residual.as_mut_ptr(), l.start.as_mut_ptr(), l.held.as_mut_ptr(),
-                l.lengths.as_ptr(), l.tags.as_ptr(), l.marks.as_ptr(), l.charged, l.packets.as_mut_ptr(), l.bytes.as_mut_ptr(),
+                out.as_mut_ptr(), self.shape.as_ptr(), self.children.as_ptr(), kept.as_mut_ptr(), &stand, self.balance.as_mut_ptr(),
+                self.residual.as_mut_ptr(), l.start.as_mut_ptr(), l.held.as_mut_ptr(), l.lengths.as_ptr(), l.tags.as_ptr(),
+                l.marks.as_ptr(), l.packets.as_mut_ptr(), l.bytes.as_mut_ptr(),
             )
         }
-        (l.active, l.place, l.size, l.charged) = (out[5], out[6], out[7], out[8]);
+        (l.size, l.active, l.place, l.charged) = (out[6], out[7], out[8], out[9]);
         (out[1], out[4])
     }
 
     // A send of the second.
     fn second(&mut self) -> (u64, u64) {
         let (asked, quotas) = (&mut self.link.asked, &mut self.link.quotas);
-        let (l, mut out) = (&mut self.link.link, [0u64; 8]);
-        let t = &l.tree;
+        let (l, mut out, mut kept) = (&mut self.link.link, [0u64; 10], [0u32; 64]);
+        let stand = [0, l.size, l.active, l.place, l.charged];
         unsafe {
             second_step(
-                out.as_mut_ptr(), t.count, t.leaves, t.parent.as_ptr(), t.weight.as_ptr(), t.longest.as_ptr(), t.follows, &l.size, l.active,
-                l.place, *asked, self.balance.as_mut_ptr(), self.residual.as_mut_ptr(), quotas.as_mut_ptr(), l.start.as_mut_ptr(),
-                l.held.as_mut_ptr(), l.lengths.as_ptr(), l.tags.as_ptr(), l.marks.as_ptr(), l.charged, l.packets.as_mut_ptr(),
-                l.bytes.as_mut_ptr(),
+                out.as_mut_ptr(), self.shape.as_ptr(), self.children.as_ptr(), kept.as_mut_ptr(), &stand, *asked,
+                self.balance.as_mut_ptr(), self.residual.as_mut_ptr(), quotas.as_mut_ptr(), l.start.as_mut_ptr(), l.held.as_mut_ptr(),
+                l.lengths.as_ptr(), l.tags.as_ptr(), l.marks.as_ptr(), l.packets.as_mut_ptr(), l.bytes.as_mut_ptr(),
             )
         }
-        (l.place, l.active, *asked, l.size, l.charged) = (out[0], out[4], out[5], out[6], out[7]);
+        (*asked, l.size, l.active, l.place, l.charged) = (out[4], out[6], out[7], out[8], out[9]);
         (out[0], out[3])
     }
 

@@ -8,10 +8,10 @@ use recordings::{Lengths, Recording, Shape, Weights};
 use std::hint::black_box;
 use std::io::Write;
 
-// crates/speed, and the same crate over the base
+// crates/speed and crates/parts_speed, and the first of them over the base
 extern "C" {
     fn speed_by_value(input: *const u8, length: usize, events: usize) -> u64;
-    fn speed_lent(input: *const u8, length: usize, events: usize) -> u64;
+    fn speed_lent(input: *const u8, length: usize, out: *mut u8, room: usize) -> usize;
     fn speed_sound(input: *const u8, length: usize, events: usize, times: usize) -> usize;
     fn speed_plan(input: *const u8, length: usize) -> usize;
     fn speed_fresh(input: *const u8, length: usize, at: usize) -> u64;
@@ -34,12 +34,13 @@ extern "C" {
 const CLOCK_THREAD_CPUTIME_ID: i32 = 3;
 const RUSAGE_CHILDREN: i32 = -1;
 
-// One build of the library: the first events of a recording by value and lent, all answers in one number; how often the link after them is
-// found sound; the bytes that a plan uses, its fresh link's size, and what is left with the root after openings.
+// One build of the library: the first events of a recording by value, all answers in one number; all events of an input lent, the base's
+// answers in one number, the library's lines laid into a buffer; how often the link after the first events is found sound; the bytes that
+// a plan uses, its fresh link's size, and what is left with the root after openings.
 #[derive(Clone, Copy)]
 struct Library {
     by_value: fn(&[u8], usize) -> u64,
-    lent: fn(&[u8], usize) -> u64,
+    lent: fn(&[u8], &mut [u8]) -> u64,
     sound: fn(&[u8], usize, usize) -> usize,
     plan: fn(&[u8]) -> usize,
     fresh: fn(&[u8], usize) -> u64,
@@ -48,7 +49,7 @@ struct Library {
 
 const NOW: Library = Library {
     by_value: |input, events| unsafe { speed_by_value(input.as_ptr(), input.len(), events) },
-    lent: |input, events| unsafe { speed_lent(input.as_ptr(), input.len(), events) },
+    lent: |input, out| lent_text(input, 1, out) as u64,
     sound: |input, events, times| unsafe { speed_sound(input.as_ptr(), input.len(), events, times) },
     plan: |input| unsafe { speed_plan(input.as_ptr(), input.len()) },
     fresh: |input, at| unsafe { speed_fresh(input.as_ptr(), input.len(), at) },
@@ -62,16 +63,31 @@ const BASE: Library = Library {
         let many = unsafe { base_by_value(input.as_ptr(), input.len(), events, out.as_mut_ptr(), out.len()) };
         tally(&out[..many])
     },
-    lent: |input, events| unsafe { base_lent(input.as_ptr(), input.len(), events) },
+    lent: |input, _| base_lent_first(input, input.len()),
     sound: |input, events, times| unsafe { base_sound(input.as_ptr(), input.len(), events, [].as_mut_ptr(), 0, times) },
     plan: |input| unsafe { base_plan(input.as_ptr(), input.len()) },
     fresh: |input, at| unsafe { base_fresh(input.as_ptr(), input.len(), at) },
     openings: |input, times| unsafe { base_openings(input.as_ptr(), input.len(), times) },
 };
 
-// A recording's lines, by the run by parts, each part from the buffer's start; how many bytes. The base has none.
+// The first events of a recording by the base's lent entries: all answers in one number.
+fn base_lent_first(input: &[u8], events: usize) -> u64 {
+    unsafe { base_lent(input.as_ptr(), input.len(), events) }
+}
+
+// A recording's lines, by the run by parts, each part from the buffer's start, and by the box's loop, one part; how many bytes. The base
+// has neither.
 fn run_text(input: &[u8], parts: usize, out: &mut [u8]) -> usize {
     unsafe { speed_run(input.as_ptr(), input.len(), parts, out.as_mut_ptr(), out.len()) }
+}
+
+fn lent_text(input: &[u8], _: usize, out: &mut [u8]) -> usize {
+    unsafe { speed_lent(input.as_ptr(), input.len(), out.as_mut_ptr(), out.len()) }
+}
+
+// A buffer for all lines of so many events.
+fn room_for(events: usize) -> Vec<u8> {
+    vec![0; 40 * events + PART]
 }
 
 // How much is run: sends of a recording, those of them that the slow calls make, those of the base, how often each is timed, and single
@@ -149,6 +165,18 @@ fn compare(what: &str, side: &str, calls: fn(&[u8], usize) -> u64, input: &[u8],
     }
 }
 
+// The first line at which a run that lays its lines differs, if one does: the whole text of so many events is laid at once.
+fn compare_text(what: &str, side: &str, run: fn(&[u8], usize, &mut [u8]) -> usize, input: &[u8], events: usize) {
+    let (mut expected, mut found) = (room_for(events), room_for(events));
+    let many = plain::text(input, &mut expected);
+    let laid = run(input, 1, &mut found);
+    if expected[..many] != found[..laid] {
+        let same = expected.iter().zip(&found).take_while(|(a, b)| a == b).count();
+        let line = expected[..same].iter().filter(|&&byte| byte == b'\n').count() + 1;
+        differs(&format!("{what}: {side} differs from plain Rust at the line of event {line}"));
+    }
+}
+
 fn weights_word(shape: Shape, weights: Weights) -> &'static str {
     match (weights, shape) {
         (Weights::One, _) => "1",
@@ -191,8 +219,8 @@ fn pairs(amount: &Amount) {
                     at(&name);
                     let made = recordings::recording(shape, weights, lengths, deep, amount.sends, seed);
                     seed += 1;
-                    let [plain, by_value, lent] = by_calls(amount, &name, &made);
-                    let [lines, run] = in_a_run(amount, &name, &made);
+                    let [plain, by_value] = by_calls(amount, &name, &made);
+                    let [lines, run, lent] = in_a_run(amount, &name, &made);
                     println!(
                         "| {} | {} | {packets} | {queues} | {lines:.1} | {} | {:.2} | {plain:.1} | {} | {:.1} | {} | {:.1} |",
                         shape_word(shape),
@@ -202,7 +230,7 @@ fn pairs(amount: &Amount) {
                         figure(by_value),
                         by_value / plain,
                         figure(lent),
-                        lent / plain
+                        lent / lines
                     );
                 }
             }
@@ -210,45 +238,34 @@ fn pairs(amount: &Amount) {
     }
 }
 
-// Nanoseconds for a send with its arrival: plain Rust, the calls by value, the lent entries.
-fn by_calls(amount: &Amount, name: &str, made: &Recording) -> [f64; 3] {
+// Nanoseconds for a send with its arrival: plain Rust, the calls by value.
+fn by_calls(amount: &Amount, name: &str, made: &Recording) -> [f64; 2] {
     let input = &made.input[..];
     let mut expected = vec![0; made.pairs];
     assert_eq!(plain::sends(input, made.events(), &mut expected), made.pairs, "{name}: the plain scheduler stops early");
     let some = made.filling + 2 * amount.slow;
     compare(name, "the library by value", NOW.by_value, input, made, &expected[..amount.slow]);
-    compare(name, "the library lent", NOW.lent, input, made, &expected[..amount.slow]);
     let mut out = vec![0; made.pairs];
     let [all, filling] = best(amount.best_of, [&mut || _ = black_box(plain::sends(black_box(input), made.events(), &mut out)), &mut || {
         _ = black_box(plain::sends(black_box(input), made.filling, &mut []))
     }]);
-    let [by_value, by_value_filling, lent, lent_filling] = best(amount.best_of, [
+    let [by_value, by_value_filling] = best(amount.best_of, [
         &mut || _ = black_box((NOW.by_value)(black_box(input), some)),
         &mut || _ = black_box((NOW.by_value)(black_box(input), made.filling)),
-        &mut || _ = black_box((NOW.lent)(black_box(input), some)),
-        &mut || _ = black_box((NOW.lent)(black_box(input), made.filling)),
     ]);
-    let slow = amount.slow as f64;
-    [(all - filling) / made.pairs as f64, (by_value - by_value_filling) / slow, (lent - lent_filling) / slow]
+    [(all - filling) / made.pairs as f64, (by_value - by_value_filling) / amount.slow as f64]
 }
 
-// Nanoseconds for a send with its arrival in a run that lays its lines: plain Rust, and the run by parts, which makes the whole recording
-// unless it is as slow as the calls.
-fn in_a_run(amount: &Amount, name: &str, made: &Recording) -> [f64; 2] {
+// Nanoseconds for a send with its arrival in a run that lays its lines: plain Rust; the run by parts, which makes the whole recording
+// unless it is as slow as the calls; the box's loop over the lent entries, which makes as many as the calls.
+fn in_a_run(amount: &Amount, name: &str, made: &Recording) -> [f64; 3] {
     let filled = &made.input[..made.input.len() - 9 * made.pairs];
     let first = &made.input[..filled.len() + 9 * amount.slow];
     let (mut part, mut part_now) = (vec![0; PART], vec![0; PART]);
     let time = nanoseconds(processor_time, &mut || _ = black_box(run_text(first, usize::MAX, &mut part_now)));
     let (input, pairs) = if time > 2_000.0 * amount.slow as f64 { (first, amount.slow) } else { (&made.input[..], made.pairs) };
-    let mut expected = vec![0; 40 * (made.filling + 2 * pairs) + PART];
-    let mut found = expected.clone();
-    let many = plain::text(input, &mut expected);
-    let laid = run_text(input, 1, &mut found);
-    if expected[..many] != found[..laid] {
-        let same = expected.iter().zip(&found).take_while(|(a, b)| a == b).count();
-        let line = expected[..same].iter().filter(|&&byte| byte == b'\n').count() + 1;
-        differs(&format!("{name}: the run by parts differs from plain Rust at the line of event {line}"));
-    }
+    compare_text(name, "the run by parts", run_text, input, made.filling + 2 * pairs);
+    compare_text(name, "the library lent", lent_text, first, made.filling + 2 * amount.slow);
     let [plain, plain_filling] = best(amount.best_of, [
         &mut || _ = black_box(plain::text(black_box(input), &mut part)),
         &mut || _ = black_box(plain::text(black_box(filled), &mut [0; PART])),
@@ -257,7 +274,12 @@ fn in_a_run(amount: &Amount, name: &str, made: &Recording) -> [f64; 2] {
         &mut || _ = black_box(run_text(black_box(input), usize::MAX, &mut part_now)),
         &mut || _ = black_box(run_text(black_box(filled), usize::MAX, &mut [0; PART])),
     ]);
-    [(plain - plain_filling) / pairs as f64, (run - run_filling) / pairs as f64]
+    let (mut text, mut text_filling) = (room_for(made.filling + 2 * amount.slow), room_for(made.filling));
+    let [lent, lent_filling] = best(amount.best_of, [
+        &mut || _ = black_box((NOW.lent)(black_box(first), &mut text)),
+        &mut || _ = black_box((NOW.lent)(black_box(filled), &mut text_filling)),
+    ]);
+    [(plain - plain_filling) / pairs as f64, (run - run_filling) / pairs as f64, (lent - lent_filling) / amount.slow as f64]
 }
 
 // What a call costs: a run of so many of them, and the part of that run which is taken off.
@@ -275,17 +297,20 @@ fn timed<'a>(call: &'static str, many: usize, all: impl FnMut() + 'a, less: impl
 // The calls and soundness alone, of one build of the library, on a recording and on the one that fills its queues and empties them again.
 fn single_calls<'a>(library: Library, input: &'a [u8], drain: &'a [u8], made: &Recording, times: usize) -> Vec<Timed<'a>> {
     let (all, filled, pairs) = (made.events(), made.filling, made.pairs);
-    let plan = &input[..input.len() - 8 * filled - 9 * pairs];
-    let lent = move |input: &'a [u8], events| move || _ = black_box((library.lent)(black_box(input), events));
+    let (filling, plan) = (&input[..input.len() - 9 * pairs], &input[..input.len() - 8 * filled - 9 * pairs]);
+    let lent = move |input: &'a [u8]| {
+        let mut text = room_for(all);
+        move || _ = black_box((library.lent)(black_box(input), &mut text))
+    };
     let by_value = move |input: &'a [u8], events| move || _ = black_box((library.by_value)(black_box(input), events));
     let sound = move |input: &'a [u8], events, times| move || _ = black_box((library.sound)(black_box(input), events, times));
     let reads = move |times| move || (0..times).for_each(|_| _ = black_box((library.plan)(black_box(plan))));
     let fresh = move || (0..times).for_each(|at| _ = black_box((library.fresh)(black_box(plan), at)));
     vec![
-        timed("lent: a send with its arrival, with the check", pairs, lent(input, all), lent(input, filled)),
+        timed("lent: a send with its arrival, with the check", pairs, lent(input), lent(filling)),
         timed("by value: a send with its arrival, with the check", pairs, by_value(input, all), by_value(input, filled)),
-        timed("`lent::arrive` alone", filled, lent(input, filled), lent(input, 0)),
-        timed("`lent::send` alone", filled, lent(drain, 2 * filled), lent(drain, filled)),
+        timed("`lent::arrive` alone", filled, lent(filling), lent(plan)),
+        timed("`lent::send` alone", filled, lent(drain), lent(filling)),
         timed("`link::arrive` alone", filled, by_value(input, filled), by_value(input, 0)),
         timed("`link::send` alone", filled, by_value(drain, 2 * filled), by_value(drain, filled)),
         timed("`sound::is_sound`, queues deep", times, sound(input, filled, times), sound(input, filled, 0)),
@@ -311,11 +336,12 @@ fn calls(amount: &Amount) {
         let bare: Vec<u64> = expected.iter().map(|&send| send + (24 << 34)).collect();
         for (library, side, input, sends) in [(BASE, "the base", &inputs[0], &bare), (NOW, "the library", &inputs[1], &expected)] {
             compare(&name, &format!("{side} by value"), library.by_value, input, &made, sends);
-            compare(&name, &format!("{side} lent"), library.lent, input, &made, sends);
             if (library.sound)(input, made.events(), 3) != 3 {
                 differs(&format!("{name}: {side} does not find its link sound"));
             }
         }
+        compare(&name, "the base lent", base_lent_first, &inputs[0], &made, &bare);
+        compare_text(&name, "the library lent", lent_text, &inputs[1], made.events());
         let drains = inputs.each_ref().map(|input| drain(input, &made));
         let base = single_calls(BASE, &inputs[0], &drains[0], &made, amount.single);
         let now = single_calls(NOW, &inputs[1], &drains[1], &made, amount.single);

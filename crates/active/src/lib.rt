@@ -1,18 +1,18 @@
-// Who is active in a round that opens, and the weight sums: one pass from the highest class down each, unless they are known. Named for
-// rules/specs/Active and specs/Known.
+// Who is active in a round that opens, and the weight sums: one pass from the highest class down each, unless they are known. The tree is
+// lent as its numbers (`shape`). Named for rules/specs/Active and specs/Known.
 // Serves demand 2.
 ghost use mathlib.Core.Path.{_≡_};
 ghost use mathlib.Core.Bool.{true, cond, _&&_};
 ghost use Prim.Native.Nat.{ℕ, _+_, _^_, _<_};
 ghost use lib.Dec.{leb};
-ghost use lib.ListN.{getD};
+ghost use lib.ListN.{length, getD};
 ghost use Rattle.sets.specs.Set.{has};
 ghost use Rattle.rules.specs.Steps.{holdsSome};
 ghost use Rattle.rules.specs.Active.{upward, weightSums};
-ghost use Rattle.tree.specs.Class.{noWeight, isLeaf};
+ghost use Rattle.tree.specs.Class.{isLeaf};
 ghost use Rattle.tree.specs.Rules.{PlanRules};
-ghost use Rattle.tree.specs.Sum.{table};
-ghost use Rattle.active.specs.Known.{Raised, Kept};
+ghost use Rattle.shape.specs.Shape.{treeIn};
+ghost use Rattle.active.specs.Known.{Raised, Summed};
 ghost use Rattle.rules.specs.Sizes.{activeSize};
 ghost use Rattle.units.specs.Cost.{costOf};
 use tree::Tree;
@@ -33,14 +33,14 @@ fn waiting_leaves(leaves: u64, held: &[u8; 64]) -> u64
 }
 
 // These leaves, and every class above one.
-fn above(tree: Tree, waiting: u64) -> u64
-    requires { ⌜ PlanRules tree × ((i : ℕ) → i < 64 → has waiting i ≡ true → isLeaf tree i ≡ true) ⌝ }
-    ensures { λ r. ⌜ r ≡ upward tree (has waiting) ⌝ }
+fn above(shape: &[u64; 195], waiting: u64) -> u64
+    requires { ⌜ PlanRules (treeIn (now shape)) × ((i : ℕ) → i < 64 → has waiting i ≡ true → isLeaf (treeIn (now shape)) i ≡ true) ⌝ }
+    ensures { λ r. ⌜ r ≡ upward (treeIn (now (shape .entry))) (has waiting) ⌝ }
 {
     let mut active: u64 = waiting;
-    let mut i: usize = tree.count;
+    let mut i = shape::count(shape);
     while 0 < i {
-        let p = tree.parent[i] as usize;
+        let p = shape::parent(shape, i);
         active = sets::with_if(active, p, sets::has(active, i));
         i -= 1;
     }
@@ -49,15 +49,16 @@ fn above(tree: Tree, waiting: u64) -> u64
 
 // The active classes of a round: the leaves that hold a packet, and every class above one. Those that are known, where they have the
 // same leaves.
-pub fn round_active(tree: Tree, known: u64, held: &[u8; 64]) -> u64
-    requires { ⌜ PlanRules tree × Raised tree known ⌝ }
-    ensures { λ r. ⌜ r ≡ upward tree (holdsSome tree (now (held .entry))) ⌝ }
+pub fn round_active(shape: &[u64; 195], known: u64, held: &[u8; 64]) -> u64
+    requires { ⌜ PlanRules (treeIn (now shape)) × Raised (treeIn (now shape)) known ⌝ }
+    ensures { λ r. ⌜ r ≡ upward (treeIn (now (shape .entry))) (holdsSome (treeIn (now (shape .entry))) (now (held .entry))) ⌝ }
 {
-    let waiting = waiting_leaves(tree.leaves, held);
-    if waiting == sets::both(known, tree.leaves) {
+    let leaves = shape::leaves(shape);
+    let waiting = waiting_leaves(leaves, held);
+    if waiting == sets::both(known, leaves) {
         return known;
     }
-    above(tree, waiting)
+    above(shape, waiting)
 }
 
 // A weight sum, and with it the weight of a class where that class is active.
@@ -72,17 +73,16 @@ fn with_active(sum: Weight, weight: Weight, on: bool) -> Weight
 }
 
 // The weight sums of all class numbers: one pass from the highest class down, each active class adding itself to its parent (R123).
-pub fn weight_sums(tree: Tree, active: u64) -> [Weight; Tree::CLASSES]
-    requires { ⌜ PlanRules tree ⌝ }
-    ensures { λ r. ⌜ r ≡ weightSums tree active ⌝ }
+pub fn weight_sums(shape: &[u64; 195], active: u64) -> [Weight; Tree::CLASSES]
+    requires { ⌜ PlanRules (treeIn (now shape)) ⌝ }
+    ensures { λ r. ⌜ r ≡ weightSums (treeIn (now (shape .entry))) active ⌝ }
 {
     let none = Weight(0);
     let mut sums = [none; Tree::CLASSES];
-    let last = tree.count;
-    let mut i = last;
+    let mut i = shape::count(shape);
     while 0 < i {
-        let p = tree.parent[i] as usize;
-        let w = tree.weight[i];
+        let p = shape::parent(shape, i);
+        let w = shape::weight(shape, i);
         let s = sums[p];
         let on = sets::has(active, i);
         sums[p] = with_active(s, w, on);
@@ -98,43 +98,18 @@ fn number(weight: Weight) -> u32
     weight.0
 }
 
-// Weights as bare numbers, to be kept and lent.
-pub fn weight_numbers(weights: [Weight; Tree::CLASSES]) -> [u32; 64]
-    ensures { λ r. ⌜ r ≡ table (λ p. getD weights p noWeight .0) 64 ⌝ }
+// The kept sums become those of an active set, as bare numbers.
+pub fn refresh(shape: &[u64; 195], active: u64, kept: &mut [u32; 64])
+    requires { ⌜ PlanRules (treeIn (now shape)) × (length (now kept) ≡ 64) ⌝ }
+    ensures { λ _. ⌜ Summed (treeIn (now (shape .entry))) active (now (kept .exit)) ⌝ }
 {
-    let mut out = [0u32; 64];
+    let sums = weight_sums(shape, active);
     let mut i: usize = 0;
     while i < Tree::CLASSES {
-        let w = weights[i];
-        out[i] = number(w);
+        let w = sums[i];
+        kept[i] = number(w);
         i += 1;
     }
-    out
-}
-
-// And the weights of these numbers.
-pub fn weights_of(numbers: &[u32; 64]) -> [Weight; Tree::CLASSES]
-    ensures { λ r. ⌜ r ≡ table (λ p. record { 0 = getD (now (numbers .entry)) p 0 }) 64 ⌝ }
-{
-    let none = Weight(0);
-    let mut out = [none; Tree::CLASSES];
-    let mut i: usize = 0;
-    while i < Tree::CLASSES {
-        out[i] = Weight(numbers[i]);
-        i += 1;
-    }
-    out
-}
-
-// The weight sums of an active set: those that are kept, where they are of this set.
-pub fn sums_of(tree: Tree, active: u64, known: u64, kept: &[u32; 64]) -> [Weight; Tree::CLASSES]
-    requires { ⌜ PlanRules tree × Kept tree known (now kept) × (has active 0 ≡ true) ⌝ }
-    ensures { λ r. ⌜ r ≡ weightSums tree active ⌝ }
-{
-    if active == known {
-        return weights_of(kept);
-    }
-    weight_sums(tree, active)
 }
 
 // What the longest packet of a class costs, where it is an active leaf.
@@ -151,19 +126,24 @@ fn active_longest(on: bool, leaf: bool, longest: u16) -> Bytes
 }
 
 // Rule 2's size: the active classes' weights plus what the active leaves' longest packets cost.
-pub fn active_size(tree: Tree, active: u64) -> Bytes
-    requires { ⌜ PlanRules tree ⌝ }
-    ensures { λ r. ⌜ r .0 ≡ activeSize tree active ⌝ }
+pub fn active_size(shape: &[u64; 195], active: u64) -> Bytes
+    requires { ⌜ PlanRules (treeIn (now shape)) ⌝ }
+    ensures { λ r. ⌜ r .0 ≡ activeSize (treeIn (now (shape .entry))) active ⌝ }
 {
-    let last = tree.count;
+    let last = shape::count(shape);
+    let leaves = shape::leaves(shape);
     let mut weights = Weight(0);
     let mut packets = Bytes(0);
     let mut i: usize = 1;
     while i <= last {
-        let w = tree.weight[i];
+        let w = shape::weight(shape, i);
         let counts = sets::has(active, i);
         weights = with_active(weights, w, counts);
-        packets = packets.plus(active_longest(counts, sets::has(tree.leaves, i), tree.longest[i]));
+        packets = packets.plus(active_longest(
+            counts,
+            sets::has(leaves, i),
+            shape::longest(shape, i),
+        ));
         i += 1;
     }
     units::size(weights, packets)

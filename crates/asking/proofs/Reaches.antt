@@ -156,8 +156,8 @@ module _ (y : Published) (i leaves : ℕ) (start lengths : List ℕ) (l : Lying 
         (subst (λ (s : State). 1 ≤ length (queueAt s k)) (done .same) holds);
   }
 
-  module _ (active count asked : ℕ) (parent weight balance residual quotas : List ℕ)
-      (m : Lent (ask y i) active count asked parent weight balance residual quotas) where
+  module _ (active asked : ℕ) (shape balance residual quotas : List ℕ)
+      (m : Lent (ask y i) active asked shape balance residual quotas) where
     covers-read : covers (ask y i .state) i ≡ leb (costOf (getD lengths (slot i (getD start i 0)) 0)) (getD balance i 0)
     unfolding covers
     covers-read =
@@ -172,16 +172,16 @@ module _ (y : Published) (i leaves : ℕ) (start lengths : List ℕ) (l : Lying 
 
 -- ---- the loop
 
-module _ (x : Published) (place at leaves active count asked : ℕ) (parent weight balance residual quotas start lengths : List ℕ)
-    (r : Reached x place at leaves active count asked parent weight balance residual quotas start lengths) (i : ℕ)
+module _ (x : Published) (place at leaves active asked : ℕ) (shape balance residual quotas start lengths : List ℕ)
+    (r : Reached x place at leaves active asked shape balance residual quotas start lengths) (i : ℕ)
     (n : Next leaves at i) where
   -- no leaf is left: the round has closed
-  pub reached-none : i ≡ 64 → Found x place 64 active count asked parent weight balance residual quotas
+  pub reached-none : i ≡ 64 → Found x place 64 active asked shape balance residual quotas
   reached-none e =
       let is = r .same ∙ visit-none (r .y) leaves at i start lengths (r .lying) n e in
       record {
         leaf-is = sym (ap (λ (v : Visited). v .leaf) is);
-        lent = subst (λ (v : Visited). Lent (v .after) active count asked parent weight balance residual quotas) (sym is) (r .lent);
+        lent = subst (λ (v : Visited). Lent (v .after) active asked shape balance residual quotas) (sym is) (r .lent);
       }
 
   module _ (u : i < 64) where
@@ -192,27 +192,27 @@ module _ (x : Published) (place at leaves active count asked : ℕ) (parent weig
     reached-asker = asker-of (r .y) i leaves start lengths (r .lying) (r .sound) (r .wide) u reached-leaf
 
     module _ (asked′ : ℕ) (balance′ residual′ quotas′ : List ℕ)
-        (m : Lent (ask (r .y) i) active count asked′ parent weight balance′ residual′ quotas′) (cost : ℕ)
+        (m : Lent (ask (r .y) i) active asked′ shape balance′ residual′ quotas′) (cost : ℕ)
         (is-cost : cost ≡ costOf (getD lengths (slot i (getD start i 0)) 0)) where
       covers-is : covers (ask (r .y) i .state) i ≡ leb cost (getD balance′ i 0)
       covers-is =
           covers-read (r .y) i leaves start lengths (r .lying) (r .sound)
-          (r .wide) u reached-leaf active count asked′ parent weight balance′
+          (r .wide) u reached-leaf active asked′ shape balance′
           residual′ quotas′ m
           ∙ ap (λ (c : ℕ). leb c (getD balance′ i 0)) (sym is-cost)
 
       -- its balance covers its first packet
-      pub reached-hit : cost ≤ getD balance′ i 0 → Found x place i active count asked′ parent weight balance′ residual′ quotas′
+      pub reached-hit : cost ≤ getD balance′ i 0 → Found x place i active asked′ shape balance′ residual′ quotas′
       reached-hit h =
           let is = r .same ∙ visit-hit (r .y) leaves at i start lengths (r .lying) n u (covers-is ∙ le-leb cost (getD balance′ i 0) h) in
           record {
             leaf-is = sym (ap (λ (v : Visited). v .leaf) is);
-            lent = subst (λ (v : Visited). Lent (v .after) active count asked′ parent weight balance′ residual′ quotas′) (sym is) m;
+            lent = subst (λ (v : Visited). Lent (v .after) active asked′ shape balance′ residual′ quotas′) (sym is) m;
           }
 
       -- it does not, and the search goes on after it
       pub reached-pass : getD balance′ i 0 < cost → 1 ≤ at
-          → Reached x place (i + 1) leaves active count asked′ parent weight balance′ residual′ quotas′ start lengths
+          → Reached x place (i + 1) leaves active asked′ shape balance′ residual′ quotas′ start lengths
       reached-pass h low = record {
         y = ask (r .y) i;
         lent = m;

@@ -22,15 +22,14 @@ pub record Lying (x : Published) (leaves : ℕ) (start lengths : List ℕ) : Typ
       → costOf (firstOf (x .state) i .length) ≡ costOf (getD lengths (slot i (getD start i 0)) 0)
 
 -- the visits of x from a place on find this leaf, and leave these fields
-pub record Found (x : Published) (place leaf active count asked : ℕ) (parent weight balance residual quotas : List ℕ) : Type 0 where
+pub record Found (x : Published) (place leaf active asked : ℕ) (shape balance residual quotas : List ℕ) : Type 0 where
   pub leaf-is : leaf ≡ visitsFrom 64 x place .leaf
-  pub lent : Lent (visitsFrom 64 x place .after) active count asked parent weight balance residual quotas
+  pub lent : Lent (visitsFrom 64 x place .after) active asked shape balance residual quotas
 
 -- the visits of x from a place on have come to y and another place
-pub record Reached (x : Published) (place at leaves active count asked : ℕ) (parent weight balance residual quotas start lengths : List ℕ)
-    : Type 0 where
+pub record Reached (x : Published) (place at leaves active asked : ℕ) (shape balance residual quotas start lengths : List ℕ) : Type 0 where
   pub y : Published
-  pub lent : Lent y active count asked parent weight balance residual quotas
+  pub lent : Lent y active asked shape balance residual quotas
   pub lying : Lying y leaves start lengths
   pub sound : SoundPublished y
   pub wide : WidePublished y

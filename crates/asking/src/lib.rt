@@ -1,4 +1,5 @@
-// A class asks for its quota (section IV of the published HLS paper), over lent number arrays. Named for published/specs/Asking.
+// A class asks for its quota (section IV of the published HLS paper), over lent number arrays, the tree among them (`shape`). Named for
+// published/specs/Asking.
 mod right;
 mod visits;
 
@@ -7,22 +8,21 @@ pub use visits::Came;
 pub use visits::visit;
 ghost use mathlib.Core.Path.{_≡_};
 ghost use mathlib.Core.Bool.{true, cond, _&&_};
-ghost use Prim.Native.Nat.{ℕ, _+_, _*_, _^_, _<_, _≤_};
+ghost use Prim.Native.Nat.{_+_, _*_, _^_, _<_, _≤_};
 ghost use lib.Dec.{eqb};
 ghost use lib.ListN.{length, getD, set};
 ghost use Rattle.sets.specs.Set.{has};
 ghost use Rattle.units.specs.Unit.{quotaOf};
-ghost use Rattle.tree.specs.declared.Tree.{Tree};
 ghost use Rattle.tree.specs.Class.{isLeaf};
 ghost use Rattle.tree.specs.Rules.{PlanRules};
 ghost use Rattle.state.specs.Account.{accountOf, balanceOf, fundsOf, tookQuota, handedDown};
 ghost use Rattle.rules.specs.Active.{weightSum};
 ghost use Rattle.state.specs.Account.{zipAccounts};
+ghost use Rattle.shape.specs.Shape.{treeIn};
 ghost use Rattle.published.specs.Asking.{Published, ask};
-ghost use Rattle.asking.specs.Lent.{Weighed, TookFrom, Lent, Asker};
+ghost use Rattle.asking.specs.Lent.{TookFrom, Lent, Asker};
 use state::lent_accounts::account_of;
 use state::lent_accounts::keep;
-use tree::wide;
 use units::Bytes;
 use units::Weight;
 
@@ -63,12 +63,12 @@ fn take(
 }
 
 // A weight sum, and with it the weight of a class where it counts.
-fn with_weight(sum: Weight, weight: u32, on: bool) -> Weight
-    requires { ⌜ sum .0 + weight < 2 ^ 32 ⌝ }
-    ensures { λ r. ⌜ r .0 ≡ sum .0 + cond on weight 0 ⌝ }
+fn with_weight(sum: Weight, weight: Weight, on: bool) -> Weight
+    requires { ⌜ sum .0 + weight .0 < 2 ^ 32 ⌝ }
+    ensures { λ r. ⌜ r .0 ≡ sum .0 + cond on (weight .0) 0 ⌝ }
 {
     if on {
-        return sum.plus(Weight(weight));
+        return sum.plus(weight);
     }
     sum
 }
@@ -84,62 +84,49 @@ fn counts(q: usize, p: usize, on: bool) -> bool
 }
 
 // The weight sum of the active children of class p.
-fn children_sum(
-    count: usize,
-    parent: &[u8; 64],
-    weight: &[u32; 64],
-    active: u64,
-    p: usize,
-) -> Weight
-    requires { ⌜ (count ≤ 63) × ((i : ℕ) → i < 64 → getD (now weight) i 0 ≤ 1_000_000) ⌝ }
-    ensures { λ r. ⌜ ((t : Tree) → Weighed t count (now (parent .entry)) (now (weight .entry)) → r .0 ≡ weightSum t active p) ⌝ }
+fn children_sum(shape: &[u64; 195], active: u64, p: usize) -> Weight
+    requires { ⌜ PlanRules (treeIn (now shape)) ⌝ }
+    ensures { λ r. ⌜ r .0 ≡ weightSum (treeIn (now (shape .entry))) active p ⌝ }
 {
+    let last = shape::count(shape);
     let mut sum = Weight(0);
     let mut i: usize = 1;
-    while i <= count {
-        let on = counts(wide(parent[i]), p, sets::has(active, i));
-        sum = with_weight(sum, weight[i], on);
+    while i <= last {
+        let on = counts(shape::parent(shape, i), p, sets::has(active, i));
+        sum = with_weight(sum, shape::weight(shape, i), on);
         i += 1;
     }
     sum
 }
 
 // What a class works out its quota over: a leaf has no child.
-fn own_sum(
-    leaf: bool,
-    count: usize,
-    parent: &[u8; 64],
-    weight: &[u32; 64],
-    active: u64,
-    i: usize,
-) -> Weight
-    requires { ⌜ (count ≤ 63) × ((i : ℕ) → i < 64 → getD (now weight) i 0 ≤ 1_000_000) ⌝ }
-    ensures { λ r. ⌜ ((t : Tree) → Weighed t count (now (parent .entry)) (now (weight .entry)) → PlanRules t
-        → (leaf ≡ true → isLeaf t i ≡ true) → r .0 ≡ weightSum t active i) ⌝ }
+fn own_sum(leaf: bool, shape: &[u64; 195], active: u64, i: usize) -> Weight
+    requires { ⌜ PlanRules (treeIn (now shape)) × (leaf ≡ true → isLeaf (treeIn (now shape)) i ≡ true) ⌝ }
+    ensures { λ r. ⌜ r .0 ≡ weightSum (treeIn (now (shape .entry))) active i ⌝ }
 {
     if leaf {
         return Weight(0);
     }
-    children_sum(count, parent, weight, active, i)
+    children_sum(shape, active, i)
 }
 
 // Class i takes its weight times its parent's quota, and its parent's balance falls by it.
 fn take_from_parent(
     i: usize,
     p: usize,
-    weight: u32,
+    weight: Weight,
     sum: Weight,
     balance: &mut [u64; 64],
     residual: &mut [u64; 64],
     quotas: &mut [u64; 64],
 )
     requires { ⌜ (p < i) × (i < 64) × (length (zipAccounts (now balance) (now residual)) ≡ 64) × (length (now quotas) ≡ 64)
-        × (weight * getD (now quotas) p 0 ≤ balanceOf (zipAccounts (now balance) (now residual)) p)
-        × (fundsOf (accountOf (zipAccounts (now balance) (now residual)) i) + weight * getD (now quotas) p 0 < 2 ^ 64) ⌝ }
-    ensures { λ _. ⌜ TookFrom i p weight (sum .0) (zipAccounts (now (balance .entry)) (now (residual .entry))) (now (quotas .entry))
+        × (weight .0 * getD (now quotas) p 0 ≤ balanceOf (zipAccounts (now balance) (now residual)) p)
+        × (fundsOf (accountOf (zipAccounts (now balance) (now residual)) i) + weight .0 * getD (now quotas) p 0 < 2 ^ 64) ⌝ }
+    ensures { λ _. ⌜ TookFrom i p (weight .0) (sum .0) (zipAccounts (now (balance .entry)) (now (residual .entry))) (now (quotas .entry))
         (zipAccounts (now (balance .exit)) (now (residual .exit))) (now (quotas .exit)) ⌝ }
 {
-    let due = units::due(Weight(weight), quotas[p]);
+    let due = units::due(weight, quotas[p]);
     hand(p, due, balance, residual);
     take(i, due, sum, balance, residual, quotas);
 }
@@ -150,42 +137,34 @@ pub fn ask(
     leaf: bool,
     asked: u64,
     active: u64,
-    count: usize,
-    parent: &[u8; 64],
-    weight: &[u32; 64],
+    shape: &[u64; 195],
     balance: &mut [u64; 64],
     residual: &mut [u64; 64],
     quotas: &mut [u64; 64],
 ) -> u64
-    requires { ⌜ ((x : Published) × Lent x active count asked (now parent) (now weight) (now balance) (now residual) (now quotas)
-        × Asker x i leaf) ⌝ }
+    requires { ⌜ ((x : Published) × Lent x active asked (now shape) (now balance) (now residual) (now quotas) × Asker x i leaf) ⌝ }
     ensures { λ r. ⌜ ((x : Published)
-        → Lent x active count asked (now (parent .entry)) (now (weight .entry)) (now (balance .entry)) (now (residual .entry))
-        (now (quotas .entry)) → Asker x i leaf
-        → Lent (ask x i) active count r (now (parent .entry)) (now (weight .entry)) (now (balance .exit)) (now (residual .exit))
-        (now (quotas .exit))) ⌝ }
+        → Lent x active asked (now (shape .entry)) (now (balance .entry)) (now (residual .entry)) (now (quotas .entry)) → Asker x i leaf
+        → Lent (ask x i) active r (now (shape .entry)) (now (balance .exit)) (now (residual .exit)) (now (quotas .exit))) ⌝ }
 {
     if sets::has(asked, i) {
         return asked;
     }
-    let sum = own_sum(leaf, count, parent, weight, active, i);
+    let sum = own_sum(leaf, shape, active, i);
     if i == 0 {
         take(0, Bytes(0), sum, balance, residual, quotas);
         return sets::with(asked, 0);
     }
-    let p = wide(parent[i]);
-    let up = ask(
+    let p = shape::parent(shape, i);
+    let up = ask(p, false, asked, active, shape, balance, residual, quotas);
+    take_from_parent(
+        i,
         p,
-        false,
-        asked,
-        active,
-        count,
-        parent,
-        weight,
+        shape::weight(shape, i),
+        sum,
         balance,
         residual,
         quotas,
     );
-    take_from_parent(i, p, weight[i], sum, balance, residual, quotas);
     sets::with(up, i)
 }

@@ -2,7 +2,7 @@
 // Serves demand 1: number 11.
 ghost use mathlib.Core.Path.{_≡_};
 ghost use mathlib.Core.Bool.{_&&_};
-ghost use Prim.Native.Nat.{_*_, _≤_};
+ghost use Prim.Native.Nat.{_*_};
 ghost use lib.Dec.{leb, ltb};
 ghost use Rattle.checks.specs.Check.{Exactly};
 ghost use Rattle.tree.specs.Rules.{PlanRules};
@@ -94,7 +94,8 @@ pub fn asked_right(second: Second) -> bool
     let accounts = link.accounts;
     let asked = second.asked;
     let quotas = second.quotas;
-    let owed = weight_sums(tree, yet_to_ask(link.active, asked));
+    let shape = shape::shape_of(tree);
+    let owed = weight_sums(&shape, yet_to_ask(link.active, asked));
     let parent = tree.parent;
     let mut i: usize = 0;
     while i < Tree::CLASSES {

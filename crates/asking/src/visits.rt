@@ -32,23 +32,21 @@ pub fn visit(
     place: usize,
     asked: u64,
     active: u64,
-    count: usize,
-    parent: &[u8; 64],
-    weight: &[u32; 64],
+    shape: &[u64; 195],
     balance: &mut [u64; 64],
     residual: &mut [u64; 64],
     quotas: &mut [u64; 64],
     start: &[u8; 64],
     lengths: &[u16; 2048],
 ) -> Came
-    requires { ⌜ ((x : Published) × Lent x active count asked (now parent) (now weight) (now balance) (now residual) (now quotas)
+    requires { ⌜ ((x : Published) × Lent x active asked (now shape) (now balance) (now residual) (now quotas)
         × Lying x leaves (now start) (now lengths) × SoundPublished x × WidePublished x)
         × (1 ≤ place) × (place ≤ 64) × ((i : ℕ) → i < 64 → getD (now start) i 0 < 32) ⌝ }
     ensures { λ r. ⌜ ((x : Published)
-        → Lent x active count asked (now (parent .entry)) (now (weight .entry)) (now (balance .entry)) (now (residual .entry))
-        (now (quotas .entry)) → Lying x leaves (now (start .entry)) (now (lengths .entry)) → SoundPublished x → WidePublished x
-        → Found x place (r .leaf) active count (r .asked) (now (parent .entry)) (now (weight .entry)) (now (balance .exit))
-        (now (residual .exit)) (now (quotas .exit))) ⌝ }
+        → Lent x active asked (now (shape .entry)) (now (balance .entry)) (now (residual .entry)) (now (quotas .entry))
+        → Lying x leaves (now (start .entry)) (now (lengths .entry)) → SoundPublished x → WidePublished x
+        → Found x place (r .leaf) active (r .asked) (now (shape .entry)) (now (balance .exit)) (now (residual .exit))
+        (now (quotas .exit))) ⌝ }
 {
     let mut asked = asked;
     let mut at = place;
@@ -57,18 +55,7 @@ pub fn visit(
         if i == 64 {
             return Came { leaf: 64, asked };
         }
-        asked = ask(
-            i,
-            true,
-            asked,
-            active,
-            count,
-            parent,
-            weight,
-            balance,
-            residual,
-            quotas,
-        );
+        asked = ask(i, true, asked, active, shape, balance, residual, quotas);
         let cost = first_cost(i, start, lengths);
         if cost <= balance[i] {
             return Came { leaf: i, asked };

@@ -4,7 +4,6 @@ use mathlib.Core.List.{List}
 use mathlib.Core.Path.{_≡_, refl, sym, ap, ap₂, subst, _∙_}
 use Prim.Native.Nat.{ℕ, _+_}
 use Rattle.checks.proofs.Laws.{exactly-yes}
-use Rattle.units.specs.declared.Bytes.{Bytes}
 use Rattle.plan.specs.declared.Arrived.{Arrived}
 use Rattle.plan.specs.declared.Claim.{Claim}
 use Rattle.plan.specs.declared.Claim.the-variants.{Sent, Idle}
@@ -28,6 +27,7 @@ use Rattle.calls.specs.Run.{Call, arrival, send, linkLeft, makes}
 use Rattle.calls.proofs.Arrivals.{arrival-shaped}
 use Rattle.calls.proofs.Departures.{send-goes, send-nothing, send-shaped}
 use Rattle.calls.proofs.Runs.{meets-keeps, rules-meet}
+use Rattle.steps.specs.declared.Stand.{Stand}
 use Rattle.steps.specs.declared.Went.{Went}
 use Rattle.steps.specs.Arrivals.{ArrivesOn}
 use Rattle.steps.specs.Rounds.{sentWhere, Departs}
@@ -66,28 +66,28 @@ module _ (l : Link) (place claims : ℕ) (rest : List ℕ) (sound : SoundLink l)
       → Enters l place claims (entryAt rest) r after
   called call e r after told left long same = record {
     gives = same ∙ ap (entryGives l place claims) (sym told);
-    sound = subst SoundLink (sym left) (meets-keeps l (makes true l call) sound (rules-meet l call true (exactly-yes sound) shape));
-    shape = subst Shaped (sym left) long;
+    on = record {
+      sound = subst SoundLink (sym left) (meets-keeps l (makes true l call) sound (rules-meet l call true (exactly-yes sound) shape));
+      shape = subst Shaped (sym left) long;
+    };
   }
 
   -- no call is made
-  pub decides-in-place : (e : EntryRead) (j : Judged) (active visit charged : ℕ) (size : Bytes) → entryAt rest ≡ e
+  pub decides-in-place : (e : EntryRead) (j : Judged) (stand : Stand) → entryAt rest ≡ e
       → decides j l place claims ≡ entryGives l place claims e
-      → Enters l place claims (entryAt rest) (didDecide j place claims active visit size charged) l
-  decides-in-place e j active visit charged size told same = record {
+      → Enters l place claims (entryAt rest) (didDecide j place claims stand) l
+  decides-in-place e j stand told same = record {
     gives = same ∙ ap (entryGives l place claims) (sym told);
-    sound = sound;
-    shape = shape;
+    on = record { sound = sound; shape = shape };
   }
 
-  pub arrival-in-place : (a : Arrived) (answer : Arrival) (after : Link) (class active visit charged : ℕ) (size : Bytes) → entryAt rest
-      ≡ Arrives a
+  pub arrival-in-place : (a : Arrived) (answer : Arrival) (after : Link) (class : ℕ) (stand : Stand) → entryAt rest ≡ Arrives a
       → class ≡ a .class → ArrivesOn true l class (record { length = a .length; tag = a .tag }) answer after
-      → Enters l place claims (entryAt rest) (didGoOn (place + 8) claims active visit size charged) after
-  arrival-in-place a answer after class active visit charged size told wide is =
+      → Enters l place claims (entryAt rest) (didGoOn (place + 8) claims stand) after
+  arrival-in-place a answer after class stand told wide is =
       let p : Packet = record { length = a .length; tag = a .tag } in
       let left : after ≡ callGives l a .link = ap (λ (x : AfterArrival). x .link) is ∙ ap (λ (i : ℕ). arrivalOf true l i p .link) wide in
-      called (arrival (a .class) p) (Arrives a) (didGoOn (place + 8) claims active visit size charged) after told left
+      called (arrival (a .class) p) (Arrives a) (didGoOn (place + 8) claims stand) after told left
       (arrival-shaped true l (a .class) p shape)
       (ap (λ (k : Link). goesOn k (place + 8) claims) left ∙ sym (arrival-on l a place claims))
 

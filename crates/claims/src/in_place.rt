@@ -6,11 +6,12 @@ ghost use Prim.Native.Nat.{_+_, _^_, _<_};
 ghost use lib.Dec.{leb};
 ghost use lib.ListN.{length};
 ghost use Rattle.plan.specs.Entry.{entryAt, claimUses, longestEntry};
-ghost use Rattle.state.specs.Queue.{Shaped};
 ghost use Rattle.sound.specs.Sound.{SoundLink};
-ghost use Rattle.steps.specs.Fields.{lentLink, lentTotals, lentTree};
+ghost use Rattle.shape.specs.Shape.{treeIn, Families};
+ghost use Rattle.steps.specs.Fields.{linkAt};
+ghost use Rattle.steps.specs.Rounds.{Kept};
 ghost use Rattle.claims.specs.Recording.{samePacket, sameClaim};
-ghost use Rattle.claims.specs.Steps.{packetOf, claimOf, didGoOn, didDecide, claimDid, Enters, PartDone};
+ghost use Rattle.claims.specs.Steps.{packetOf, claimOf, didGoOn, didDecide, claimDid, Enterable, Enters, PartDone};
 use crate::Checked;
 use crate::Judged;
 use plan::Arrived;
@@ -19,25 +20,22 @@ use plan::EntryRead;
 use state::Link;
 use state::Packet;
 use state::Totals;
+use steps::Stand;
 use steps::Went;
-use units::Bytes;
 
-// What an entry gives beside the arrays: what the recording is judged to be so far, whether the check goes on, at which place, after how
-// many claims, who is active, the round's place, the size in force, the running total.
+// How far a check has come beside the arrays: what the recording is judged to be so far, whether the check goes on, at which place, after
+// how many claims, and where the link stands.
 pub struct Did {
     pub judged: Judged,
     pub more: bool,
     pub place: usize,
     pub claims: usize,
-    pub active: u64,
-    pub visit: usize,
-    pub size: Bytes,
-    pub charged: u64,
+    pub stand: Stand,
 }
 
 // The check goes on.
-fn goes_on(place: usize, claims: usize, active: u64, visit: usize, size: Bytes, charged: u64) -> Did
-    ensures { λ r. ⌜ r ≡ didGoOn place claims active visit size charged ⌝ }
+fn goes_on(place: usize, claims: usize, stand: Stand) -> Did
+    ensures { λ r. ⌜ r ≡ didGoOn place claims stand ⌝ }
 {
     let judged = Judged::Good(claims);
     Did {
@@ -45,34 +43,20 @@ fn goes_on(place: usize, claims: usize, active: u64, visit: usize, size: Bytes, 
         more: true,
         place,
         claims,
-        active,
-        visit,
-        size,
-        charged,
+        stand,
     }
 }
 
 // The check has been decided.
-fn decides(
-    judged: Judged,
-    place: usize,
-    claims: usize,
-    active: u64,
-    visit: usize,
-    size: Bytes,
-    charged: u64,
-) -> Did
-    ensures { λ r. ⌜ r ≡ didDecide judged place claims active visit size charged ⌝ }
+fn decides(judged: Judged, place: usize, claims: usize, stand: Stand) -> Did
+    ensures { λ r. ⌜ r ≡ didDecide judged place claims stand ⌝ }
 {
     Did {
         judged,
         more: false,
         place,
         claims,
-        active,
-        visit,
-        size,
-        charged,
+        stand,
     }
 }
 
@@ -123,39 +107,19 @@ fn compared(claim: Claim, went: Went, place: usize, claims: usize) -> Did
     requires { ⌜ (place + (1 + claimUses claim) < 2 ^ 64) × (claims + 1 < 2 ^ 64) ⌝ }
     ensures { λ r. ⌜ r ≡ claimDid (sameClaim claim (claimOf went)) claim went place claims ⌝ }
 {
+    let stand = went.stand;
     if !same_claim(claim, went) {
-        return decides(
-            Judged::FalseAt(place + 1),
-            place,
-            claims,
-            went.active,
-            went.place,
-            went.size,
-            went.charged,
-        );
+        return decides(Judged::FalseAt(place + 1), place, claims, stand);
     }
-    goes_on(
-        place + claim_uses(claim),
-        claims + 1,
-        went.active,
-        went.place,
-        went.size,
-        went.charged,
-    )
+    goes_on(place + claim_uses(claim), claims + 1, stand)
 }
 
-// The entry at the front of the rest of the input, on a sound link. No weight sums are kept: those of a round are worked out as it opens.
+// The entry at the front of the rest of the input, on a sound link.
 fn entry(
-    count: usize,
-    leaves: u64,
-    parent: &[u8; 64],
-    weight: &[u32; 64],
-    longest: &[u16; 64],
-    follows: bool,
-    kept: &[u32; 64],
-    size: Bytes,
-    active: u64,
-    visit: usize,
+    did: Did,
+    shape: &[u64; 195],
+    children: &[u64; 64],
+    kept: &mut [u32; 64],
     balance: &mut [u64; 64],
     residual: &mut [u64; 64],
     start: &mut [u8; 64],
@@ -163,41 +127,27 @@ fn entry(
     lengths: &mut [u16; 2048],
     tags: &mut [u32; 2048],
     marks: &mut [u64; 2048],
-    charged: u64,
     packets: &mut [u64; 64],
     bytes: &mut [u64; 64],
     rest: &[u8],
-    place: usize,
-    claims: usize,
 ) -> Did
-    requires { ⌜ SoundLink (lentLink (lentTree count leaves (now parent) (now weight) (now longest) follows) size active visit
-        (now balance) (now residual) (now start) (now held) (now lengths) (now tags) (now marks)
-        (lentTotals (now packets) (now bytes) charged))
-        × Shaped (lentLink (lentTree count leaves (now parent) (now weight) (now longest) follows) size active visit
-        (now balance) (now residual) (now start) (now held) (now lengths) (now tags) (now marks)
-        (lentTotals (now packets) (now bytes) charged))
-        × (place + length (now rest) < 2 ^ 64) × (claims + length (now rest) < 2 ^ 64) ⌝ }
-    ensures { λ r. ⌜ Enters (lentLink
-        (lentTree count leaves (now (parent .entry)) (now (weight .entry)) (now (longest .entry)) follows) size active visit
-        (now (balance .entry)) (now (residual .entry)) (now (start .entry)) (now (held .entry)) (now (lengths .entry)) (now (tags .entry))
-        (now (marks .entry))
-        (lentTotals (now (packets .entry)) (now (bytes .entry)) charged))
-        place claims (entryAt (now (rest .entry))) r
-        (lentLink (lentTree count leaves (now (parent .entry)) (now (weight .entry)) (now (longest .entry)) follows) (r .size) (r .active)
-        (r .visit) (now (balance .exit)) (now (residual .exit)) (now (start .exit)) (now (held .exit)) (now (lengths .exit))
-        (now (tags .exit)) (now (marks .exit)) (lentTotals (now (packets .exit)) (now (bytes .exit)) (r .charged))) ⌝ }
+    requires { ⌜ Enterable (linkAt (treeIn (now shape)) (did .stand) (now balance) (now residual) (now start) (now held) (now lengths) (now tags)
+        (now marks) (now packets) (now bytes))
+        × (did .place + length (now rest) < 2 ^ 64) × (did .claims + length (now rest) < 2 ^ 64)
+        × Families (treeIn (now shape)) (now children) × Kept (treeIn (now shape)) (did .stand .known) (now kept) ⌝ }
+    ensures { λ r. ⌜ Enters (linkAt (treeIn (now (shape .entry))) (did .stand) (now (balance .entry)) (now (residual .entry)) (now (start .entry))
+        (now (held .entry)) (now (lengths .entry)) (now (tags .entry)) (now (marks .entry)) (now (packets .entry)) (now (bytes .entry)))
+        (did .place) (did .claims) (entryAt (now (rest .entry))) r
+        (linkAt (treeIn (now (shape .entry))) (r .stand) (now (balance .exit)) (now (residual .exit)) (now (start .exit)) (now (held .exit))
+        (now (lengths .exit)) (now (tags .exit)) (now (marks .exit)) (now (packets .exit)) (now (bytes .exit))) ⌝ }
+    ensures { λ r. ⌜ Kept (treeIn (now (shape .entry))) (r .stand .known) (now (kept .exit)) ⌝ }
 {
+    let place = did.place;
+    let claims = did.claims;
+    let stand = did.stand;
     let read = plan::read_entry(rest);
     match read {
-        EntryRead::Ended => decides(
-            Judged::Good(claims),
-            place,
-            claims,
-            active,
-            visit,
-            size,
-            charged,
-        ),
+        EntryRead::Ended => decides(Judged::Good(claims), place, claims, stand),
         EntryRead::Arrives(a) => {
             let len = a.length;
             let tag = a.tag;
@@ -206,33 +156,24 @@ fn entry(
                 true,
                 wide(a.class),
                 packet,
-                leaves,
-                parent,
-                longest,
+                shape,
                 start,
                 held,
                 lengths,
                 tags,
                 marks,
-                charged,
+                stand.charged,
                 packets,
                 bytes,
             );
-            goes_on(place + 8, claims, active, visit, size, charged)
+            goes_on(place + 8, claims, stand)
         }
         EntryRead::Claims(c) => {
             let went = steps::send(
-                count,
-                leaves,
-                parent,
-                weight,
-                longest,
-                follows,
-                0,
+                shape,
+                children,
                 kept,
-                size,
-                active,
-                visit,
+                stand,
                 balance,
                 residual,
                 start,
@@ -240,21 +181,12 @@ fn entry(
                 lengths,
                 tags,
                 marks,
-                charged,
                 packets,
                 bytes,
             );
             compared(c, went, place, claims)
         }
-        EntryRead::Stops(n, k) => decides(
-            Judged::Stop(n, place + k),
-            place,
-            claims,
-            active,
-            visit,
-            size,
-            charged,
-        ),
+        EntryRead::Stops(n, k) => decides(Judged::Stop(n, place + k), place, claims, stand),
     }
 }
 
@@ -271,10 +203,9 @@ pub fn entries(link: Link, part: &[u8], place: usize, claims: usize, last: bool)
     ensures { λ r. ⌜ PartDone last link place claims (now (part .entry)) r ⌝ }
 {
     let tree = link.tree;
-    let parent = tree.parent;
-    let weights = tree.weight;
-    let weight = steps::weight_numbers(weights);
-    let longest = tree.longest;
+    let shape = shape::shape_of(tree);
+    let children = shape::families(&shape);
+    let mut kept = [0u32; 64];
     let before = link.accounts;
     let mut balance = state::lent_accounts::balances(before);
     let mut residual = state::lent_accounts::residuals(before);
@@ -286,28 +217,22 @@ pub fn entries(link: Link, part: &[u8], place: usize, claims: usize, last: bool)
     let totals = link.totals;
     let mut packets = totals.packets;
     let mut bytes = totals.bytes;
-    let kept = [0u32; 64];
-    let mut s = goes_on(
-        place,
-        claims,
-        link.active,
-        link.place,
-        link.size,
-        totals.charged,
-    );
+    let size = link.size;
+    let stand = Stand {
+        known: 0,
+        size,
+        active: link.active,
+        place: link.place,
+        charged: totals.charged,
+    };
+    let mut s = goes_on(place, claims, stand);
     while takes_one(s.more, last, part.len() - (s.place - place)) {
         let at = s.place - place;
         s = entry(
-            tree.count,
-            tree.leaves,
-            &parent,
-            &weight,
-            &longest,
-            tree.follows,
-            &kept,
-            s.size,
-            s.active,
-            s.visit,
+            s,
+            &shape,
+            &children,
+            &mut kept,
             &mut balance,
             &mut residual,
             &mut start,
@@ -315,21 +240,19 @@ pub fn entries(link: Link, part: &[u8], place: usize, claims: usize, last: bool)
             &mut lengths,
             &mut tags,
             &mut marks,
-            s.charged,
             &mut packets,
             &mut bytes,
             &part[at..],
-            s.place,
-            s.claims,
         );
     }
     let accounts = state::lent_accounts::zipped(&balance, &residual);
-    let size = s.size;
+    let then = s.stand;
+    let size_after = then.size;
     let after = Link {
         tree,
-        size,
-        active: s.active,
-        place: s.visit,
+        size: size_after,
+        active: then.active,
+        place: then.place,
         accounts,
         start,
         held,
@@ -339,7 +262,7 @@ pub fn entries(link: Link, part: &[u8], place: usize, claims: usize, last: bool)
         totals: Totals {
             packets,
             bytes,
-            charged: s.charged,
+            charged: then.charged,
         },
     };
     let judged = s.judged;

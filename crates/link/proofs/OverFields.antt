@@ -10,18 +10,15 @@ use Rattle.state.specs.declared.Link.{Link}
 use Rattle.state.specs.declared.Packet.{Packet}
 use Rattle.state.specs.Queue.{Shaped}
 use Rattle.sound.specs.Sound.{SoundLink}
-use Rattle.rules.specs.After.{Sent}
-use Rattle.steps.specs.declared.Moved.{Moved}
-use Rattle.steps.specs.Rounds.{sentWhere, Moves}
 use Rattle.calls.specs.declared.Arrival.{Arrival}
 use Rattle.calls.specs.declared.AfterArrival.{AfterArrival}
 use Rattle.calls.specs.declared.AfterSend.{AfterSend}
 use Rattle.calls.specs.Arrival.{arrivalLeaves, arrivalOf, Arrives}
-use Rattle.calls.specs.Send.{goes, refusedSend, sendLeaves, sendGives, sendOf, Sends}
+use Rattle.calls.specs.Send.{refusedSend, sendLeaves, sendGives, sendOf, Sends}
 use Rattle.calls.proofs.Arrivals.{arrives-by}
-use Rattle.calls.proofs.Departures.{send-goes, sends-by}
+use Rattle.calls.proofs.Departures.{sends-by}
 use Rattle.link.specs.declared.Changed.{Changed}
-use Rattle.link.specs.Fields.{ArrivesIn, changedTo, goesBy, changedLink, SendsIn}
+use Rattle.link.specs.Fields.{ArrivesIn, changedTo, changedLink, GoesIn, SendsIn}
 
 -- ---- an arrival
 
@@ -53,22 +50,15 @@ send-fields-one-answer l r s x y =
 
 module _ (l : Link) (flag : Bool) (exactly : Exactly flag (SoundLink l)) (r : Changed) where
   -- a refused send changes no field
-  pub stays-sends : (n : ℕ) → sendOf flag l ≡ sendGives (Refused n 0) l
-      → r ≡ changedTo (refusedSend (Refused n 0)) (l .active) (l .place) (l .accounts) (l .start) (l .held) (l .size) (l .totals)
+  pub stays-sends : sendOf flag l ≡ sendGives (Refused 11 0) l
+      → r ≡ changedTo (refusedSend (Refused 11 0)) (l .active) (l .place) (l .accounts) (l .start) (l .held) (l .size) (l .totals)
       → SendsIn l r
-  stays-sends n gives said = record {
+  stays-sends gives said = record {
     sound = flag;
     exactly = exactly;
     gives = ap (λ (x : Changed). sendLeaves (x .answer) (changedLink l x)) said ∙ sym gives;
   }
 
-  -- a send that goes changes the fields of the link after it
-  pub goes-sends : (m : Moved) → flag ≡ true → Moves l m → m .some ≡ true → r ≡ goesBy m → SendsIn l r
-  goes-sends m on moves some said = record {
-    sound = flag;
-    exactly = exactly;
-    gives = ap (λ (x : Changed). sendLeaves (x .answer) (changedLink l x)) said
-        ∙ ap (λ (x : Sent). sendLeaves (goes (x .class) (x .packet) (x .rounds) (x .link .totals .charged)) (x .link))
-        (moves .sent ∙ ap (λ (b : Bool). sentWhere b l) some)
-        ∙ sym (ap (λ (b : Bool). sendOf b l) on ∙ send-goes l (sym (moves .some) ∙ some));
-  }
+  -- a send on a sound link
+  pub goes-sends : flag ≡ true → GoesIn l r → SendsIn l r
+  goes-sends on gives = record { sound = flag; exactly = exactly; gives = gives ∙ sym (ap (λ (b : Bool). sendOf b l) on) }

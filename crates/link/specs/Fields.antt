@@ -1,5 +1,5 @@
 -- What the calls over the fields of a link say: the rules of a call on the link that they make up; no rule of its own. Demands 1 and 2.
-use mathlib.Core.Bool.{Bool, cond}
+use mathlib.Core.Bool.{Bool, true, cond}
 use mathlib.Core.List.{List}
 use mathlib.Core.Path.{_≡_}
 use Prim.Native.Nat.{ℕ}
@@ -13,7 +13,6 @@ use Rattle.state.specs.declared.Packet.{Packet}
 use Rattle.state.specs.declared.Totals.{Totals}
 use Rattle.state.specs.Queue.{queued, withTotals}
 use Rattle.state.specs.State.{linkInRound}
-use Rattle.steps.specs.declared.Moved.{Moved}
 use Rattle.calls.specs.declared.Arrival.{Arrival}
 use Rattle.calls.specs.declared.Departure.{Departure}
 use Rattle.calls.specs.declared.PanelTotals.{PanelTotals}
@@ -21,7 +20,7 @@ use Rattle.calls.specs.declared.ClassTotals.{ClassTotals}
 use Rattle.link.specs.declared.Changed.{Changed}
 use Rattle.sound.specs.Sound.{SoundLink}
 use Rattle.calls.specs.Arrival.{arrivalLeaves, arrivalOf}
-use Rattle.calls.specs.Send.{sendLeaves, goes, sendOf}
+use Rattle.calls.specs.Send.{sendLeaves, sendOf}
 
 -- an arrival over the fields of a link, with its answer and the link that the fields make up after it
 pub record ArrivesIn (l : Link) (class : ℕ) (p : Packet) (answer : Arrival) (after : Link) : Type 0 where
@@ -41,17 +40,15 @@ changedTo answer active place accounts start held size totals = record {
   totals = totals;
 }
 
--- a packet that goes, and the fields of the link after it
-abbrev pub goesBy : Moved → Changed
-goesBy m =
-    changedTo (goes (m .class) (m .packet) (m .rounds) (m .totals .charged)) (m .active) (m .place) (m .accounts) (m .start) (m .held)
-    (m .size) (m .totals)
-
 -- the link with the fields that a send may change
 abbrev pub changedLink : Link → Changed → Link
 changedLink l r =
     withTotals (queued (linkInRound l (r .size .0) (r .active) (r .place) (r .accounts)) (r .start) (r .held) (l .lengths)
     (l .tags) (l .marks)) (r .totals)
+
+-- a send over the fields of a sound link
+abbrev pub GoesIn : Link → Changed → Type 0
+GoesIn l r = sendLeaves (r .answer) (changedLink l r) ≡ sendOf true l
 
 -- a send over the fields of a link
 pub record SendsIn (l : Link) (r : Changed) : Type 0 where

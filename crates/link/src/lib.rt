@@ -19,14 +19,20 @@ ghost use Rattle.calls.specs.Panel.{TellsTotals, TellsClass};
 ghost use Rattle.checks.specs.declared.Verdict.the-variants.{Refused};
 ghost use Rattle.state.specs.State.{linkOf};
 ghost use Rattle.calls.specs.Send.{refusedSend, Sends};
-ghost use Rattle.link.specs.Fields.{ArrivesIn, changedTo, goesBy, SendsIn, classIn};
+ghost use Rattle.sound.specs.Sound.{SoundLink};
+ghost use Rattle.steps.specs.Rounds.{wentAnswers};
+ghost use Rattle.link.specs.Fields.{ArrivesIn, changedTo, GoesIn, SendsIn, classIn};
 use checks::Verdict;
 use state::Account;
 use state::Link;
 use state::Packet;
 use state::Totals;
+use state::lent_accounts::balances;
+use state::lent_accounts::residuals;
+use state::lent_accounts::zipped;
 use state::mark::since;
-use steps::Moved;
+use steps::Stand;
+use steps::Went;
 use tree::Tree;
 use units::Bytes;
 
@@ -97,8 +103,7 @@ pub fn arrive_in<'a>(
         lengths,
         totals,
     );
-    let parent = tree.parent;
-    let longest = tree.longest;
+    let shape = shape::shape_of(tree);
     let mut after = held;
     let mut packets = totals.packets;
     let mut bytes = totals.bytes;
@@ -106,9 +111,7 @@ pub fn arrive_in<'a>(
         sound,
         class,
         packet,
-        tree.leaves,
-        &parent,
-        &longest,
+        &shape,
         &start,
         &mut after,
         lengths,
@@ -172,9 +175,8 @@ pub fn arrive(link: Link, class: usize, packet: Packet) -> AfterArrival
     }
 }
 
-// A refused send: every field as it was, and all other numbers 0.
+// A send on a record that is not sound: every field as it was, and all other numbers 0.
 fn stays(
-    number: u8,
     size: Bytes,
     active: u64,
     place: usize,
@@ -183,19 +185,10 @@ fn stays(
     held: [u8; Link::CLASSES],
     totals: Totals,
 ) -> Changed
-    ensures { λ r. ⌜ r ≡ changedTo (refusedSend (Refused number 0)) active place accounts start held size totals ⌝ }
+    ensures { λ r. ⌜ r ≡ changedTo (refusedSend (Refused 11 0)) active place accounts start held size totals ⌝ }
 {
-    let verdict = Verdict::Refused(number, 0);
-    let answer = Departure {
-        verdict,
-        class: 0,
-        length: 0,
-        tag: 0,
-        rounds: 0,
-        waited: 0,
-    };
     Changed {
-        answer,
+        answer: refused(checks::NOT_SOUND),
         active,
         place,
         accounts,
@@ -206,34 +199,106 @@ fn stays(
     }
 }
 
-// A packet goes: the fields of the link after it.
-fn goes(moved: Moved) -> Changed
-    ensures { λ r. ⌜ r ≡ goesBy moved ⌝ }
+// What a refused send answers: its number, and all other numbers 0.
+fn refused(number: u8) -> Departure
+    ensures { λ r. ⌜ r ≡ refusedSend (Refused number 0) ⌝ }
 {
-    let packet = moved.packet;
-    let totals = moved.totals;
-    let verdict = Verdict::Passed;
-    let answer = Departure {
+    let verdict = Verdict::Refused(number, 0);
+    Departure {
         verdict,
-        class: moved.class,
+        class: 0,
+        length: 0,
+        tag: 0,
+        rounds: 0,
+        waited: 0,
+    }
+}
+
+// What a send answers on a sound link: the packet that goes, or that none waits.
+fn answered(went: Went) -> Departure
+    ensures { λ r. ⌜ r ≡ wentAnswers went ⌝ }
+{
+    if !went.some {
+        return refused(checks::NOTHING_WAITS);
+    }
+    let packet = went.packet;
+    let stand = went.stand;
+    let verdict = Verdict::Passed;
+    Departure {
+        verdict,
+        class: went.class,
         length: packet.length,
         tag: packet.tag,
-        rounds: moved.rounds,
-        waited: since(totals.charged, packet.mark),
-    };
-    let accounts = moved.accounts;
-    let start = moved.start;
-    let held = moved.held;
-    let size = moved.size;
-    Changed {
-        answer,
-        active: moved.active,
-        place: moved.place,
-        accounts,
-        start,
-        held,
+        rounds: went.rounds,
+        waited: since(stand.charged, packet.mark),
+    }
+}
+
+// A send over the fields of a sound link: they are lent to the steps and put together again. No weight sums are kept.
+fn sends(
+    tree: Tree,
+    size: Bytes,
+    active: u64,
+    place: usize,
+    accounts: [Account; Link::CLASSES],
+    start: [u8; Link::CLASSES],
+    held: [u8; Link::CLASSES],
+    totals: Totals,
+    lengths: &[u16; 2048],
+    tags: &[u32; 2048],
+    marks: &[u64; 2048],
+) -> Changed
+    requires { ⌜ SoundLink (linkOf tree size active place accounts start held (now lengths) (now tags) (now marks) totals) ⌝ }
+    ensures { λ r. ⌜ GoesIn
+        (linkOf tree size active place accounts start held (now (lengths .entry)) (now (tags .entry)) (now (marks .entry)) totals) r ⌝ }
+{
+    let shape = shape::shape_of(tree);
+    let children = shape::families(&shape);
+    let mut kept = [0u32; 64];
+    let mut balance = balances(accounts);
+    let mut residual = residuals(accounts);
+    let mut first = start;
+    let mut many = held;
+    let mut packets = totals.packets;
+    let mut bytes = totals.bytes;
+    let stand = Stand {
+        known: 0,
         size,
-        totals,
+        active,
+        place,
+        charged: totals.charged,
+    };
+    let went = steps::send(
+        &shape,
+        &children,
+        &mut kept,
+        stand,
+        &mut balance,
+        &mut residual,
+        &mut first,
+        &mut many,
+        lengths,
+        tags,
+        marks,
+        &mut packets,
+        &mut bytes,
+    );
+    let after = zipped(&balance, &residual);
+    let then = went.stand;
+    let size_after = then.size;
+    Changed {
+        answer: answered(went),
+        active: then.active,
+        place: then.place,
+        accounts: after,
+        start: first,
+        held: many,
+        size: size_after,
+        totals: Totals {
+            packets,
+            bytes,
+            charged: then.charged,
+        },
     }
 }
 
@@ -265,18 +330,9 @@ pub fn send_of<'a>(
         lengths,
         totals,
     ) {
-        return stays(
-            checks::NOT_SOUND,
-            size,
-            active,
-            place,
-            accounts,
-            start,
-            held,
-            totals,
-        );
+        return stays(size, active, place, accounts, start, held, totals);
     }
-    let moved = steps::send_values(
+    sends(
         tree,
         size,
         active,
@@ -284,25 +340,11 @@ pub fn send_of<'a>(
         accounts,
         start,
         held,
+        totals,
         lengths,
         tags,
         marks,
-        totals,
-    );
-    let some = moved.some;
-    if !some {
-        return stays(
-            checks::NOTHING_WAITS,
-            size,
-            active,
-            place,
-            accounts,
-            start,
-            held,
-            totals,
-        );
-    }
-    goes(moved)
+    )
 }
 
 // A send.

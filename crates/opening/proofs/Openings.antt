@@ -10,25 +10,29 @@ use borrow.Author.Tests.{ne-eqb}
 use Rattle.checks.proofs.Laws.{not-true-and-false}
 use Rattle.sets.specs.Set.{has}
 use Rattle.sets.proofs.Laws.{has-not}
-use Rattle.units.specs.declared.Weight.{Weight}
 use Rattle.units.specs.Unit.{dueOf, surplusOf}
 use Rattle.tree.specs.declared.Tree.{Tree}
-use Rattle.tree.specs.Class.{noWeight, parentOf, weightOf, isClass, isLeaf, isInner}
+use Rattle.tree.specs.Class.{parentOf, weightOf, isClass, isLeaf, isInner}
 use Rattle.tree.proofs.Rules.{parent-no-leaf, parent-below}
 use Rattle.tree.specs.Size.{mostSize}
 use Rattle.state.specs.declared.Account.{Account}
 use Rattle.state.specs.Account.{noAccount, accountOf, fundsOf, tookQuota, handedDown}
 use Rattle.tree.specs.Sum.{table}
-use Rattle.tree.proofs.Tables.{table-none, table-length, table-fill, table-front, table-over, table-behind}
-use Rattle.rules.specs.Active.{weightSum, weightSums}
+use Rattle.tree.proofs.Tables.{table-none, table-length, table-at, table-fill, table-front, table-over, table-behind}
+use Rattle.rules.specs.Active.{weightSum}
 use Rattle.rules.specs.Opening.{Kind, kindIs, surplusAt, hasSurplus, rootOpened, rootQuota, quota, due, handsDown, openedLeaf, openedInner}
 use Rattle.rules.specs.Opening.{openedAccount, openedAccounts}
 use Rattle.rules.specs.Steps.{CanOpen}
-use Rattle.rules.proofs.Sums.{sum-without, sums-at}
+use Rattle.active.specs.Known.{Summed}
+use Rattle.rules.proofs.Sums.{sum-without}
 use Rattle.rules.proofs.Shares.{quota-root, quota-step, quota-inactive, due-most}
 use Rattle.opening.specs.declared.Shared.{Shared}
 use Rattle.state.specs.Account.{zipAccounts}
 use Rattle.opening.specs.Opens.{rootShared, classShared, OpenedUpTo}
+
+-- a weight sum among those that are lent
+summed-at : (t : Tree) (active : ℕ) (sums : List ℕ) (i : ℕ) → Summed t active sums → i < 64 → getD sums i 0 ≡ weightSum t active i
+summed-at t active sums i w u = ap (λ (xs : List ℕ). getD xs i 0) w ∙ table-at (weightSum t active) 0 64 i u
 
 abbrev both : Account → ℕ → Shared
 both a q = record { account = a; quota = q }
@@ -106,15 +110,14 @@ module _ (kind : Kind) (t : Tree) (active : ℕ) (accounts : List Account) (can 
     opening-due = rw parents (due-most kind t active accounts can i u)
 
     -- one class on
-    pub opening-on : (b′ r′ : List ℕ) {s : Shared} {d : ℕ} {on leaf : Bool} {x : Account} (sums : List Weight)
-        → sums ≡ weightSums t active → on ≡ has active i → leaf ≡ has (t .leaves) i → d ≡ dueOf (weightOf t i) (getD q (parentOf t i) 0)
-        → x ≡ accountOf (zipAccounts b r) i → s ≡ classShared on leaf (getD sums i noWeight .0) d x
+    pub opening-on : (b′ r′ : List ℕ) {s : Shared} {d : ℕ} {on leaf : Bool} {x : Account} (sums : List ℕ)
+        → Summed t active sums → on ≡ has active i → leaf ≡ has (t .leaves) i → d ≡ dueOf (weightOf t i) (getD q (parentOf t i) 0)
+        → x ≡ accountOf (zipAccounts b r) i → s ≡ classShared on leaf (getD sums i 0) d x
         → zipAccounts b′ r′ ≡ set (zipAccounts b r) i (s .account)
         → OpenedUpTo kind t active accounts (i + 1) (set q i (s .quota)) b′ r′
     unfolding isLeaf
     opening-on b′ r′ {s} {d} {on} {leaf} {x} sums w e f g h k y =
-        let sum : getD sums i noWeight .0 ≡ weightSum t active i = ap (λ (xs : List Weight). getD xs i noWeight .0) w
-        ∙ sums-at t active i u in
+        let sum : getD sums i 0 ≡ weightSum t active i = summed-at t active sums i w u in
         let is : s ≡ both (openedAccount kind t active accounts i) (quota kind t active accounts i) =
         k ∙ rw (e, f, g, h, sum, parents, at-hand) (class-shares i l u)
         in
@@ -126,14 +129,13 @@ module _ (kind : Kind) (t : Tree) (active : ℕ) (accounts : List Account) (can 
 
 -- it starts with the root
 pub opening-starts : (surplus : Bool) (t : Tree) (active : ℕ) (accounts : List Account) → CanOpen t active accounts
-    → (b r : List ℕ) {s : Shared} {x : Account} (sums : List Weight)
-    → sums ≡ weightSums t active → x ≡ accountOf accounts 0 → s ≡ rootShared surplus (getD sums 0 noWeight .0) x
+    → (b r : List ℕ) {s : Shared} {x : Account} (sums : List ℕ)
+    → Summed t active sums → x ≡ accountOf accounts 0 → s ≡ rootShared surplus (getD sums 0 0) x
     → zipAccounts b r ≡ set accounts 0 (s .account)
     → OpenedUpTo (kindIs surplus) t active accounts 1 (set (replicate 64 0) 0 (s .quota)) b r
 unfolding openedAccount
 opening-starts surplus t active accounts can b r {s} {x} sums w h k y =
-    let sum : getD sums 0 noWeight .0 ≡ weightSum t active 0 = ap (λ (xs : List Weight). getD xs 0 noWeight .0) w
-    ∙ sums-at t active 0 (omega arith) in
+    let sum : getD sums 0 0 ≡ weightSum t active 0 = summed-at t active sums 0 w (omega arith) in
     let is : s ≡ both (rootOpened (kindIs surplus) t active (accountOf accounts 0)) (quota (kindIs surplus) t active accounts 0) =
     k ∙ rw (h, sum) (root-shares surplus t active accounts)
     ∙ ap (both (rootOpened (kindIs surplus) t active (accountOf accounts 0))) (sym (quota-root (kindIs surplus) t active accounts))
@@ -155,13 +157,13 @@ opening-ends kind t active accounts can i e b r o =
     o .opened ∙ rw (e, drop-of-length-le accounts end) (append-nil (table (openedAccount kind t active accounts) 64))
 
 -- the surplus of a class, when it is told whether it is a leaf and whether it is active
-pub surplus-by : (t : Tree) (active : ℕ) (accounts : List Account) (i : ℕ) (u : i < 64) {leaf on : Bool} {a : Account} (sums : List Weight)
+pub surplus-by : (t : Tree) (active : ℕ) (accounts : List Account) (i : ℕ) (u : i < 64) {leaf on : Bool} {a : Account} (sums : List ℕ)
     → isClass t i ≡ true
-    → sums ≡ weightSums t active → leaf ≡ has (t .leaves) i → on ≡ has active i → a ≡ accountOf accounts i
-    → (not leaf && on && surplusOf (fundsOf a) (getD sums i noWeight .0)) ≡ hasSurplus t active accounts i
+    → Summed t active sums → leaf ≡ has (t .leaves) i → on ≡ has active i → a ≡ accountOf accounts i
+    → (not leaf && on && surplusOf (fundsOf a) (getD sums i 0)) ≡ hasSurplus t active accounts i
 unfolding hasSurplus surplusAt isInner isLeaf
 surplus-by t active accounts i u {leaf} {on} {a} sums is w l o e =
-    let sum : getD sums i noWeight .0 ≡ weightSum t active i = ap (λ (xs : List Weight). getD xs i noWeight .0) w ∙ sums-at t active i u in
+    let sum : getD sums i 0 ≡ weightSum t active i = summed-at t active sums i w u in
     rw (is, l, o, e, sum) refl
 
 -- a class that is not both active and no leaf has no surplus

@@ -1,5 +1,5 @@
-// A round opens: main or surplus, and what each account then shares out, the accounts as lent arrays (`state::lent_accounts`). Named for
-// specs/Opens. Serves demand 2.
+// A round opens: main or surplus, and what each account then shares out; the tree (`shape`), the weight sums and the accounts
+// (`state::lent_accounts`) are lent arrays. Named for specs/Opens. Serves demand 2.
 ghost use mathlib.Core.Path.{_≡_};
 ghost use mathlib.Core.Bool.{false, not, _&&_};
 ghost use lib.ListN.{length};
@@ -7,7 +7,8 @@ ghost use Prim.Native.Nat.{_+_, _*_, _≤_};
 ghost use Rattle.state.specs.Account.{accountOf, fundsOf, zipAccounts};
 ghost use Rattle.rules.specs.Steps.{CanOpen, CanResize};
 ghost use Rattle.tree.specs.Rules.{PlanRules};
-ghost use Rattle.rules.specs.Active.{weightSums};
+ghost use Rattle.shape.specs.Shape.{treeIn};
+ghost use Rattle.active.specs.Known.{Summed};
 ghost use Rattle.tree.specs.Size.{mostSize, SizeRight};
 ghost use Rattle.rules.specs.Opening.{kindIs, kindOf, sizeIn, resized, openedAccounts};
 ghost use Rattle.opening.specs.Opens.{sharedOut, rootShared, classShared, BeginsWith, OpensWith};
@@ -17,7 +18,6 @@ use state::Account;
 use state::Link;
 use state::lent_accounts::account_of;
 use state::lent_accounts::keep;
-use tree::Tree;
 use units::Bytes;
 use units::Weight;
 
@@ -73,33 +73,32 @@ fn open_class(on: bool, leaf: bool, sum: Weight, due: Bytes, a: Account) -> Shar
 
 // The accounts when a round opens: top down, one pass.
 fn open_accounts(
-    tree: Tree,
+    shape: &[u64; 195],
     active: u64,
     surplus: bool,
-    sums: [Weight; 64],
+    sums: &[u32; 64],
     balance: &mut [u64; 64],
     residual: &mut [u64; 64],
 )
-    requires { ⌜ CanOpen tree active (zipAccounts (now balance) (now residual)) × (sums ≡ weightSums tree active) ⌝ }
+    requires { ⌜ CanOpen (treeIn (now shape)) active (zipAccounts (now balance) (now residual)) × Summed (treeIn (now shape)) active (now sums) ⌝ }
     ensures { λ _. ⌜ zipAccounts (now (balance .exit)) (now (residual .exit))
-        ≡ openedAccounts (kindIs surplus) tree active (zipAccounts (now (balance .entry)) (now (residual .entry))) ⌝ }
+        ≡ openedAccounts (kindIs surplus) (treeIn (now (shape .entry))) active (zipAccounts (now (balance .entry)) (now (residual .entry))) ⌝ }
 {
+    let leaves = shape::leaves(shape);
     let mut quotas = [0u64; 64];
-    let s = sums[0];
-    let root = open_root(surplus, s, account_of(0, balance, residual));
+    let root = open_root(surplus, Weight(sums[0]), account_of(0, balance, residual));
     quotas[0] = root.quota;
     let first = root.account;
     keep(0, first, balance, residual);
     let mut i: usize = 1;
     while i < Link::CLASSES {
-        let p = tree.parent[i] as usize;
-        let w = tree.weight[i];
-        let s = sums[i];
+        let p = shape::parent(shape, i);
+        let w = shape::weight(shape, i);
         let due = units::due(w, quotas[p]);
         let one = open_class(
             sets::has(active, i),
-            sets::has(tree.leaves, i),
-            s,
+            sets::has(leaves, i),
+            Weight(sums[i]),
             due,
             account_of(i, balance, residual),
         );
@@ -126,24 +125,24 @@ fn class_surplus(on: bool, leaf: bool, sum: Weight, a: Account) -> bool
 
 // Whether the round that opens is a surplus round: some class has one, from the first active inner class on.
 fn is_surplus(
-    tree: Tree,
+    shape: &[u64; 195],
     active: u64,
-    sums: [Weight; 64],
+    sums: &[u32; 64],
     balance: &[u64; 64],
     residual: &[u64; 64],
 ) -> bool
-    requires { ⌜ CanOpen tree active (zipAccounts (now balance) (now residual)) × (sums ≡ weightSums tree active) ⌝ }
-    ensures { λ r. ⌜ kindIs r ≡ kindOf tree active (zipAccounts (now (balance .entry)) (now (residual .entry))) ⌝ }
+    requires { ⌜ CanOpen (treeIn (now shape)) active (zipAccounts (now balance) (now residual)) × Summed (treeIn (now shape)) active (now sums) ⌝ }
+    ensures { λ r. ⌜ kindIs r ≡ kindOf (treeIn (now (shape .entry))) active (zipAccounts (now (balance .entry)) (now (residual .entry))) ⌝ }
 {
-    let last = tree.count;
-    let inner = sets::both(active, !tree.leaves);
+    let last = shape::count(shape);
+    let leaves = shape::leaves(shape);
+    let inner = sets::both(active, !leaves);
     let mut i = sets::next(inner, 1);
     while i <= last {
-        let s = sums[i];
         if class_surplus(
             sets::has(active, i),
-            sets::has(tree.leaves, i),
-            s,
+            sets::has(leaves, i),
+            Weight(sums[i]),
             account_of(i, balance, residual),
         ) {
             return true;
@@ -154,15 +153,15 @@ fn is_surplus(
 }
 
 // The size in force when a round has opened: a main round sets it by the tree's rule, a surplus round leaves it.
-fn size_after(surplus: bool, tree: Tree, active: u64, size: Bytes) -> Bytes
-    requires { ⌜ PlanRules tree × SizeRight tree (size .0) ⌝ }
-    ensures { λ r. ⌜ r .0 ≡ sizeIn (kindIs surplus) tree active (size .0) ⌝ }
+fn size_after(surplus: bool, shape: &[u64; 195], active: u64, size: Bytes) -> Bytes
+    requires { ⌜ PlanRules (treeIn (now shape)) × SizeRight (treeIn (now shape)) (size .0) ⌝ }
+    ensures { λ r. ⌜ r .0 ≡ sizeIn (kindIs surplus) (treeIn (now (shape .entry))) active (size .0) ⌝ }
 {
     if surplus {
         return size;
     }
-    if tree.follows {
-        return active_size(tree, active);
+    if shape::follows(shape) {
+        return active_size(shape, active);
     }
     size
 }
@@ -190,19 +189,20 @@ pub struct Begun {
 
 // A round begins, and shares out nothing yet: which kind it is, the size in force, and in a main round the root takes the difference.
 pub fn begin_round(
-    tree: Tree,
+    shape: &[u64; 195],
     active: u64,
-    sums: [Weight; Link::CLASSES],
+    sums: &[u32; 64],
     size: Bytes,
     balance: &mut [u64; 64],
     residual: &mut [u64; 64],
 ) -> Begun
-    requires { ⌜ CanResize tree active (size .0) (zipAccounts (now balance) (now residual)) × (sums ≡ weightSums tree active) ⌝ }
-    ensures { λ r. ⌜ BeginsWith tree active (size .0) (zipAccounts (now (balance .entry)) (now (residual .entry))) r
+    requires { ⌜ CanResize (treeIn (now shape)) active (size .0) (zipAccounts (now balance) (now residual))
+        × Summed (treeIn (now shape)) active (now sums) ⌝ }
+    ensures { λ r. ⌜ BeginsWith (treeIn (now (shape .entry))) active (size .0) (zipAccounts (now (balance .entry)) (now (residual .entry))) r
         (zipAccounts (now (balance .exit)) (now (residual .exit))) ⌝ }
 {
-    let surplus = is_surplus(tree, active, sums, balance, residual);
-    let after = size_after(surplus, tree, active, size);
+    let surplus = is_surplus(shape, active, sums, balance, residual);
+    let after = size_after(surplus, shape, active, size);
     resize(surplus, size, after, balance, residual);
     Begun {
         surplus,
@@ -212,19 +212,20 @@ pub fn begin_round(
 
 // A round opens: it begins, the accounts are shared out, and the size in force is handed back.
 pub fn open_round(
-    tree: Tree,
+    shape: &[u64; 195],
     active: u64,
-    sums: [Weight; Link::CLASSES],
+    sums: &[u32; 64],
     size: Bytes,
     balance: &mut [u64; 64],
     residual: &mut [u64; 64],
 ) -> Bytes
-    requires { ⌜ CanResize tree active (size .0) (zipAccounts (now balance) (now residual)) × (sums ≡ weightSums tree active) ⌝ }
-    ensures { λ r. ⌜ OpensWith tree active (size .0) (zipAccounts (now (balance .entry)) (now (residual .entry))) (r .0)
+    requires { ⌜ CanResize (treeIn (now shape)) active (size .0) (zipAccounts (now balance) (now residual))
+        × Summed (treeIn (now shape)) active (now sums) ⌝ }
+    ensures { λ r. ⌜ OpensWith (treeIn (now (shape .entry))) active (size .0) (zipAccounts (now (balance .entry)) (now (residual .entry))) (r .0)
         (zipAccounts (now (balance .exit)) (now (residual .exit))) ⌝ }
 {
-    let begun = begin_round(tree, active, sums, size, balance, residual);
+    let begun = begin_round(shape, active, sums, size, balance, residual);
     let after = begun.size;
-    open_accounts(tree, active, begun.surplus, sums, balance, residual);
+    open_accounts(shape, active, begun.surplus, sums, balance, residual);
     after
 }

@@ -1,6 +1,8 @@
 // The planner's page: the library's calls on bytes and number arrays that a page in a browser lends; bin/page compiles them to WebAssembly.
 // Each says what the library says of the same bytes; specs/Kept says what the arrays mean. No function asks anything of its caller, and a
 // link is made and gone within a call: no part of it is kept here. Serves demands 1 to 3.
+mod weights;
+
 ghost use mathlib.Core.Path.{_≡_};
 ghost use mathlib.Core.Bool.{cond, _||_};
 ghost use mathlib.Core.List.{[], _∷_, _++_};
@@ -147,7 +149,7 @@ fn numbers_of(tree: Tree) -> [u64; 3]
 fn tree_of(numbers: &[u64; 3], parent: &[u8; 64], weight: &[u32; 64], longest: &[u16; 64]) -> Tree
     ensures { λ r. ⌜ r ≡ treeOf (now (numbers .entry)) (now (parent .entry)) (now (weight .entry)) (now (longest .entry)) ⌝ }
 {
-    let weight = active::weights_of(weight);
+    let weight = weights::weights_of(weight);
     let parent = *parent;
     let longest = *longest;
     let follows = numbers[2] == 2;
@@ -184,7 +186,7 @@ pub extern "C" fn page_open(
     let p = tree.parent;
     *parent = p;
     let w = tree.weight;
-    *weight = active::weight_numbers(w);
+    *weight = weights::weight_numbers(w);
     let l = tree.longest;
     *longest = l;
     let verdict = read.verdict;

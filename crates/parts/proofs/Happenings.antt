@@ -4,9 +4,7 @@ use mathlib.Core.List.{List}
 use mathlib.Core.Path.{_≡_, refl, sym, ap, ap₂, subst, _∙_}
 use Prim.Native.Nat.{ℕ, _+_}
 use lib.ListN.{drop}
-use Rattle.checks.specs.declared.Verdict.the-variants.{Refused}
 use Rattle.checks.specs.Check.{Exactly}
-use Rattle.units.specs.declared.Bytes.{Bytes}
 use Rattle.plan.specs.declared.Arrived.{Arrived}
 use Rattle.plan.specs.declared.EventRead.the-variants.{NoMore, Arrive, SendNext, Fault}
 use Rattle.plan.specs.Event.{usedOf, eventAt}
@@ -16,22 +14,20 @@ use Rattle.state.specs.Mark.{since}
 use Rattle.state.specs.Queue.{Shaped}
 use Rattle.state.specs.State.{meaning}
 use Rattle.sound.specs.Sound.{SoundLink}
-use Rattle.rules.specs.Active.{someWaits}
-use Rattle.rules.specs.After.{Sent}
 use Rattle.calls.specs.declared.Arrival.{Arrival}
 use Rattle.calls.specs.declared.AfterArrival.{AfterArrival}
-use Rattle.calls.specs.declared.Departure.{Departure}
 use Rattle.calls.specs.declared.AfterSend.{AfterSend}
-use Rattle.calls.specs.Send.{goes, refusedSend, sendOf, sendLeaves}
 use Rattle.calls.specs.Run.{Call, arrival, send, linkLeft, makes, waitingIn}
 use Rattle.calls.proofs.Arrivals.{arrival-shaped}
-use Rattle.calls.proofs.Departures.{send-unsound, send-goes, send-nothing, send-shaped}
+use Rattle.calls.proofs.Departures.{send-unsound, send-shaped}
 use Rattle.calls.proofs.Runs.{rules-meet}
 use Rattle.lines.specs.declared.Line.{Line}
 use Rattle.lines.specs.declared.Line.the-variants.{Out, Nothing, End, Stop}
+use Rattle.steps.specs.declared.Stand.{Stand}
 use Rattle.steps.specs.declared.Went.{Went}
 use Rattle.steps.specs.Arrivals.{ArrivesOn}
-use Rattle.steps.specs.Rounds.{sentWhere, Departs}
+use Rattle.steps.specs.Rounds.{Departs, answerOf}
+use Rattle.steps.proofs.Departures.{departs-answers}
 use Rattle.run.specs.Event.{arrivalLine, sendLine, packetIn, callLine, stepBy}
 use Rattle.parts.specs.Steps.{LaysLine, ArrivesAs, wentSays, DepartsAs, didBy, Happens}
 use Rattle.run.proofs.Events.{gives-by}
@@ -49,37 +45,17 @@ arrives-in-place sound l a r line at before n out after is e lays = (
 
 -- ---- a send
 
--- what the call gives, of what the step gives
-abbrev answerOf : Bool → ℕ → Waiting → ℕ → ℕ → Departure
-answerOf true class p rounds total = goes class p rounds total
-answerOf false class p rounds total = refusedSend (Refused 15 0)
-
-abbrev departureOf : Bool → Went → Link → AfterSend
-departureOf some w after = sendLeaves (answerOf some (w .class) (w .packet) (w .rounds) (after .totals .charged)) after
-
-abbrev asDeparture : Bool → Sent → AfterSend
-asDeparture some s = sendLeaves (answerOf some (s .class) (s .packet) (s .rounds) (s .link .totals .charged)) (s .link)
-
-departs-is : (l : Link) (w : Went) (after : Link) → Departs l w after → departureOf (w .some) w after ≡ sendOf true l
-departs-is l w after d = ap (asDeparture (w .some)) (d .sent) ∙ go (w .some) (d .some)
-  where
-    go : (b : Bool) → b ≡ someWaits (meaning l) → asDeparture b (sentWhere b l) ≡ sendOf true l
-    go true e = sym (send-goes l (sym e))
-    go false e = sym (send-nothing l (sym e))
-
 -- its line
 went-line : (some : Bool) (class : ℕ) (p : Waiting) (rounds total : ℕ)
     → cond some (Out class (p .length) (p .tag) rounds (since total (p .mark))) Nothing ≡ sendLine (answerOf some class p rounds total)
 went-line true class p rounds total = refl
 went-line false class p rounds total = refl
 
-pub departs-in-place : (l : Link) (w : Went) (after : Link) → w .charged ≡ after .totals .charged → Departs l w after
+pub departs-in-place : (l : Link) (w : Went) (after : Link) → w .stand .charged ≡ after .totals .charged → Departs l w after
     → DepartsAs true l w after
 departs-in-place l w after total d =
-    let is = departs-is l w after d in (
-      went-line (w .some) (w .class) (w .packet) (w .rounds) (w .charged)
-          ∙ ap (λ (n : ℕ). sendLine (answerOf (w .some) (w .class) (w .packet) (w .rounds) n)) total
-          ∙ ap (λ (x : AfterSend). sendLine (x .answer)) is,
+    let is = departs-answers l w after total d in (
+      went-line (w .some) (w .class) (w .packet) (w .rounds) (w .stand .charged) ∙ ap (λ (x : AfterSend). sendLine (x .answer)) is,
       ap (λ (x : AfterSend). x .link) is,
     )
 
@@ -99,10 +75,10 @@ call-shaped l send false exactly shape = subst (λ (x : AfterSend). Shaped (x .l
 
 module _ (l : Link) (input : List ℕ) (place : ℕ) (shape : Shaped l) (at : ℕ) (before : List ℕ) (r : ℕ) (out : List ℕ) where
   -- the normal end, and a refused record
-  pub end-in-place : (n active visit charged : ℕ) (size : Bytes) → eventAt (drop place input) place ≡ NoMore → n ≡ waitingIn (meaning l)
+  pub end-in-place : (told-so : Bool) (n : ℕ) (stand : Stand) → eventAt (drop place input) place ≡ NoMore → n ≡ waitingIn (meaning l)
       → LaysLine at (End n) before r out
-      → Happens l input place at before (didBy r false place active visit size charged) out l
-  end-in-place n active visit charged size told e lays = record {
+      → Happens l input place at before (didBy told-so r false place stand) out l
+  end-in-place told-so n stand told e lays = record {
     line = End n;
     lays = lays;
     goes = gives-by l input place NoMore _ told
@@ -110,10 +86,10 @@ module _ (l : Link) (input : List ℕ) (place : ℕ) (shape : Shaped l) (at : �
     shape = shape;
   }
 
-  pub stop-in-place : (n p active visit charged : ℕ) (size : Bytes) → eventAt (drop place input) place ≡ Fault n p → LaysLine at
+  pub stop-in-place : (told-so : Bool) (n p : ℕ) (stand : Stand) → eventAt (drop place input) place ≡ Fault n p → LaysLine at
       (Stop n p) before r out
-      → Happens l input place at before (didBy r false place active visit size charged) out l
-  stop-in-place n p active visit charged size told lays = record {
+      → Happens l input place at before (didBy told-so r false place stand) out l
+  stop-in-place told-so n p stand told lays = record {
     line = Stop n p;
     lays = lays;
     goes = gives-by l input place (Fault n p) _ told refl;
@@ -122,11 +98,11 @@ module _ (l : Link) (input : List ℕ) (place : ℕ) (shape : Shaped l) (at : �
 
   module _ (sound : Bool) (exactly : Exactly sound (SoundLink l)) (after : Link) where
     -- an arrival
-    pub arrival-in-place : (a : Arrived) (active visit charged n : ℕ) (size : Bytes) → eventAt (drop place input) place ≡ Arrive a
+    pub arrival-in-place : (a : Arrived) (n : ℕ) (stand : Stand) → eventAt (drop place input) place ≡ Arrive a
         → n ≡ usedOf (Arrive a) → ArrivesAs sound l a at before r out after
         → Happens l input place at before
-        (didBy r true (place + n) active visit size charged) out after
-    arrival-in-place a active visit charged n size told used is =
+        (didBy sound r true (place + n) stand) out after
+    arrival-in-place a n stand told used is =
         let call = arrival (a .class) (packetIn a) in
         record {
           line = callLine (makes sound l call);
@@ -145,7 +121,7 @@ module _ (l : Link) (input : List ℕ) (place : ℕ) (shape : Shaped l) (at : �
     pub send-in-place : (w : Went) (n : ℕ) → eventAt (drop place input) place ≡ SendNext → n ≡ usedOf SendNext → DepartsAs sound l w after
         → LaysLine at (wentSays w) before r out
         → Happens l input place at before
-        (didBy r true (place + n) (w .active) (w .place) (w .size) (w .charged)) out after
+        (didBy sound r true (place + n) (w .stand)) out after
     send-in-place w n told used is lays = record {
       line = wentSays w;
       lays = lays;

@@ -5,7 +5,6 @@ use mathlib.Core.List.{List}
 use Prim.Native.Nat.{ℕ, _+_, _≤_}
 use lib.ListN.{length}
 use Rattle.checks.specs.Check.{Exactly}
-use Rattle.units.specs.declared.Bytes.{Bytes}
 use Rattle.state.specs.declared.Link.{Link}
 use Rattle.state.specs.Mark.{since}
 use Rattle.state.specs.Queue.{Shaped}
@@ -16,6 +15,7 @@ use Rattle.lines.specs.declared.Line.{Line}
 use Rattle.lines.specs.declared.Line.the-variants.{Out, Nothing}
 use Rattle.lines.specs.Line.{bytesOf, lineRoom}
 use Rattle.digits.specs.Laid.{LaidAt}
+use Rattle.steps.specs.declared.Stand.{Stand}
 use Rattle.steps.specs.declared.Went.{Went}
 use Rattle.parts.specs.declared.in_place.Did.{Did}
 use Rattle.run.specs.Event.{packetIn, callLine, GoesOn}
@@ -26,6 +26,10 @@ use Rattle.parts.specs.Part.{Parts}
 abbrev pub LaysLine : ℕ → Line → List ℕ → ℕ → List ℕ → Type 0
 LaysLine at line before r after = LaidAt at (bytesOf line) before r after × (r ≤ at + lineRoom)
 
+-- an arrival with these numbers
+abbrev pub arrivedWith : ℕ → ℕ → ℕ → Arrived
+arrivedWith class length tag = record { class = class; length = length; tag = tag }
+
 -- an arrival on a link that is sound or is not: its line is laid, and the link after it
 abbrev pub ArrivesAs : Bool → Link → Arrived → ℕ → List ℕ → ℕ → List ℕ → Link → Type 0
 ArrivesAs sound l a at before r out after =
@@ -35,23 +39,20 @@ ArrivesAs sound l a at before r out after =
 -- a send: what the step gives has its line, and the link after it
 abbrev pub wentSays : Went → Line
 wentSays w =
-    let waited = since (w .charged) (w .packet .mark) in
+    let waited = since (w .stand .charged) (w .packet .mark) in
     cond (w .some) (Out (w .class) (w .packet .length) (w .packet .tag) (w .rounds) waited) Nothing
 
 abbrev pub DepartsAs : Bool → Link → Went → Link → Type 0
 DepartsAs sound l w after = let m = makes sound l send in (wentSays w ≡ callLine m) × (after ≡ linkLeft m)
 
 -- what an event gives beside the arrays and the buffer
-abbrev pub didBy : ℕ → Bool → ℕ → ℕ → ℕ → Bytes → ℕ → Did
-didBy laid more place active visit size charged = record {
-  laid = laid;
-  more = more;
-  place = place;
-  active = active;
-  visit = visit;
-  size = size;
-  charged = charged;
-}
+abbrev pub didBy : Bool → ℕ → Bool → ℕ → Stand → Did
+didBy sound laid more place stand = record { sound = sound; laid = laid; more = more; place = place; stand = stand }
+
+-- it was decided whether a link is sound, and its lists have the lengths of its arrays
+pub record Told (sound : Bool) (l : Link) : Type 0 where
+  pub exactly : Exactly sound (SoundLink l)
+  pub shape : Shaped l
 
 -- an event: its line is laid, what it gives, and the link after it, whose lists have the lengths of its arrays
 pub record Happens (l : Link) (input : List ℕ) (place at : ℕ) (before : List ℕ) (r : Did) (out : List ℕ) (after : Link) : Type 0 where

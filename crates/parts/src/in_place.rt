@@ -6,15 +6,15 @@ ghost use Prim.Native.Nat.{_+_, _≤_};
 ghost use lib.ListN.{length};
 ghost use Rattle.checks.specs.Check.{Exactly};
 ghost use Rattle.tree.specs.Rules.{PlanRules};
+ghost use Rattle.shape.specs.Shape.{treeIn, Families};
 ghost use Rattle.lines.specs.Line.{lineRoom};
 ghost use Rattle.state.specs.declared.Link.{Link};
-ghost use Rattle.state.specs.Queue.{Shaped};
 ghost use Rattle.state.specs.WayUp.{Climbs};
 ghost use Rattle.sound.specs.Sound.{SoundLink};
 ghost use Rattle.steps.specs.Arrivals.{lentWaiting, TakesOn};
-ghost use Rattle.steps.specs.Fields.{lentLink, lentTotals, lentTree};
+ghost use Rattle.steps.specs.Fields.{lentTotals, linkAt};
 ghost use Rattle.steps.specs.Rounds.{Kept};
-ghost use Rattle.parts.specs.Steps.{LaysLine, wentSays, Taken, ArrivesAs, DepartsAs, didBy, Happens};
+ghost use Rattle.parts.specs.Steps.{LaysLine, wentSays, Taken, Told, arrivedWith, ArrivesAs, DepartsAs, didBy, Happens};
 use crate::PartRun;
 use checks::Verdict;
 use lines::Line;
@@ -24,29 +24,26 @@ use state::Link;
 use state::Packet;
 use state::Totals;
 use state::mark::since;
+use steps::Stand;
 use steps::Went;
-use tree::Tree;
-use units::Bytes;
 
-// What an event gives beside the arrays and the buffer: where its line ends, whether the run goes on and at which place of the input, who
-// is active, the round's place, the size in force, the running total.
+// How far a part has come beside the arrays and the buffer: whether its record is sound, the bytes laid, whether the run goes on and at
+// which place of the input, and where the link stands.
 pub struct Did {
+    pub sound: bool,
     pub laid: usize,
     pub more: bool,
     pub place: usize,
-    pub active: u64,
-    pub visit: usize,
-    pub size: Bytes,
-    pub charged: u64,
+    pub stand: Stand,
 }
 
 // An arrival is judged, and put where it is taken; its line is laid.
 fn arrives(
     sound: bool,
-    a: Arrived,
-    leaves: u64,
-    parent: &[u8; 64],
-    longest: &[u16; 64],
+    class: u8,
+    len: u16,
+    tag: u32,
+    shape: &[u64; 195],
     start: &[u8; 64],
     held: &mut [u8; 64],
     lengths: &mut [u16; 2048],
@@ -58,28 +55,22 @@ fn arrives(
     at: usize,
     out: &mut [u8],
 ) -> usize
-    requires { ⌜ (sound ≡ true → Climbs (now parent) (now packets) (now bytes)) × (at + lineRoom ≤ length (now out)) ⌝ }
-    ensures { λ r. ⌜ ((l : Link) → l .tree .leaves ≡ leaves → l .tree .parent ≡ now (parent .entry) → l .tree .longest
-        ≡ now (longest .entry)
+    requires { ⌜ (sound ≡ true → PlanRules (treeIn (now shape)) × Climbs (treeIn (now shape)) (now packets) (now bytes))
+        × (at + lineRoom ≤ length (now out)) ⌝ }
+    ensures { λ r. ⌜ ((l : Link) → l .tree ≡ treeIn (now (shape .entry))
         → (sound ≡ true → TakesOn (lentWaiting l (now (start .entry)) (now (held .entry)) (now (lengths .entry)) (now (tags .entry))
-        (now (marks .entry))
-        (lentTotals (now (packets .entry)) (now (bytes .entry)) charged)))
+        (now (marks .entry)) (lentTotals (now (packets .entry)) (now (bytes .entry)) charged)))
         → ArrivesAs sound (lentWaiting l (now (start .entry)) (now (held .entry)) (now (lengths .entry)) (now (tags .entry))
-        (now (marks .entry))
-        (lentTotals (now (packets .entry)) (now (bytes .entry)) charged)) a at (now (out .entry)) r (now (out .exit))
+        (now (marks .entry)) (lentTotals (now (packets .entry)) (now (bytes .entry)) charged)) (arrivedWith class len tag) at (now (out .entry)) r
+        (now (out .exit))
         (lentWaiting l (now (start .entry)) (now (held .exit)) (now (lengths .exit)) (now (tags .exit)) (now (marks .exit))
         (lentTotals (now (packets .exit)) (now (bytes .exit)) charged))) ⌝ }
 {
-    let class = a.class as usize;
-    let len = a.length;
-    let tag = a.tag;
     let answer = steps::arrive(
         sound,
-        class,
+        class as usize,
         Packet { length: len, tag },
-        leaves,
-        parent,
-        longest,
+        shape,
         start,
         held,
         lengths,
@@ -92,7 +83,7 @@ fn arrives(
     let verdict = answer.verdict;
     if let Verdict::Passed = verdict {
         return lines::lay_in(
-            a.class as u64,
+            class as u64,
             len as u64,
             tag as u64,
             answer.bytes.0,
@@ -100,24 +91,24 @@ fn arrives(
             out,
         );
     }
-    let line = run::arrival_line(answer, a);
+    let line = run::arrival_line(
+        answer,
+        Arrived {
+            class,
+            length: len,
+            tag,
+        },
+    );
     lines::lay_at(line, at, out)
 }
 
 // A send; on a record that is not sound it is refused, and nothing changes.
 fn departs(
     sound: bool,
-    count: usize,
-    leaves: u64,
-    parent: &[u8; 64],
-    weight: &[u32; 64],
-    longest: &[u16; 64],
-    follows: bool,
-    known: u64,
-    kept: &[u32; 64],
-    size: Bytes,
-    active: u64,
-    visit: usize,
+    shape: &[u64; 195],
+    children: &[u64; 64],
+    kept: &mut [u32; 64],
+    stand: Stand,
     balance: &mut [u64; 64],
     residual: &mut [u64; 64],
     start: &mut [u8; 64],
@@ -125,41 +116,26 @@ fn departs(
     lengths: &[u16; 2048],
     tags: &[u32; 2048],
     marks: &[u64; 2048],
-    charged: u64,
     packets: &mut [u64; 64],
     bytes: &mut [u64; 64],
 ) -> Went
-    requires { ⌜ Exactly sound (SoundLink (lentLink (lentTree count leaves (now parent) (now weight) (now longest) follows) size active
-        visit
-        (now balance) (now residual) (now start) (now held) (now lengths) (now tags) (now marks)
-        (lentTotals (now packets) (now bytes) charged)))
-        × Shaped (lentLink (lentTree count leaves (now parent) (now weight) (now longest) follows) size active visit (now balance)
-        (now residual) (now start) (now held) (now lengths) (now tags) (now marks) (lentTotals (now packets) (now bytes) charged))
-        × (sound ≡ true → Kept (lentTree count leaves (now parent) (now weight) (now longest) follows) known (now kept)) ⌝ }
-    ensures { λ r. ⌜ DepartsAs sound (lentLink
-        (lentTree count leaves (now (parent .entry)) (now (weight .entry)) (now (longest .entry)) follows) size active visit
-        (now (balance .entry)) (now (residual .entry)) (now (start .entry)) (now (held .entry)) (now (lengths .entry)) (now (tags .entry))
-        (now (marks .entry))
-        (lentTotals (now (packets .entry)) (now (bytes .entry)) charged))
-        r (lentLink (lentTree count leaves (now (parent .entry)) (now (weight .entry)) (now (longest .entry)) follows) (r .size) (r .active)
-        (r .place) (now (balance .exit)) (now (residual .exit)) (now (start .exit)) (now (held .exit)) (now (lengths .entry))
-        (now (tags .entry)) (now (marks .entry)) (lentTotals (now (packets .exit)) (now (bytes .exit)) (r .charged))) ⌝ }
+    requires { ⌜ Told sound (linkAt (treeIn (now shape)) stand (now balance) (now residual) (now start) (now held) (now lengths) (now tags)
+        (now marks) (now packets) (now bytes))
+        × (sound ≡ true → Families (treeIn (now shape)) (now children) × Kept (treeIn (now shape)) (stand .known) (now kept)) ⌝ }
+    ensures { λ r. ⌜ DepartsAs sound (linkAt (treeIn (now (shape .entry))) stand (now (balance .entry)) (now (residual .entry)) (now (start .entry))
+        (now (held .entry)) (now (lengths .entry)) (now (tags .entry)) (now (marks .entry)) (now (packets .entry)) (now (bytes .entry)))
+        r (linkAt (treeIn (now (shape .entry))) (r .stand) (now (balance .exit)) (now (residual .exit)) (now (start .exit)) (now (held .exit))
+        (now (lengths .entry)) (now (tags .entry)) (now (marks .entry)) (now (packets .exit)) (now (bytes .exit))) ⌝ }
+    ensures { λ r. ⌜ (sound ≡ true → Kept (treeIn (now (shape .entry))) (r .stand .known) (now (kept .exit))) ⌝ }
 {
     if !sound {
-        return steps::nothing(size, active, visit, charged);
+        return steps::nothing(stand);
     }
     steps::send(
-        count,
-        leaves,
-        parent,
-        weight,
-        longest,
-        follows,
-        known,
+        shape,
+        children,
         kept,
-        size,
-        active,
-        visit,
+        stand,
         balance,
         residual,
         start,
@@ -167,7 +143,6 @@ fn departs(
         lengths,
         tags,
         marks,
-        charged,
         packets,
         bytes,
     )
@@ -182,54 +157,37 @@ fn lay_went(went: Went, at: usize, out: &mut [u8]) -> usize
         return lines::lay_at(Line::Nothing, at, out);
     }
     let packet = went.packet;
+    let stand = went.stand;
     lines::lay_out(
         went.class as u64,
         packet.length as u64,
         packet.tag as u64,
         went.rounds as u64,
-        since(went.charged, packet.mark),
+        since(stand.charged, packet.mark),
         at,
         out,
     )
 }
 
 // What an event gives, as one record.
-fn outcome(
-    laid: usize,
-    more: bool,
-    place: usize,
-    active: u64,
-    visit: usize,
-    size: Bytes,
-    charged: u64,
-) -> Did
-    ensures { λ r. ⌜ r ≡ didBy laid more place active visit size charged ⌝ }
+fn outcome(sound: bool, laid: usize, more: bool, place: usize, stand: Stand) -> Did
+    ensures { λ r. ⌜ r ≡ didBy sound laid more place stand ⌝ }
 {
     Did {
+        sound,
         laid,
         more,
         place,
-        active,
-        visit,
-        size,
-        charged,
+        stand,
     }
 }
 
 // The event at a place of the input, where it is told whether the link is sound.
 fn event(
-    sound: bool,
-    count: usize,
-    leaves: u64,
-    parent: &[u8; 64],
-    weight: &[u32; 64],
-    longest: &[u16; 64],
-    follows: bool,
-    known: u64,
-    kept: &[u32; 64],
-    size: Bytes,
-    active: u64,
-    visit: usize,
+    did: Did,
+    shape: &[u64; 195],
+    children: &[u64; 64],
+    kept: &mut [u32; 64],
     balance: &mut [u64; 64],
     residual: &mut [u64; 64],
     start: &mut [u8; 64],
@@ -237,74 +195,61 @@ fn event(
     lengths: &mut [u16; 2048],
     tags: &mut [u32; 2048],
     marks: &mut [u64; 2048],
-    charged: u64,
     packets: &mut [u64; 64],
     bytes: &mut [u64; 64],
     input: &[u8],
-    place: usize,
-    at: usize,
     out: &mut [u8],
 ) -> Did
-    requires { ⌜ Exactly sound (SoundLink (lentLink (lentTree count leaves (now parent) (now weight) (now longest) follows) size active
-        visit
-        (now balance) (now residual) (now start) (now held) (now lengths) (now tags) (now marks)
-        (lentTotals (now packets) (now bytes) charged)))
-        × Shaped (lentLink (lentTree count leaves (now parent) (now weight) (now longest) follows) size active visit (now balance)
-        (now residual) (now start) (now held) (now lengths) (now tags) (now marks) (lentTotals (now packets) (now bytes) charged))
-        × (sound ≡ true → Kept (lentTree count leaves (now parent) (now weight) (now longest) follows) known (now kept))
-        × (at + lineRoom ≤ length (now out)) ⌝ }
-    ensures { λ r. ⌜ Happens (lentLink
-        (lentTree count leaves (now (parent .entry)) (now (weight .entry)) (now (longest .entry)) follows) size active visit
-        (now (balance .entry)) (now (residual .entry)) (now (start .entry)) (now (held .entry)) (now (lengths .entry)) (now (tags .entry))
-        (now (marks .entry))
-        (lentTotals (now (packets .entry)) (now (bytes .entry)) charged))
-        (now (input .entry)) place at (now (out .entry)) r (now (out .exit))
-        (lentLink (lentTree count leaves (now (parent .entry)) (now (weight .entry)) (now (longest .entry)) follows) (r .size) (r .active)
-        (r .visit) (now (balance .exit)) (now (residual .exit)) (now (start .exit)) (now (held .exit)) (now (lengths .exit))
-        (now (tags .exit)) (now (marks .exit)) (lentTotals (now (packets .exit)) (now (bytes .exit)) (r .charged))) ⌝ }
+    requires { ⌜ Told (did .sound) (linkAt (treeIn (now shape)) (did .stand) (now balance) (now residual) (now start) (now held) (now lengths) (now tags)
+        (now marks) (now packets) (now bytes))
+        × (did .sound ≡ true → Families (treeIn (now shape)) (now children) × Kept (treeIn (now shape)) (did .stand .known) (now kept))
+        × (did .laid + lineRoom ≤ length (now out)) ⌝ }
+    ensures { λ r. ⌜ Happens (linkAt (treeIn (now (shape .entry))) (did .stand) (now (balance .entry)) (now (residual .entry)) (now (start .entry))
+        (now (held .entry)) (now (lengths .entry)) (now (tags .entry)) (now (marks .entry)) (now (packets .entry)) (now (bytes .entry)))
+        (now (input .entry)) (did .place) (did .laid) (now (out .entry)) r (now (out .exit))
+        (linkAt (treeIn (now (shape .entry))) (r .stand) (now (balance .exit)) (now (residual .exit)) (now (start .exit)) (now (held .exit))
+        (now (lengths .exit)) (now (tags .exit)) (now (marks .exit)) (now (packets .exit)) (now (bytes .exit))) ⌝ }
+    ensures { λ r. ⌜ (r .sound ≡ did .sound)
+        × (did .sound ≡ true → Kept (treeIn (now (shape .entry))) (r .stand .known) (now (kept .exit))) ⌝ }
 {
-    let rest = plan::events_after(input, place);
-    let read = plan::read_event(rest, place);
+    let sound = did.sound;
+    let at = did.laid;
+    let place = did.place;
+    let stand = did.stand;
+    let read = plan::event_at(input, place);
     let after = place + plan::used(read);
     match read {
         EventRead::NoMore => {
             let laid = lines::lay_at(Line::End(packets[0]), at, out);
-            outcome(laid, false, place, active, visit, size, charged)
+            outcome(sound, laid, false, place, stand)
         }
         EventRead::Arrive(a) => {
             let laid = arrives(
                 sound,
-                a,
-                leaves,
-                parent,
-                longest,
+                a.class,
+                a.length,
+                a.tag,
+                shape,
                 start,
                 held,
                 lengths,
                 tags,
                 marks,
-                charged,
+                stand.charged,
                 packets,
                 bytes,
                 at,
                 out,
             );
-            outcome(laid, true, after, active, visit, size, charged)
+            outcome(sound, laid, true, after, stand)
         }
         EventRead::SendNext => {
             let went = departs(
                 sound,
-                count,
-                leaves,
-                parent,
-                weight,
-                longest,
-                follows,
-                known,
+                shape,
+                children,
                 kept,
-                size,
-                active,
-                visit,
+                stand,
                 balance,
                 residual,
                 start,
@@ -312,48 +257,42 @@ fn event(
                 lengths,
                 tags,
                 marks,
-                charged,
                 packets,
                 bytes,
             );
             let laid = lay_went(went, at, out);
-            outcome(
-                laid,
-                true,
-                after,
-                went.active,
-                went.place,
-                went.size,
-                went.charged,
-            )
+            outcome(sound, laid, true, after, went.stand)
         }
         EventRead::Fault(n, p) => {
             let laid = lines::lay_at(Line::Stop(n as u64, p as u64), at, out);
-            outcome(laid, false, place, active, visit, size, charged)
+            outcome(sound, laid, false, place, stand)
         }
     }
 }
 
-// Weight sums to be kept for a part, as bare numbers, and the active set that they are of.
-pub struct Sums {
-    pub known: u64,
-    pub kept: [u32; 64],
-}
-
-// The weight sums of the round that would open now; none of a record that is not sound.
-fn sums_now(sound: bool, tree: Tree, held: &[u8; 64]) -> Sums
-    requires { ⌜ (sound ≡ true → PlanRules tree) ⌝ }
-    ensures { λ r. ⌜ (sound ≡ true → Kept tree (r .known) (r .kept)) ⌝ }
+// The sets of children of a sound record's classes; none of one that is not sound.
+fn children_of(sound: bool, shape: &[u64; 195]) -> [u64; 64]
+    requires { ⌜ (sound ≡ true → PlanRules (treeIn (now shape))) ⌝ }
+    ensures { λ r. ⌜ (sound ≡ true → Families (treeIn (now (shape .entry))) r) ⌝ }
 {
     if !sound {
-        return Sums {
-            known: 0,
-            kept: [0u32; 64],
-        };
+        return [0u64; 64];
     }
-    let known = steps::round_active(tree, 0, held);
-    let kept = steps::weight_numbers(steps::weight_sums(tree, known));
-    Sums { known, kept }
+    shape::families(shape)
+}
+
+// The weight sums of the round that would open now are kept, and the active set that they are of is handed back; none of a record that is
+// not sound.
+fn sums_now(sound: bool, shape: &[u64; 195], held: &[u8; 64], kept: &mut [u32; 64]) -> u64
+    requires { ⌜ (sound ≡ true → PlanRules (treeIn (now shape))) × (length (now kept) ≡ 64) ⌝ }
+    ensures { λ r. ⌜ (sound ≡ true → Kept (treeIn (now (shape .entry))) r (now (kept .exit))) ⌝ }
+{
+    if !sound {
+        return 0;
+    }
+    let known = steps::round_active(shape, 0, held);
+    steps::refresh(shape, known, kept);
+    known
 }
 
 // A part on a record of which it is told whether it is sound: it is taken apart once, and put together once.
@@ -362,10 +301,9 @@ pub fn part_of(sound: bool, link: Link, input: &[u8], place: usize, out: &mut [u
     ensures { λ r. ⌜ Taken link (now (input .entry)) place (now (out .entry)) r (now (out .exit)) ⌝ }
 {
     let tree = link.tree;
-    let parent = tree.parent;
-    let weights = tree.weight;
-    let weight = steps::weight_numbers(weights);
-    let longest = tree.longest;
+    let shape = shape::shape_of(tree);
+    let children = children_of(sound, &shape);
+    let mut kept = [0u32; 64];
     let before = link.accounts;
     let mut balance = state::lent_accounts::balances(before);
     let mut residual = state::lent_accounts::residuals(before);
@@ -377,29 +315,22 @@ pub fn part_of(sound: bool, link: Link, input: &[u8], place: usize, out: &mut [u
     let totals = link.totals;
     let mut packets = totals.packets;
     let mut bytes = totals.bytes;
-    let sums = sums_now(sound, tree, &held);
-    let kept = sums.kept;
-    let mut size = link.size;
-    let mut active = link.active;
-    let mut visit = link.place;
-    let mut charged = totals.charged;
-    let mut laid: usize = 0;
-    let mut more = true;
-    let mut from = place;
-    while crate::takes_one(more, laid, out.len()) {
-        let did = event(
-            sound,
-            tree.count,
-            tree.leaves,
-            &parent,
-            &weight,
-            &longest,
-            tree.follows,
-            sums.known,
-            &kept,
-            size,
-            active,
-            visit,
+    let known = sums_now(sound, &shape, &held, &mut kept);
+    let size = link.size;
+    let stand = Stand {
+        known,
+        size,
+        active: link.active,
+        place: link.place,
+        charged: totals.charged,
+    };
+    let mut did = outcome(sound, 0, true, place, stand);
+    while crate::takes_one(did.more, did.laid, out.len()) {
+        did = event(
+            did,
+            &shape,
+            &children,
+            &mut kept,
             &mut balance,
             &mut residual,
             &mut start,
@@ -407,28 +338,20 @@ pub fn part_of(sound: bool, link: Link, input: &[u8], place: usize, out: &mut [u
             &mut lengths,
             &mut tags,
             &mut marks,
-            charged,
             &mut packets,
             &mut bytes,
             input,
-            from,
-            laid,
             out,
         );
-        laid = did.laid;
-        more = did.more;
-        from = did.place;
-        active = did.active;
-        visit = did.visit;
-        size = did.size;
-        charged = did.charged;
     }
     let accounts = state::lent_accounts::zipped(&balance, &residual);
+    let then = did.stand;
+    let size_after = then.size;
     let after = Link {
         tree,
-        size,
-        active,
-        place: visit,
+        size: size_after,
+        active: then.active,
+        place: then.place,
         accounts,
         start,
         held,
@@ -438,13 +361,13 @@ pub fn part_of(sound: bool, link: Link, input: &[u8], place: usize, out: &mut [u
         totals: Totals {
             packets,
             bytes,
-            charged,
+            charged: then.charged,
         },
     };
     PartRun {
-        laid,
-        more,
+        laid: did.laid,
+        more: did.more,
         link: after,
-        place: from,
+        place: did.place,
     }
 }

@@ -20,7 +20,7 @@ pub struct PartRun {
 }
 
 // Whether a part takes one event more: the run goes on, and the buffer has room for one more line.
-fn takes_one(more: bool, laid: usize, room: usize) -> bool
+pub fn takes_one(more: bool, laid: usize, room: usize) -> bool
     requires { ⌜ laid ≤ room ⌝ }
     ensures { λ r. ⌜ r ≡ (more && leb (laid + lineRoom) room) ⌝ }
 {

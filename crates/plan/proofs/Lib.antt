@@ -4,3 +4,4 @@ pub mod Reading
 pub mod Numbers
 pub mod Longer
 pub mod EntryLaws
+pub mod Lying

@@ -10,6 +10,7 @@ use Rattle.checks.specs.Check.{firstBroken}
 use Rattle.tree.specs.declared.Tree.{Tree}
 use Rattle.tree.specs.declared.Class.{Class}
 use Rattle.tree.specs.Class.{added}
+use Rattle.plan.specs.declared.Arrived.{Arrived}
 use Rattle.plan.specs.declared.kind.RecordKind.{RecordKind}
 use Rattle.plan.specs.declared.kind.Section.{Section}
 use Rattle.plan.specs.declared.record.Head.{Head}
@@ -17,7 +18,7 @@ use Rattle.plan.specs.declared.record.Head.the-variants.{Missing, Strang
 use Rattle.plan.specs.declared.reader.Following.{Following}
 use Rattle.plan.specs.declared.reader.Following.the-variants.{Stop, Ended, Onward}
 use Rattle.plan.specs.Kind.{givesClass, givesRule}
-use Rattle.plan.specs.Record.{kindAt, missing, unknown, cut, lateRule, badRule, classAt}
+use Rattle.plan.specs.Record.{byteAt, number16, number32, kindAt, missing, unknown, cut, lateRule, badRule, classAt}
 use Rattle.plan.specs.Reader.{recordChecks, wholeChecks, newClassChecks}
 
 -- the head of a record: the first of the numbers 1, 2, 1 that is broken, or the kind
@@ -65,3 +66,7 @@ StepSays input place t t′ (Onward next) =
     × (next ≡ place + 1 + kindAt (drop place input) .body)
     × (next ≤ length input)
     × (t′ ≡ added t (classAt (drop place input)))
+
+-- an arrival's body where it lies: class 1, length 2, tag 4
+abbrev pub arrivedAt : List ℕ → ℕ → Arrived
+arrivedAt s at = record { class = byteAt s at; length = number16 s (at + 1); tag = number32 s (at + 3) }

@@ -8,6 +8,7 @@ pub mod kind;
 pub mod reader;
 pub mod record;
 
+pub use event::event_at;
 ghost use mathlib.Core.Path.{_≡_};
 ghost use Prim.Native.Nat.{_+_, _^_, _<_, _≤_};
 ghost use lib.ListN.{length, drop};

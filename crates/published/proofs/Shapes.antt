@@ -1,11 +1,11 @@
 -- The lists of a link of the second engine that the code holds have the lengths of its arrays.
 use mathlib.Core.List.{List}
-use mathlib.Core.Path.{_≡_, sym, _∙_}
-use lib.ListN.{length, length-map}
+use mathlib.Core.Path.{sym, _∙_}
+use lib.ListN.{length-map}
 use mir.Val.{Val}
 use denote.Laws.{Is}
 use denote.Struct.Laws as LL
-use Rattle.state.proofs.Shapes.{shaped, link-weights}
+use Rattle.state.proofs.Shapes.{shaped}
 use Rattle.published.specs.declared.Second.{Second}
 use Rattle.published.specs.Second.{ShapedSecond}
 use Rattle.published.proofs.Second as S
@@ -16,7 +16,3 @@ pub shaped-second : (l : Second) (values : List Val) → Is S.the-row l values �
 shaped-second l values is =
     let o = LL.owed S.the-type S′.the-laws l values is in
     record { link = shaped (l .link) _ (o .0); quotas = sym (length-map (l .quotas) _) ∙ o .1 .1 .0 .1 .0 .1 }
-
--- and its tree has as many weights as class numbers
-pub second-weights : (l : Second) (values : List Val) → Is S.the-row l values → length (l .link .tree .weight) ≡ 64
-second-weights l values is = link-weights (l .link) _ (LL.owed S.the-type S′.the-laws l values is .0)

@@ -9,7 +9,7 @@ use Rattle.calls.specs.declared.Departure.{Departure}
 use Rattle.calls.specs.Send.{goes}
 use Rattle.published.specs.declared.Second.{Second}
 use Rattle.published.specs.Visiting.{passageOf}
-use Rattle.published.specs.Second.{means, afterPassage}
+use Rattle.published.specs.Second.{means}
 use Rattle.published.proofs.OneSend.{same-waits, shape-after}
 use Rattle.published_send.specs.declared.Sent.{Sent}
 use Rattle.published_send.specs.Whole.{secondOf, Ready, Wholly}
@@ -32,13 +32,13 @@ module _ (l : Second) (ready : Ready l) (k : Link) (whole : k ≡ l .link) where
         ap (λ (z : Second). length (z .link .accounts)) (whole-is .after)
         ∙ shape-after l (ready .sound) (ready .shape) (same-waits l ∙ ready .waits) .link .accounts
 
-    pub sent-whole : (answer : Departure) (left : Link) → answer ≡ goes (r .class) (r .packet) (r .rounds) (r .charged) → left ≡ after
-        → r .charged ≡ after .totals .charged
+    pub sent-whole : (answer : Departure) (left : Link) → answer ≡ goes (r .class) (r .packet) (r .rounds) (r .stand .charged)
+        → left ≡ after → r .stand .charged ≡ after .totals .charged
         → sendLeft answer (secondOf left (r .asked) quotas) ≡ sentOf l
     sent-whole answer left a e total =
         ap₂ sendLeft
         (a
-        ∙ ap₂ (λ (c : ℕ) (p : Waiting). goes c p (r .rounds) (r .charged)) (whole-is .class-is) (whole-is .packet-is)
+        ∙ ap₂ (λ (c : ℕ) (p : Waiting). goes c p (r .rounds) (r .stand .charged)) (whole-is .class-is) (whole-is .packet-is)
         ∙ ap₂ (goes (passageOf (means l) .class) (passageOf (means l) .packet)) (whole-is .rounds-are)
         (total ∙ ap (λ (z : Second). z .link .totals .charged) (whole-is .after)))
         (ap (λ (z : Link). secondOf z (r .asked) quotas) e ∙ whole-is .after)

@@ -15,7 +15,6 @@ ghost use Rattle.published.specs.Contract.{MakesSecond, madeSecond, MeetsSecond
 ghost use Rattle.published.specs.Second.{SoundSecond};
 ghost use Rattle.published_send.specs.Whole.{Ready};
 ghost use Rattle.published_link.specs.Calls.{AskedIsRight, arrivalLeft, sendLeft, sentOf};
-use active::weight_numbers;
 use asking::asked_right;
 use calls::Arrival;
 use calls::Departure;
@@ -27,6 +26,7 @@ use state::lent_accounts::balances;
 use state::lent_accounts::residuals;
 use state::lent_accounts::zipped;
 use state::mark::since;
+use steps::Stand;
 use tree::Tree;
 use units::Bytes;
 
@@ -126,9 +126,10 @@ fn send_stays(number: u8, second: Second) -> SecondSend
 
 // The answer to a send that goes.
 fn departure(sent: Sent) -> Departure
-    ensures { λ r. ⌜ r ≡ goes (sent .class) (sent .packet) (sent .rounds) (sent .charged) ⌝ }
+    ensures { λ r. ⌜ r ≡ goes (sent .class) (sent .packet) (sent .rounds) (sent .stand .charged) ⌝ }
 {
     let packet = sent.packet;
+    let stand = sent.stand;
     let verdict = Verdict::Passed;
     Departure {
         verdict,
@@ -136,7 +137,7 @@ fn departure(sent: Sent) -> Departure
         length: packet.length,
         tag: packet.tag,
         rounds: sent.rounds,
-        waited: since(sent.charged, packet.mark),
+        waited: since(stand.charged, packet.mark),
     }
 }
 
@@ -147,10 +148,9 @@ fn goes(second: Second) -> SecondSend
 {
     let first = second.link;
     let tree = first.tree;
-    let parent = tree.parent;
-    let weights = tree.weight;
-    let weight = weight_numbers(weights);
-    let longest = tree.longest;
+    let shape = shape::shape_of(tree);
+    let children = shape::families(&shape);
+    let mut kept = [0u32; 64];
     let accounts = first.accounts;
     let size = first.size;
     let mut balance = balances(accounts);
@@ -164,16 +164,18 @@ fn goes(second: Second) -> SecondSend
     let totals = first.totals;
     let mut packets = totals.packets;
     let mut bytes = totals.bytes;
-    let sent = published_send::send(
-        tree.count,
-        tree.leaves,
-        &parent,
-        &weight,
-        &longest,
-        tree.follows,
+    let stand = Stand {
+        known: 0,
         size,
-        first.active,
-        first.place,
+        active: first.active,
+        place: first.place,
+        charged: totals.charged,
+    };
+    let sent = published_send::send(
+        &shape,
+        &children,
+        &mut kept,
+        stand,
         second.asked,
         &mut balance,
         &mut residual,
@@ -183,23 +185,23 @@ fn goes(second: Second) -> SecondSend
         &lengths,
         &tags,
         &marks,
-        totals.charged,
         &mut packets,
         &mut bytes,
     );
-    let size_after = sent.size;
     let accounts_after = zipped(&balance, &residual);
+    let then = sent.stand;
+    let size_after = then.size;
     let mut after = first;
     after.size = size_after;
-    after.active = sent.active;
-    after.place = sent.class;
+    after.active = then.active;
+    after.place = then.place;
     after.accounts = accounts_after;
     after.start = start;
     after.held = held;
     let counted = Totals {
         packets,
         bytes,
-        charged: sent.charged,
+        charged: then.charged,
     };
     after.totals = counted;
     let next = Second {

@@ -5,7 +5,7 @@ use Prim.Native.Nat.{ℕ, _<_}
 use native.Mathlib.Omega.{arith}
 use lib.ListN.{length}
 use Rattle.state.specs.declared.Link.{Link}
-use Rattle.state.specs.declared.Waiting.{Waiting}
+use Rattle.steps.specs.declared.leaf.Gone.{Gone}
 use Rattle.state.specs.Account.{zipAccounts}
 use Rattle.state.specs.Queue.{packetAt, takenFirst}
 use Rattle.state.specs.State.{State, meaning, inRound, linkInRound}
@@ -22,10 +22,10 @@ use Rattle.published.proofs.Visits.{visited-well}
 use Rattle.published.proofs.OnTheWay.{way-next, way-ends}
 use Rattle.published_send.specs.declared.rounds.Turned.{Turned}
 use Rattle.published_send.specs.Under.{Arrived}
-use Rattle.published_send.specs.Whole.{secondOf, Ready, Wholly}
+use Rattle.published_send.specs.Whole.{Ready, goneBy, Wholly}
 
-module _ (l : Second) (ready : Ready l) (count : ℕ) (r : Turned) (parent weight balance residual quotas : List ℕ)
-    (a : Arrived (means l) count r parent weight balance residual quotas) where
+module _ (l : Second) (ready : Ready l) (r : Turned) (shape balance residual quotas : List ℕ)
+    (a : Arrived (means l) r shape balance residual quotas) where
   -- the state in which it was found keeps all but the round
   kept : visited (a .x) .after .state
       ≡ inRound (meaning (l .link)) (visited (a .x) .after .state .size) (visited (a .x) .after .state .active)
@@ -72,21 +72,10 @@ module _ (l : Second) (ready : Ready l) (count : ℕ) (r : Turned) (parent weigh
   passage-is = way-ends (means l) (a .x) (r .rounds) (a .way) here
 
   -- and gives what the passage says
-  pub sends-wholly : (packet : Waiting) (active charged : ℕ) (after : Link) → packet ≡ packetAt turn-of (r .leaf) 0
-      → after ≡ sentLink turn-of (r .leaf)
-      → Wholly l
-      (record {
-        class = r .leaf;
-        packet = packet;
-        rounds = r .rounds;
-        active = active;
-        asked = r .asked;
-        size = r .size;
-        charged = charged;
-      })
-      after quotas
+  pub sends-wholly : (gone : Gone) (after : Link) → gone .packet ≡ packetAt turn-of (r .leaf) 0 → after ≡ sentLink turn-of (r .leaf)
+      → Wholly l (goneBy r gone) after quotas
   unfolding sentPublished
-  sends-wholly packet active charged after first is = record {
+  sends-wholly gone after first is = record {
     class-is = a .leaf-is ∙ sym (ap (λ (p : Passage). p .class) passage-is);
     packet-is =
         first

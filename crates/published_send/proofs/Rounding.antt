@@ -29,14 +29,18 @@ use Rattle.published.proofs.Closed.{closed-equal}
 use Rattle.published.proofs.Settles.{stands-sound}
 use Rattle.published.proofs.Visits.{visited-well}
 use Rattle.published.proofs.OnTheWay.{way-leaf, way-on, way-left}
-use Rattle.asking.specs.Lent.{Weighed, Lent}
+use Rattle.shape.specs.Shape.{treeIn}
+use Rattle.asking.specs.Lent.{Lent}
 use Rattle.asking.specs.Coming.{Lying, Found}
 use Rattle.published_send.specs.declared.rounds.Opening.{Opening}
-use Rattle.published_send.specs.declared.rounds.Turned.{Turned}
 use Rattle.published_send.specs.Under.{sharedFrom, OpensUnshared, Under, Arrived}
 
-module _ (x₀ : Published) (t : Tree) (size active rounds : ℕ) (parent weight balance residual quotas start lengths : List ℕ)
-    (u : Under x₀ t size active rounds parent weight balance residual quotas start lengths) where
+module _ (x₀ : Published) (size active rounds : ℕ) (shape balance residual quotas start lengths : List ℕ)
+    (u : Under x₀ size active rounds shape balance residual quotas start lengths) where
+  -- the tree
+  abbrev t : Tree
+  t = treeIn shape
+
   -- the state that has closed
   shut : State
   shut = visited (u .x) .after .state
@@ -57,7 +61,7 @@ module _ (x₀ : Published) (t : Tree) (size active rounds : ℕ) (parent weight
   unfolding shut
   can-of =
       subst (λ (a : ℕ). CanResize t a size (zipAccounts balance residual)) (sym (u .taken))
-      (subst (λ (s : Tree). CanResize s (roundActive shut) size (zipAccounts balance residual)) (u .tree)
+      (subst (λ (s : Tree). CanResize s (roundActive shut) size (zipAccounts balance residual)) (u .lent .tree)
       (subst (λ (m : ℕ). CanResize (shut .tree) (roundActive shut) m (zipAccounts balance residual)) (u .sized)
       (subst (CanResize (shut .tree) (roundActive shut) (shut .size)) (u .lent .accounts)
       (can-resize shut (sound-shut .state) (wide-shut .state) (closing-covers shut (sound-shut .state) (wide-shut .state) none-left)))))
@@ -73,9 +77,9 @@ module _ (x₀ : Published) (t : Tree) (size active rounds : ℕ) (parent weight
   pub lying-open : (leaves : ℕ) → Both active (t .leaves) leaves → Lying (openedPublished (visited (u .x) .after)) leaves start lengths
   unfolding openedPublished
   lying-open leaves b = record {
-    both = subst (λ (s : Tree). Both (roundActive (visited (u .x) .after .state)) (s .leaves) leaves) (sym (u .tree))
+    both = subst (λ (s : Tree). Both (roundActive (visited (u .x) .after .state)) (s .leaves) leaves) (sym (u .lent .tree))
         (subst (λ (a : ℕ). Both a (t .leaves) leaves) (u .taken) b);
-    first = λ i v leaf holds. u .first i v (sym (ap (λ (s : Tree). isLeaf s i) (u .tree)) ∙ leaf) holds;
+    first = λ i v leaf holds. u .first i v (sym (ap (λ (s : Tree). isLeaf s i) (u .lent .tree)) ∙ leaf) holds;
   }
 
   -- the visits of the round that opens are those from place 1
@@ -88,10 +92,6 @@ module _ (x₀ : Published) (t : Tree) (size active rounds : ℕ) (parent weight
       ≡ withAccounts (openedPublished (visited (u .x) .after) .state)
       (visited (openedPublished (visited (u .x) .after)) .after .state .accounts)
   kept = visited-well (openedPublished (visited (u .x) .after)) (way-of .sound) (way-of .wide) .same
-
-  same-tree : visited (openedPublished (visited (u .x) .after)) .after .state .tree ≡ visited (u .x) .after .state .tree
-  unfolding openedPublished
-  same-tree = ap (λ (s : State). s .tree) kept
 
   same-queues : visited (openedPublished (visited (u .x) .after)) .after .state .queues ≡ visited (u .x) .after .state .queues
   unfolding openedPublished
@@ -113,19 +113,19 @@ module _ (x₀ : Published) (t : Tree) (size active rounds : ℕ) (parent weight
   -- it has opened
   module _ (o : Opening) (balance′ residual′ quotas′ : List ℕ)
       (is : OpensUnshared t active size (zipAccounts balance residual) quotas o (zipAccounts balance′ residual′) quotas′) where
-    pub lent-open : Lent (openedPublished (visited (u .x) .after)) active (t .count) (o .asked) parent weight balance′ residual′ quotas′
+    pub lent-open : Lent (openedPublished (visited (u .x) .after)) active (o .asked) shape balance′ residual′ quotas′
     unfolding openedPublished nextKind nextSize resizedAccounts
     lent-open =
         let s = visited (u .x) .after .state in
         record {
-          tree = subst (λ (s : Tree). Weighed s (t .count) parent weight) (sym (u .tree)) (u .weighed);
+          tree = u .lent .tree;
           active-is = sym (u .taken);
           accounts =
-              ap₂ (λ (r : Tree) (a : ℕ). sharedFrom r a (s .size) (s .accounts)) (u .tree) (sym (u .taken))
+              ap₂ (λ (r : Tree) (a : ℕ). sharedFrom r a (s .size) (s .accounts)) (u .lent .tree) (sym (u .taken))
               ∙ ap₂ (λ (m : ℕ) (xs : List Account). sharedFrom t active m xs) (u .sized) (u .lent .accounts)
               ∙ sym (is .accounts-are);
           asked-is =
-              ap₂ (λ (r : Tree) (a : ℕ). askedFirst (kindOf r a (s .accounts))) (u .tree) (sym (u .taken))
+              ap₂ (λ (r : Tree) (a : ℕ). askedFirst (kindOf r a (s .accounts))) (u .lent .tree) (sym (u .taken))
               ∙ ap (λ (xs : List Account). askedFirst (kindOf t active xs)) (u .lent .accounts)
               ∙ sym (is .asked-is);
           quotas-are = ap (λ (qs : List ℕ). set qs 0 0) (u .lent .quotas-are) ∙ sym (is .quotas-are);
@@ -136,26 +136,25 @@ module _ (x₀ : Published) (t : Tree) (size active rounds : ℕ) (parent weight
     sized-open =
         let s = visited (u .x) .after .state in
         ap (λ (s : State). s .size) kept
-        ∙ ap₂ (λ (r : Tree) (a : ℕ). sizeIn (kindOf r a (s .accounts)) r a (s .size)) (u .tree) (sym (u .taken))
+        ∙ ap₂ (λ (r : Tree) (a : ℕ). sizeIn (kindOf r a (s .accounts)) r a (s .size)) (u .lent .tree) (sym (u .taken))
         ∙ ap₂ (λ (m : ℕ) (xs : List Account). sizeIn (kindOf t active xs) t active m) (u .sized) (u .lent .accounts)
         ∙ sym (is .size-is)
 
     module _ (leaf asked : ℕ) (balance″ residual″ quotas″ : List ℕ)
-        (f : Found (openedPublished (visited (u .x) .after)) 1 leaf active (t .count) asked parent weight balance″ residual″ quotas″) where
+        (f : Found (openedPublished (visited (u .x) .after)) 1 leaf active asked shape balance″ residual″ quotas″) where
       leaf-of : leaf ≡ visited (openedPublished (visited (u .x) .after)) .leaf
       leaf-of = f .leaf-is ∙ sym (ap (λ (v : Visited). v .leaf) same-visits)
 
-      lent-of : Lent (visited (openedPublished (visited (u .x) .after)) .after) active
-          (t .count) asked parent weight balance″ residual″ quotas″
+      lent-of : Lent (visited (openedPublished (visited (u .x) .after)) .after) active asked shape balance″ residual″ quotas″
       lent-of =
-          subst (λ (v : Visited). Lent (v .after) active (t .count) asked parent weight balance″ residual″ quotas″) (sym same-visits)
+          subst (λ (v : Visited). Lent (v .after) active asked shape balance″ residual″ quotas″) (sym same-visits)
           (f .lent)
 
       -- a leaf is found
       pub under-found : leaf < 64
-          → Arrived x₀ (t .count) (record { leaf = leaf; rounds = rounds + 1; active = active; asked = asked; size = o .size }) parent
-          weight
-          balance″ residual″ quotas″
+          → Arrived x₀
+          (record { leaf = leaf; rounds = rounds + 1; active = active; asked = asked; size = o .size; known = active })
+          shape balance″ residual″ quotas″
       under-found h = record {
         x = openedPublished (visited (u .x) .after);
         way = way-of;
@@ -166,13 +165,11 @@ module _ (x₀ : Published) (t : Tree) (size active rounds : ℕ) (parent weight
       }
 
       -- or the round has closed again
-      pub under-on : 64 ≤ leaf → Under x₀ t (o .size .0) active (rounds + 1) parent weight balance″ residual″ quotas″ start lengths
+      pub under-on : 64 ≤ leaf → Under x₀ (o .size .0) active (rounds + 1) shape balance″ residual″ quotas″ start lengths
       under-on h = record {
         x = openedPublished (visited (u .x) .after);
         way = way-of;
         closed = sym leaf-of ∙ omega (arith, h, leaf-of, leaf-high);
-        tree = same-tree ∙ u .tree;
-        weighed = u .weighed;
         sized = sized-open;
         taken = u .taken ∙ sym same-active;
         old = active;

@@ -1,19 +1,14 @@
 -- A send begins on the fields of a sound link: what is lent to its visits, and what they find.
-use mathlib.Core.Bool.{Bool, true, false, _&&_}
 use mathlib.Core.List.{List, []}
 use mathlib.Core.Path.{_≡_, refl, sym, ap, ap₂, subst, _∙_}
 use Prim.Native.Nat.{ℕ, _+_, _%_, _≤_, _<_}
 use native.Mathlib.Omega.{arith}
 use lib.ListN.{length, getD}
-use Rattle.sets.specs.Set.{has, Both}
-use Rattle.sets.proofs.Laws.{has-empty}
+use Rattle.sets.specs.Set.{Both}
 use Rattle.units.specs.Cost.{costOf}
 use Rattle.units.specs.declared.Bytes.{Bytes}
-use Rattle.units.specs.declared.Weight.{Weight}
 use Rattle.tree.specs.declared.Tree.{Tree}
-use Rattle.tree.specs.Class.{noWeight, isLeaf}
 use Rattle.tree.specs.Rules.{PlanRules}
-use Rattle.tree.proofs.Tables.{table-at}
 use Rattle.state.specs.declared.Waiting.{Waiting}
 use Rattle.state.specs.Queue.{noPacket, slot}
 use Rattle.state.specs.State.{State, meaning, queueAt}
@@ -23,9 +18,11 @@ use Rattle.rules.specs.Sending.{firstOf}
 use Rattle.rules.specs.Steps.{holdsSome}
 use Rattle.rules.specs.Waits.{Waits}
 use Rattle.rules.proofs.Meanings.{waits-leaf}
-use Rattle.rules.proofs.Waiting.{active-meaning, upward-none}
+use Rattle.rules.proofs.Waiting.{active-meaning}
 use Rattle.rules.proofs.Rounds.{leaf-most}
-use Rattle.steps.specs.Fields.{lentTree}
+use Rattle.shape.specs.Shape.{treeIn}
+use Rattle.steps.specs.declared.Stand.{Stand}
+use Rattle.steps.specs.Fields.{linkAt}
 use Rattle.published.specs.declared.Second.{Second}
 use Rattle.published.specs.Asking.{withAccounts}
 use Rattle.published.specs.Sound.{WidePublished}
@@ -37,19 +34,10 @@ use Rattle.published.proofs.Settles.{stands-sound}
 use Rattle.published.proofs.OneSend.{wide-second}
 use Rattle.published.proofs.Visits.{visited-well}
 use Rattle.published.proofs.OnTheWay.{way-starts}
-use Rattle.asking.specs.Lent.{Weighed, Lent}
+use Rattle.asking.specs.Lent.{Lent}
 use Rattle.asking.specs.Coming.{Lying, Found}
 use Rattle.published_send.specs.Under.{Under, Arrived}
-use Rattle.published_send.specs.Whole.{Ready, Parted, HasClosed}
-
--- the tree in its fields
-pub weighed-lent : (count leaves : ℕ) (parent weight longest : List ℕ) (follows : Bool)
-    → Weighed (lentTree count leaves parent weight longest follows) count parent weight
-weighed-lent count leaves parent weight longest follows = record {
-  many = refl;
-  parents = refl;
-  weights = λ i u. ap (λ (w : Weight). w .0) (table-at (λ k. record { 0 = getD weight k 0 }) noWeight 64 i u);
-}
+use Rattle.published_send.specs.Whole.{secondOf, Ready, HasClosed}
 
 module _ (l : Second) (r : Ready l) where
   pub wide-of : WidePublished (means l)
@@ -88,76 +76,65 @@ module _ (l : Second) (r : Ready l) where
         leaf-most (settled (means l)) (stands-sound (means l) (r .sound .state) wide-of),
       )
 
-  module _ (t : Tree) (parent weight : List ℕ) (weighed : Weighed t (t .count) parent weight) (size : Bytes) (active place asked : ℕ)
-      (balance residual quotas start held lengths : List ℕ)
-      (p : Parted l t size active place asked balance residual quotas start held lengths) where
-    pub lent-start : Lent (means l) active (t .count) asked parent weight balance residual quotas
-    lent-start = record {
-      tree = subst (λ (s : Tree). Weighed s (t .count) parent weight) (sym (p .tree-is)) weighed;
-      active-is = p .active-is;
-      accounts = p .accounts-are;
-      asked-is = p .asked-is;
-      quotas-are = p .quotas-are;
-    }
+-- on the link with these fields
+module _ (stand : Stand) (asked : ℕ) (shape balance residual quotas start held lengths tags marks packets bytes : List ℕ) where
+  abbrev l : Second
+  l = secondOf (linkAt (treeIn shape) stand balance residual start held lengths tags marks packets bytes) asked quotas
 
-    pub lying-start : (now : ℕ) → Both active (t .leaves) now → Lying (means l) now start lengths
-    lying-start now b = record {
-      both =
-          subst (λ (s : Tree). Both (l .link .active) (s .leaves) now) (sym (p .tree-is))
-          (subst (λ (a : ℕ). Both a (t .leaves) now) (sym (p .active-is)) b);
-      first = λ i u leaf holds.
-          first-lies i u holds
-          ∙ ap₂ (λ (xs ys : List ℕ). costOf (getD xs (slot i (getD ys i 0)) 0)) (p .lying) (p .starts);
-    }
+  module _ (r : Ready l) where
+    pub lent-start : Lent (means l) (stand .active) asked shape balance residual quotas
+    lent-start = record { tree = refl; active-is = refl; accounts = refl; asked-is = refl; quotas-are = refl }
+
+    pub lying-start : (leaves : ℕ) → Both (stand .active) (treeIn shape .leaves) leaves → Lying (means l) leaves start lengths
+    lying-start leaves b = record { both = b; first = λ i u leaf holds. first-lies l r i u holds }
 
     -- the visits of the round at hand
     module _ (leaf asked′ : ℕ) (balance′ residual′ quotas′ : List ℕ)
-        (f : Found (means l) place leaf active (t .count) asked′ parent weight balance′ residual′ quotas′) where
-      same-visits : visited (means l) ≡ visitsFrom 64 (means l) place
+        (f : Found (means l) (stand .place) leaf (stand .active) asked′ shape balance′ residual′ quotas′) where
+      same-visits : visited (means l) ≡ visitsFrom 64 (means l) (stand .place)
       unfolding visited
-      same-visits = ap (visitsFrom 64 (means l)) (p .place-is)
+      same-visits = refl
 
       leaf-of : leaf ≡ visited (means l) .leaf
       leaf-of = f .leaf-is ∙ sym (ap (λ (v : Visited). v .leaf) same-visits)
 
-      lent-of : Lent (visited (means l) .after) active (t .count) asked′ parent weight balance′ residual′ quotas′
+      lent-of : Lent (visited (means l) .after) (stand .active) asked′ shape balance′ residual′ quotas′
       lent-of =
-          subst (λ (v : Visited). Lent (v .after) active (t .count) asked′ parent weight balance′ residual′ quotas′) (sym same-visits)
-          (f .lent)
+          subst (λ (v : Visited). Lent (v .after) (stand .active) asked′ shape balance′ residual′ quotas′) (sym same-visits) (f .lent)
 
       -- a leaf is found at once
       pub found-now : leaf < 64
-          → Arrived (means l) (t .count) (record { leaf = leaf; rounds = 0; active = active; asked = asked′; size = size }) parent weight
-          balance′ residual′ quotas′
+          → Arrived (means l)
+          (record { leaf = leaf; rounds = 0; active = stand .active; asked = asked′; size = stand .size; known = stand .known })
+          shape balance′ residual′ quotas′
       found-now h = record {
         x = means l;
-        way = way;
+        way = way l r;
         leaf-is = leaf-of;
         found = h;
-        sized = ap (λ (z : State). z .size) kept ∙ ap (λ (b : Bytes). b .0) (p .size-is);
+        sized = ap (λ (z : State). z .size) (kept l r);
         lent = lent-of;
       }
 
       -- or the round at hand has closed
-      pub none-now : 64 ≤ leaf → HasClosed l t size parent weight balance′ residual′ quotas′ start held lengths
+      pub none-now : 64 ≤ leaf → HasClosed l (stand .size) shape balance′ residual′ quotas′ start held lengths
       none-now h = record {
         ready = r;
-        closed = sym leaf-of ∙ omega (arith, h, leaf-of, leaf-high);
-        tree-is = p .tree-is;
-        weighed = weighed;
-        size-is = p .size-is;
-        starts = p .starts;
-        helds = p .helds;
-        lying = p .lying;
-        active = active;
+        closed = sym leaf-of ∙ omega (arith, h, leaf-of, leaf-high l r);
+        tree-is = refl;
+        size-is = refl;
+        starts = refl;
+        helds = refl;
+        lying = refl;
+        active = stand .active;
         asked = asked′;
         lent = lent-of;
       }
 
 -- the round at hand has closed, and these classes are active in the next
-module _ (l : Second) (t : Tree) (size : Bytes) (parent weight balance residual quotas start held lengths : List ℕ)
-    (h : HasClosed l t size parent weight balance residual quotas start held lengths) where
-  pub rules-of : PlanRules t
+module _ (l : Second) (size : Bytes) (shape balance residual quotas start held lengths : List ℕ)
+    (h : HasClosed l size shape balance residual quotas start held lengths) where
+  pub rules-of : PlanRules (treeIn shape)
   rules-of = subst PlanRules (h .tree-is) (h .ready .sound .state .state .fits .tree)
 
   same-active : roundActive (visited (means l) .after .state) ≡ roundActive (meaning (l .link))
@@ -167,14 +144,12 @@ module _ (l : Second) (t : Tree) (size : Bytes) (parent weight balance residual 
   same-queues : visited (means l) .after .state .queues ≡ meaning (l .link) .queues
   same-queues = ap (λ (z : State). z .queues) (kept l (h .ready))
 
-  pub under-start : (next : ℕ) → next ≡ upward t (holdsSome t held)
-      → Under (means l) t (size .0) next 0 parent weight balance residual quotas start lengths
+  pub under-start : (next : ℕ) → next ≡ upward (treeIn shape) (holdsSome (treeIn shape) held)
+      → Under (means l) (size .0) next 0 shape balance residual quotas start lengths
   under-start next is = record {
     x = means l;
     way = way l (h .ready);
     closed = h .closed;
-    tree = ap (λ (z : State). z .tree) (kept l (h .ready)) ∙ h .tree-is;
-    weighed = h .weighed;
     sized = ap (λ (z : State). z .size) (kept l (h .ready)) ∙ ap (λ (b : Bytes). b .0) (h .size-is);
     taken =
         is
@@ -189,11 +164,3 @@ module _ (l : Second) (t : Tree) (size : Bytes) (parent weight balance residual 
         ∙ first-lies l (h .ready) i u (subst (λ (q : List (List Waiting)). 1 ≤ length (getD q i [])) same-queues holds)
         ∙ ap₂ (λ (xs ys : List ℕ). costOf (getD xs (slot i (getD ys i 0)) 0)) (h .lying) (h .starts);
   }
-
--- no class is a set that is its leaves and every class above one
-pub raised-none : (t : Tree) → PlanRules t → 0 ≡ upward t (λ i. isLeaf t i && has 0 i)
-raised-none t rules = sym (upward-none t rules (λ i. isLeaf t i && has 0 i) (λ i low high. none (isLeaf t i) i))
-  where
-    none : (b : Bool) (i : ℕ) → (b && has 0 i) ≡ false
-    none true i = has-empty i
-    none false i = refl

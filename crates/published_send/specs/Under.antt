@@ -16,7 +16,8 @@ use Rattle.rules.specs.Sending.{firstOf}
 use Rattle.published.specs.Asking.{Published}
 use Rattle.published.specs.Visiting.{visited, askedFirst}
 use Rattle.published.specs.Steps.{OnTheWay}
-use Rattle.asking.specs.Lent.{Weighed, Lent}
+use Rattle.shape.specs.Shape.{treeIn}
+use Rattle.asking.specs.Lent.{Lent}
 use Rattle.published_send.specs.declared.rounds.Opening.{Opening}
 use Rattle.published_send.specs.declared.rounds.Turned.{Turned}
 
@@ -33,26 +34,23 @@ pub record OpensUnshared (t : Tree) (active size : ℕ) (accounts : List Account
   pub quotas-are : quotas′ ≡ set quotas 0 0
 
 -- some rounds have opened on x₀, the last one has closed, these fields are left, and these classes are active in the next
-pub record Under (x₀ : Published) (t : Tree) (size active rounds : ℕ) (parent weight balance residual quotas start lengths : List ℕ)
-    : Type 0 where
+pub record Under (x₀ : Published) (size active rounds : ℕ) (shape balance residual quotas start lengths : List ℕ) : Type 0 where
   pub x : Published
   pub way : OnTheWay x₀ x rounds
   pub closed : visited x .leaf ≡ 64
-  pub tree : visited x .after .state .tree ≡ t
-  pub weighed : Weighed t (t .count) parent weight
   pub sized : visited x .after .state .size ≡ size
   pub taken : active ≡ roundActive (visited x .after .state)
   pub old : ℕ
   pub asked : ℕ
-  pub lent : Lent (visited x .after) old (t .count) asked parent weight balance residual quotas
-  pub first : (i : ℕ) → i < 64 → isLeaf t i ≡ true → 1 ≤ length (queueAt (visited x .after .state) i)
+  pub lent : Lent (visited x .after) old asked shape balance residual quotas
+  pub first : (i : ℕ) → i < 64 → isLeaf (treeIn shape) i ≡ true → 1 ≤ length (queueAt (visited x .after .state) i)
       → costOf (firstOf (visited x .after .state) i .length) ≡ costOf (getD lengths (slot i (getD start i 0)) 0)
 
 -- a leaf has been found in the round at hand or in the last of some rounds that opened, and these fields are left
-pub record Arrived (x₀ : Published) (count : ℕ) (r : Turned) (parent weight balance residual quotas : List ℕ) : Type 0 where
+pub record Arrived (x₀ : Published) (r : Turned) (shape balance residual quotas : List ℕ) : Type 0 where
   pub x : Published
   pub way : OnTheWay x₀ x (r .rounds)
   pub leaf-is : r .leaf ≡ visited x .leaf
   pub found : r .leaf < 64
   pub sized : visited x .after .state .size ≡ r .size .0
-  pub lent : Lent (visited x .after) (r .active) count (r .asked) parent weight balance residual quotas
+  pub lent : Lent (visited x .after) (r .active) (r .asked) shape balance residual quotas

@@ -5,16 +5,17 @@ use mathlib.Core.Path.{_≡_}
 use Prim.Native.Nat.{ℕ}
 use lib.ListN.{length}
 use Rattle.units.specs.declared.Bytes.{Bytes}
-use Rattle.tree.specs.declared.Tree.{Tree}
 use Rattle.state.specs.declared.Link.{Link}
-use Rattle.state.specs.Account.{zipAccounts}
 use Rattle.state.specs.State.{meaning}
 use Rattle.rules.specs.Active.{someWaits}
 use Rattle.published.specs.declared.Second.{Second}
 use Rattle.published.specs.Visiting.{visited, passageOf}
 use Rattle.published.specs.Second.{means, SoundSecond, ShapedSecond, afterPassage}
-use Rattle.asking.specs.Lent.{Weighed, Lent}
+use Rattle.shape.specs.Shape.{treeIn}
+use Rattle.steps.specs.declared.leaf.Gone.{Gone}
+use Rattle.asking.specs.Lent.{Lent}
 use Rattle.published_send.specs.declared.Sent.{Sent}
+use Rattle.published_send.specs.declared.rounds.Turned.{Turned}
 
 -- the second engine's link with these fields
 abbrev pub secondOf : Link → ℕ → List ℕ → Second
@@ -26,34 +27,34 @@ pub record Ready (l : Second) : Type 0 where
   pub shape : ShapedSecond l
   pub waits : someWaits (meaning (l .link)) ≡ true
 
--- these are parts of it
-pub record Parted (l : Second) (t : Tree) (size : Bytes) (active place asked : ℕ) (balance residual quotas start held lengths : List ℕ)
-    : Type 0 where
-  pub tree-is : l .link .tree ≡ t
+-- the visits of its round have found no leaf, and left these fields
+pub record HasClosed (l : Second) (size : Bytes) (shape balance residual quotas start held lengths : List ℕ) : Type 0 where
+  pub ready : Ready l
+  pub closed : visited (means l) .leaf ≡ 64
+  pub tree-is : l .link .tree ≡ treeIn shape
   pub size-is : l .link .size ≡ size
-  pub active-is : l .link .active ≡ active
-  pub place-is : l .link .place ≡ place
-  pub accounts-are : l .link .accounts ≡ zipAccounts balance residual
-  pub asked-is : l .asked ≡ asked
-  pub quotas-are : l .quotas ≡ quotas
   pub starts : l .link .start ≡ start
   pub helds : l .link .held ≡ held
   pub lying : l .link .lengths ≡ lengths
+  pub active : ℕ
+  pub asked : ℕ
+  pub lent : Lent (visited (means l) .after) active asked shape balance residual quotas
 
--- the visits of its round have found no leaf, and left these fields
-pub record HasClosed (l : Second) (t : Tree) (size : Bytes) (parent weight balance residual quotas start held lengths : List ℕ) : Type 0
-  where
-    pub ready : Ready l
-    pub closed : visited (means l) .leaf ≡ 64
-    pub tree-is : l .link .tree ≡ t
-    pub weighed : Weighed t (t .count) parent weight
-    pub size-is : l .link .size ≡ size
-    pub starts : l .link .start ≡ start
-    pub helds : l .link .held ≡ held
-    pub lying : l .link .lengths ≡ lengths
-    pub active : ℕ
-    pub asked : ℕ
-    pub lent : Lent (visited (means l) .after) active (t .count) asked parent weight balance residual quotas
+-- a packet has gone
+abbrev pub goneBy : Turned → Gone → Sent
+goneBy next gone = record {
+  class = next .leaf;
+  packet = gone .packet;
+  rounds = next .rounds;
+  asked = next .asked;
+  stand = record {
+    known = next .known;
+    size = next .size;
+    active = gone .active;
+    place = next .leaf;
+    charged = gone .charged;
+  };
+}
 
 -- the whole of it: the answer's numbers, and the link after it
 pub record Wholly (l : Second) (r : Sent) (link : Link) (quotas : List ℕ) : Type 0 where

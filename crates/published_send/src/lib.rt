@@ -1,33 +1,31 @@
-// A whole send of the second engine on a sound link on which a packet waits, over lent number arrays: visits that ask first, and the
-// packet that goes by the first engine's own step. Named for specs/Whole.
+// A whole send of the second engine on a sound link on which a packet waits, over lent number arrays, the tree among them (`shape`): visits
+// that ask first, and the packet that goes by the first engine's own step. Named for specs/Whole.
 // Serves demand 2.
 mod rounds;
 
+ghost use mathlib.Core.List.{List};
 ghost use mathlib.Core.Path.{_≡_};
-ghost use Rattle.steps.specs.Fields.{lentLink, lentTotals, lentTree};
-ghost use Rattle.published.specs.declared.Second.{Second};
+ghost use Prim.Native.Nat.{ℕ};
+ghost use Rattle.shape.specs.Shape.{treeIn, Families};
+ghost use Rattle.active.specs.Known.{Kept};
+ghost use Rattle.steps.specs.Fields.{linkAt};
 ghost use Rattle.published.specs.Second.{means};
 ghost use Rattle.published_send.specs.Under.{Arrived};
-ghost use Rattle.published_send.specs.Whole.{secondOf, Ready, Parted, Wholly};
+ghost use Rattle.published_send.specs.Whole.{secondOf, Ready, goneBy, Wholly};
 use asking::visit;
 use rounds::Turned;
 use rounds::reopened;
 use state::Link;
 use state::Waiting;
+use steps::Gone;
+use steps::Stand;
 use steps::goes;
-use units::Bytes;
 
 // The leaf that sends next while a packet waits: found by the visits of the round at hand, or in a round that is opened.
 fn next_sender(
-    count: usize,
-    leaves: u64,
-    parent: &[u8; 64],
-    weight: &[u32; 64],
-    longest: &[u16; 64],
-    follows: bool,
-    size: Bytes,
-    active: u64,
-    place: usize,
+    shape: &[u64; 195],
+    kept: &mut [u32; 64],
+    stand: Stand,
     asked: u64,
     balance: &mut [u64; 64],
     residual: &mut [u64; 64],
@@ -36,24 +34,26 @@ fn next_sender(
     held: &[u8; 64],
     lengths: &[u16; 2048],
 ) -> Turned
-    requires { ⌜ ((l : Second) × Ready l
-        × Parted l (lentTree count leaves (now parent) (now weight) (now longest) follows) size active place asked (now balance)
-        (now residual) (now quotas) (now start) (now held) (now lengths)) ⌝ }
-    ensures { λ r. ⌜ ((l : Second) → Ready l
-        → Parted l (lentTree count leaves (now (parent .entry)) (now (weight .entry)) (now (longest .entry)) follows) size active place
-        asked (now (balance .entry)) (now (residual .entry)) (now (quotas .entry)) (now (start .entry)) (now (held .entry))
-        (now (lengths .entry))
-        → Arrived (means l) count r (now (parent .entry)) (now (weight .entry)) (now (balance .exit)) (now (residual .exit))
-        (now (quotas .exit))) ⌝ }
+    requires { ⌜ ((tags : List ℕ) × (marks : List ℕ) × (packets : List ℕ) × (bytes : List ℕ)
+        × Ready (secondOf (linkAt (treeIn (now shape)) stand (now balance) (now residual) (now start) (now held) (now lengths) tags marks
+        packets bytes) asked (now quotas)))
+        × Kept (treeIn (now shape)) (stand .known) (now kept) ⌝ }
+    ensures { λ r. ⌜ ((tags marks packets bytes : List ℕ)
+        → Ready (secondOf (linkAt (treeIn (now (shape .entry))) stand (now (balance .entry)) (now (residual .entry)) (now (start .entry))
+        (now (held .entry)) (now (lengths .entry)) tags marks packets bytes) asked (now (quotas .entry)))
+        → Arrived (means (secondOf (linkAt (treeIn (now (shape .entry))) stand (now (balance .entry)) (now (residual .entry))
+        (now (start .entry)) (now (held .entry)) (now (lengths .entry)) tags marks packets bytes) asked (now (quotas .entry)))) r
+        (now (shape .entry)) (now (balance .exit)) (now (residual .exit)) (now (quotas .exit))) ⌝ }
+    ensures { λ r. ⌜ Kept (treeIn (now (shape .entry))) (r .known) (now (kept .exit)) ⌝ }
 {
+    let size = stand.size;
+    let leaves = sets::both(stand.active, shape::leaves(shape));
     let came = visit(
-        sets::both(active, leaves),
-        place,
+        leaves,
+        stand.place,
         asked,
-        active,
-        count,
-        parent,
-        weight,
+        stand.active,
+        shape,
         balance,
         residual,
         quotas,
@@ -64,18 +64,16 @@ fn next_sender(
         return Turned {
             leaf: came.leaf,
             rounds: 0,
-            active,
+            active: stand.active,
             asked: came.asked,
             size,
+            known: stand.known,
         };
     }
     reopened(
-        count,
-        leaves,
-        parent,
-        weight,
-        longest,
-        follows,
+        shape,
+        stand.known,
+        kept,
         size,
         balance,
         residual,
@@ -86,29 +84,44 @@ fn next_sender(
     )
 }
 
-// What a send gives beside the arrays that it changes: the packet and its class, which is the place then, the rounds opened in the call,
-// who is active, who has asked, the size in force, the running total.
+// What a send gives beside the arrays that it changes: the packet and its class, the rounds opened in the call, who has asked, and where
+// the link then stands.
 pub struct Sent {
     pub class: usize,
     pub packet: Waiting,
     pub rounds: usize,
-    pub active: u64,
     pub asked: u64,
-    pub size: Bytes,
-    pub charged: u64,
+    pub stand: Stand,
+}
+
+// A packet has gone.
+fn has_gone(next: Turned, gone: Gone) -> Sent
+    ensures { λ r. ⌜ r ≡ goneBy next gone ⌝ }
+{
+    let packet = gone.packet;
+    let size = next.size;
+    let stand = Stand {
+        known: next.known,
+        size,
+        active: gone.active,
+        place: next.leaf,
+        charged: gone.charged,
+    };
+    Sent {
+        class: next.leaf,
+        packet,
+        rounds: next.rounds,
+        asked: next.asked,
+        stand,
+    }
 }
 
 // A whole send: the next leaf sends.
 pub fn send(
-    count: usize,
-    leaves: u64,
-    parent: &[u8; 64],
-    weight: &[u32; 64],
-    longest: &[u16; 64],
-    follows: bool,
-    size: Bytes,
-    active: u64,
-    place: usize,
+    shape: &[u64; 195],
+    children: &[u64; 64],
+    kept: &mut [u32; 64],
+    stand: Stand,
     asked: u64,
     balance: &mut [u64; 64],
     residual: &mut [u64; 64],
@@ -118,32 +131,24 @@ pub fn send(
     lengths: &[u16; 2048],
     tags: &[u32; 2048],
     marks: &[u64; 2048],
-    charged: u64,
     packets: &mut [u64; 64],
     bytes: &mut [u64; 64],
 ) -> Sent
-    requires { ⌜ Ready (secondOf (lentLink (lentTree count leaves (now parent) (now weight) (now longest) follows) size active place
-        (now balance) (now residual) (now start) (now held) (now lengths) (now tags) (now marks)
-        (lentTotals (now packets) (now bytes) charged)) asked (now quotas)) ⌝ }
-    ensures { λ r. ⌜ Wholly (secondOf (lentLink (lentTree count leaves (now (parent .entry)) (now (weight .entry)) (now (longest .entry))
-        follows) size active place (now (balance .entry)) (now (residual .entry)) (now (start .entry)) (now (held .entry))
-        (now (lengths .entry)) (now (tags .entry)) (now (marks .entry)) (lentTotals (now (packets .entry)) (now (bytes .entry)) charged))
-        asked (now (quotas .entry)))
-        r (lentLink (lentTree count leaves (now (parent .entry)) (now (weight .entry)) (now (longest .entry)) follows) (r .size) (r .active)
-        (r .class) (now (balance .exit)) (now (residual .exit)) (now (start .exit)) (now (held .exit)) (now (lengths .entry))
-        (now (tags .entry)) (now (marks .entry)) (lentTotals (now (packets .exit)) (now (bytes .exit)) (r .charged))) (now (quotas .exit))
-        ⌝ }
+    requires { ⌜ Ready (secondOf (linkAt (treeIn (now shape)) stand (now balance) (now residual) (now start) (now held) (now lengths)
+        (now tags) (now marks) (now packets) (now bytes)) asked (now quotas))
+        × Families (treeIn (now shape)) (now children) × Kept (treeIn (now shape)) (stand .known) (now kept) ⌝ }
+    ensures { λ r. ⌜ Wholly (secondOf (linkAt (treeIn (now (shape .entry))) stand (now (balance .entry)) (now (residual .entry))
+        (now (start .entry)) (now (held .entry)) (now (lengths .entry)) (now (tags .entry)) (now (marks .entry)) (now (packets .entry))
+        (now (bytes .entry))) asked (now (quotas .entry)))
+        r (linkAt (treeIn (now (shape .entry))) (r .stand) (now (balance .exit)) (now (residual .exit)) (now (start .exit))
+        (now (held .exit)) (now (lengths .entry)) (now (tags .entry)) (now (marks .entry)) (now (packets .exit)) (now (bytes .exit)))
+        (now (quotas .exit)) ⌝ }
+    ensures { λ r. ⌜ Kept (treeIn (now (shape .entry))) (r .stand .known) (now (kept .exit)) ⌝ }
 {
     let next = next_sender(
-        count,
-        leaves,
-        parent,
-        weight,
-        longest,
-        follows,
-        size,
-        active,
-        place,
+        shape,
+        kept,
+        stand,
         asked,
         balance,
         residual,
@@ -155,8 +160,8 @@ pub fn send(
     let gone = goes(
         next.leaf,
         next.active,
-        count,
-        parent,
+        shape,
+        children,
         balance,
         residual,
         start,
@@ -164,19 +169,9 @@ pub fn send(
         lengths,
         tags,
         marks,
-        charged,
+        stand.charged,
         packets,
         bytes,
     );
-    let packet = gone.packet;
-    let after = next.size;
-    Sent {
-        class: next.leaf,
-        packet,
-        rounds: next.rounds,
-        active: gone.active,
-        asked: next.asked,
-        size: after,
-        charged: gone.charged,
-    }
+    has_gone(next, gone)
 }

@@ -4,26 +4,23 @@
 ghost use mathlib.Core.Path.{_≡_};
 ghost use Prim.Native.Nat.{ℕ, _<_};
 ghost use lib.ListN.{getD};
-ghost use Rattle.rules.specs.Active.{weightSums};
 ghost use Rattle.rules.specs.Opening.{kindIs};
 ghost use Rattle.rules.specs.Steps.{CanResize};
 ghost use Rattle.state.specs.Account.{zipAccounts};
-ghost use Rattle.steps.specs.Fields.{lentTree};
+ghost use Rattle.shape.specs.Shape.{treeIn};
+ghost use Rattle.active.specs.Known.{Summed, Kept};
 ghost use Rattle.published.specs.declared.Second.{Second};
 ghost use Rattle.published.specs.Asking.{Published};
 ghost use Rattle.published.specs.Second.{means};
 ghost use Rattle.published.specs.Visiting.{askedFirst};
 ghost use Rattle.published_send.specs.Under.{OpensUnshared, Under, Arrived};
 ghost use Rattle.published_send.specs.Whole.{HasClosed};
+use active::refresh;
 use active::round_active;
-use active::weight_sums;
-use active::weights_of;
 use asking::visit;
 use opening::begin_round;
 use state::Link;
-use tree::Tree;
 use units::Bytes;
-use units::Weight;
 
 // Who has a quota when a round opens: in a surplus round the root, in a main round no class.
 fn asked_first(surplus: bool) -> u64
@@ -43,19 +40,21 @@ pub struct Opening {
 
 // A round opens that shares out nothing yet; the root's quota is 0 until it asks.
 fn open_unshared(
-    tree: Tree,
+    shape: &[u64; 195],
     active: u64,
-    sums: [Weight; Link::CLASSES],
+    sums: &[u32; 64],
     size: Bytes,
     balance: &mut [u64; 64],
     residual: &mut [u64; 64],
     quotas: &mut [u64; 64],
 ) -> Opening
-    requires { ⌜ CanResize tree active (size .0) (zipAccounts (now balance) (now residual)) × (sums ≡ weightSums tree active) ⌝ }
-    ensures { λ r. ⌜ OpensUnshared tree active (size .0) (zipAccounts (now (balance .entry)) (now (residual .entry))) (now (quotas .entry))
+    requires { ⌜ CanResize (treeIn (now shape)) active (size .0) (zipAccounts (now balance) (now residual))
+        × Summed (treeIn (now shape)) active (now sums) ⌝ }
+    ensures { λ r. ⌜ OpensUnshared (treeIn (now (shape .entry))) active (size .0)
+        (zipAccounts (now (balance .entry)) (now (residual .entry))) (now (quotas .entry))
         r (zipAccounts (now (balance .exit)) (now (residual .exit))) (now (quotas .exit)) ⌝ }
 {
-    let begun = begin_round(tree, active, sums, size, balance, residual);
+    let begun = begin_round(shape, active, sums, size, balance, residual);
     quotas[0] = 0;
     let after = begun.size;
     Opening {
@@ -64,44 +63,43 @@ fn open_unshared(
     }
 }
 
-// The leaf that sends, the rounds opened for it, who is active at its turn, who has asked by then and the size in force.
+// The leaf that sends, the rounds opened for it, who is active at its turn, who has asked by then, the size in force, and the set whose
+// weight sums are kept.
 pub struct Turned {
     pub leaf: usize,
     pub rounds: usize,
     pub active: u64,
     pub asked: u64,
     pub size: Bytes,
+    pub known: u64,
 }
 
 // Rounds are opened until a leaf sends; who is active, and so the weight sums, is the same in each.
 fn open_until_sent(
-    tree: Tree,
+    shape: &[u64; 195],
     active: u64,
-    sums: [Weight; Link::CLASSES],
+    sums: &[u32; 64],
     size: Bytes,
-    parent: &[u8; 64],
-    weight: &[u32; 64],
     balance: &mut [u64; 64],
     residual: &mut [u64; 64],
     quotas: &mut [u64; 64],
     start: &[u8; 64],
     lengths: &[u16; 2048],
 ) -> Turned
-    requires { ⌜ ((x₀ : Published) × Under x₀ tree (size .0) active 0 (now parent) (now weight) (now balance) (now residual) (now quotas)
-        (now start) (now lengths))
-        × (sums ≡ weightSums tree active) × ((i : ℕ) → i < 64 → getD (now start) i 0 < 32) ⌝ }
+    requires { ⌜ ((x₀ : Published)
+        × Under x₀ (size .0) active 0 (now shape) (now balance) (now residual) (now quotas) (now start) (now lengths))
+        × Summed (treeIn (now shape)) active (now sums) × ((i : ℕ) → i < 64 → getD (now start) i 0 < 32) ⌝ }
     ensures { λ r. ⌜ ((x₀ : Published)
-        → Under x₀ tree (size .0) active 0 (now (parent .entry)) (now (weight .entry)) (now (balance .entry)) (now (residual .entry))
-        (now (quotas .entry)) (now (start .entry)) (now (lengths .entry))
-        → Arrived x₀ (tree .count) r (now (parent .entry)) (now (weight .entry)) (now (balance .exit)) (now (residual .exit))
-        (now (quotas .exit))) ⌝ }
+        → Under x₀ (size .0) active 0 (now (shape .entry)) (now (balance .entry)) (now (residual .entry)) (now (quotas .entry))
+        (now (start .entry)) (now (lengths .entry))
+        → Arrived x₀ r (now (shape .entry)) (now (balance .exit)) (now (residual .exit)) (now (quotas .exit))) ⌝ }
+    ensures { λ r. ⌜ r .known ≡ active ⌝ }
 {
-    let leaves = sets::both(active, tree.leaves);
-    let count = tree.count;
+    let leaves = sets::both(active, shape::leaves(shape));
     let mut rounds: usize = 0;
     let mut in_force = size;
     loop {
-        let first = open_unshared(tree, active, sums, in_force, balance, residual, quotas);
+        let first = open_unshared(shape, active, sums, in_force, balance, residual, quotas);
         in_force = first.size;
         rounds += 1;
         let came = visit(
@@ -109,9 +107,7 @@ fn open_until_sent(
             1,
             first.asked,
             active,
-            count,
-            parent,
-            weight,
+            shape,
             balance,
             residual,
             quotas,
@@ -125,19 +121,17 @@ fn open_until_sent(
                 active,
                 asked: came.asked,
                 size: in_force,
+                known: active,
             };
         }
     }
 }
 
-// The round at hand has closed while a packet waits: the tree is put together, and rounds are opened until a leaf sends.
+// The round at hand has closed while a packet waits: the weight sums are worked out, and rounds are opened until a leaf sends.
 pub(crate) fn reopened(
-    count: usize,
-    leaves: u64,
-    parent: &[u8; 64],
-    weight: &[u32; 64],
-    longest: &[u16; 64],
-    follows: bool,
+    shape: &[u64; 195],
+    known: u64,
+    kept: &mut [u32; 64],
     size: Bytes,
     balance: &mut [u64; 64],
     residual: &mut [u64; 64],
@@ -146,35 +140,21 @@ pub(crate) fn reopened(
     held: &[u8; 64],
     lengths: &[u16; 2048],
 ) -> Turned
-    requires { ⌜ ((l : Second) × HasClosed l (lentTree count leaves (now parent) (now weight) (now longest) follows) size (now parent)
-        (now weight) (now balance) (now residual) (now quotas) (now start) (now held) (now lengths)) ⌝ }
+    requires { ⌜ ((l : Second) × HasClosed l size (now shape) (now balance) (now residual) (now quotas) (now start) (now held)
+        (now lengths)) × Kept (treeIn (now shape)) known (now kept) ⌝ }
     ensures { λ r. ⌜ ((l : Second)
-        → HasClosed l (lentTree count leaves (now (parent .entry)) (now (weight .entry)) (now (longest .entry)) follows) size
-        (now (parent .entry)) (now (weight .entry)) (now (balance .entry)) (now (residual .entry)) (now (quotas .entry))
-        (now (start .entry)) (now (held .entry)) (now (lengths .entry))
-        → Arrived (means l) count r (now (parent .entry)) (now (weight .entry)) (now (balance .exit)) (now (residual .exit))
-        (now (quotas .exit))) ⌝ }
+        → HasClosed l size (now (shape .entry)) (now (balance .entry)) (now (residual .entry)) (now (quotas .entry)) (now (start .entry))
+        (now (held .entry)) (now (lengths .entry))
+        → Arrived (means l) r (now (shape .entry)) (now (balance .exit)) (now (residual .exit)) (now (quotas .exit))) ⌝ }
+    ensures { λ r. ⌜ Kept (treeIn (now (shape .entry))) (r .known) (now (kept .exit)) ⌝ }
 {
-    let p = *parent;
-    let w = weights_of(weight);
-    let g = *longest;
-    let tree = Tree {
-        count,
-        leaves,
-        parent: p,
-        weight: w,
-        longest: g,
-        follows,
-    };
-    let active = round_active(tree, 0, held);
-    let sums = weight_sums(tree, active);
+    let active = round_active(shape, known, held);
+    refresh(shape, active, kept);
     open_until_sent(
-        tree,
+        shape,
         active,
-        sums,
+        kept,
         size,
-        parent,
-        weight,
         balance,
         residual,
         quotas,

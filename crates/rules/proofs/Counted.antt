@@ -98,7 +98,7 @@ totals-ceiling s i sound u =
         omega (arith, most, sound .holds j v .few f)
 
 -- so there is room to count one more on the way up
-pub sound-climbs : (l : Link) → SoundLink l → Climbs (l .tree .parent) (l .totals .packets) (l .totals .bytes)
+pub sound-climbs : (l : Link) → SoundLink l → Climbs (l .tree) (l .totals .packets) (l .totals .bytes)
 sound-climbs l sound = record {
   lower = λ k low u. parent-below (l .tree) k (sound .state .fits .tree) low u;
   few = λ k u. omega (arith, totals-ceiling (meaning l) k (sound .state) u .0);

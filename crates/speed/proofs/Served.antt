@@ -1,10 +1,10 @@
 -- Laws of the timed loops: a run goes on event by event, all its answers in one number; tags have no say in soundness.
 use mathlib.Core.Bool.{Bool, true, false, cond}
-use mathlib.Core.List.{List, [], _∷_}
+use mathlib.Core.List.{List, [], _∷_, _++_}
 use mathlib.Core.Path.{_≡_, refl, sym, ap, subst, _∙_}
 use Prim.Native.Nat.{ℕ, zero, suc, _+_, _<_}
 use native.Mathlib.Omega.{arith}
-use lib.ListN.{drop}
+use lib.ListN.{length, drop}
 use Rattle.checks.specs.Check.{Exactly}
 use Rattle.checks.proofs.Laws.{exactly-yes}
 use Rattle.plan.specs.declared.EventRead.{EventRead}
@@ -18,8 +18,11 @@ use Rattle.calls.proofs.Runs.{meets-by, meets-keeps, made-next}
 use Rattle.run.specs.declared.Step.{Step}
 use Rattle.run.specs.Run.{beginOf, eventsFrom, eventFirst}
 use Rattle.run.proofs.Lines.{begin-sound}
+use Rattle.parts.specs.declared.PartRun.{PartRun}
+use Rattle.parts.specs.Part.{partOf, Parts}
 use Rattle.speed.specs.declared.TimedEvent.{TimedEvent}
 use Rattle.speed.specs.Timed.{timedRun, heard, tallyOf, timedBy, timedAt, callIn, callsIn, callsLeft}
+use Rattle.speed.specs.Timed.{timedText, LaysText}
 
 -- ---- events
 
@@ -129,6 +132,26 @@ module _ (n : ℕ) (input : List ℕ) (s : Step) (begun : s ≡ beginOf input) w
   pub begun-sound : s .more ≡ true → SoundLink (s .link)
   begun-sound on =
       subst (λ (x : Step). SoundLink (x .link)) (sym begun) (begin-sound input (sym (ap (λ (x : Step). x .more) begun) ∙ on))
+
+-- the lines of a recording's events, one part of them: none where the plan is refused
+module _ (input : List ℕ) (s : Step) (begun : s ≡ beginOf input) (before : List ℕ) where
+  text-as : timedText input (length before) ≡ cond (s .more) (partOf true (s .link) input (s .place) (length before) .text) []
+  unfolding timedText
+  text-as = ap (λ (x : Step). cond (x .more) (partOf true (x .link) input (x .place) (length before) .text) []) (sym begun)
+
+  pub text-none : s .more ≡ false → LaysText (timedText input (length before)) before 0 before
+  text-none off =
+      let none : timedText input (length before) ≡ [] = text-as ∙ rw off refl in
+      subst (λ (text : List ℕ). LaysText text before 0 before) (sym none) (refl, refl)
+
+  pub text-part : (r : PartRun) (after : List ℕ) → s .more ≡ true → Parts (s .link) input (s .place) before r after
+      → LaysText (timedText input (length before)) before (r .laid) after
+  text-part r after on p =
+      let told = p .exactly .complete (begun-sound 0 input s begun on) in
+      let all : timedText input (length before) ≡ partOf true (s .link) input (s .place) (length before) .text = text-as ∙ rw on refl in
+      let same : partOf (p .sound) (s .link) input (s .place) (length before) .text ≡ timedText input (length before) =
+      ap (λ (b : Bool). partOf b (s .link) input (s .place) (length before) .text) told ∙ sym all in
+      (ap (λ (x : PartRun). x .laid) (p .answer) ∙ ap length same, p .lays ∙ ap (λ (text : List ℕ). text ++ drop (length text) before) same)
 
 -- ---- soundness
 

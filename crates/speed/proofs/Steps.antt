@@ -1,6 +1,6 @@
 -- One packet more offered, and one round more opened: the steps of the timed loop.
 use mathlib.Core.Bool.{true, false}
-use mathlib.Core.Path.{_≡_, refl, sym, ap, subst, _∙_}
+use mathlib.Core.Path.{_≡_, refl, sym, ap, ap₂, subst, _∙_}
 use Prim.Native.Nat.{ℕ, zero, suc, _+_}
 use native.Mathlib.Numerals.{add-one}
 use mathlib.Core.List.{List}
@@ -51,29 +51,28 @@ pub record Opened (l₀ : Link) (n : ℕ) (l : Link) : Type 0 where
   pub same : l ≡ openedTimes n l₀
 
 -- its accounts taken apart
-pub opened-apart : (l : Link) → SoundLink l → length (l .accounts) ≡ 64 → (b r : List ℕ) → b ≡ table (balanceOf (l .accounts)) 64
-    → r ≡ table (residualOf (l .accounts)) 64
-    → Opened l 0 (lentLink (l .tree) (l .size) (l .active) (l .place) b r (l .start) (l .held) (l .lengths) (l .tags)
-    (l .marks) (l .totals))
+pub opened-apart : (l : Link) → SoundLink l → length (l .accounts) ≡ 64 → (t : Tree) → t ≡ l .tree → (b r : List ℕ)
+    → b ≡ table (balanceOf (l .accounts)) 64 → r ≡ table (residualOf (l .accounts)) 64
+    → Opened l 0 (lentLink t (l .size) (l .active) (l .place) b r (l .start) (l .held) (l .lengths) (l .tags) (l .marks) (l .totals))
 unfolding openedTimes
-opened-apart l sound many b r x y =
-    let same = ap (λ (xs : List Account). linkOf (l .tree) (l .size) (l .active) (l .place) xs (l .start) (l .held) (l .lengths)
-    (l .tags) (l .marks) (l .totals))
+opened-apart l sound many t tree b r x y =
+    let same = ap₂ (λ (t : Tree) (xs : List Account). linkOf t (l .size) (l .active) (l .place) xs (l .start) (l .held) (l .lengths)
+    (l .tags) (l .marks) (l .totals)) tree
     (in-lists (l .accounts) many b r x y) in
     record { sound = subst SoundLink (sym same) sound; many = ap (λ (k : Link). length (k .accounts)) same ∙ many; same = same }
 
 pub opened-fields : (l₀ : Link) (b r : List ℕ) {n : ℕ} {t : Tree} {size : Bytes} {active place : ℕ}
     {start held lengths tags marks : List ℕ} {totals : Totals}
     → Opened l₀ n (lentLink t size active place b r start held lengths tags marks totals)
-    → InFields t size active place b r start held lengths tags marks totals
+    → InFields (lentLink t size active place b r start held lengths tags marks totals)
 opened-fields l₀ b r o = record { sound = o .sound; wide = o .many }
 
 -- under rule 1 a round may open at any moment, and the size stays
 pub opened-covers : (l : Link) → SoundLink l → length (l .accounts) ≡ 64 → l .tree .follows ≡ false → CoversNext l
 opened-covers l sound many rule = rule-1-covers (meaning l) (sound .state) (meaning-wide l many) rule
 
-pub same-size : {t : Tree} {size new : Bytes} {active place on : ℕ} {start held lengths tags marks : List ℕ} {totals : Totals} (b r b′ r′ : List ℕ)
-    → InFields t size active place b r start held lengths tags marks totals → t .follows ≡ false
+pub same-size : {t : Tree} {size new : Bytes} {active place on : ℕ} {start held lengths tags marks : List ℕ} {totals : Totals}
+    (b r b′ r′ : List ℕ) → InFields (lentLink t size active place b r start held lengths tags marks totals) → t .follows ≡ false
     → lentLink t new on 1 b′ r′ start held lengths tags marks totals
     ≡ openedLink (lentLink t size active place b r start held lengths tags marks totals)
     → lentLink t size on 1 b′ r′ start held lengths tags marks totals

@@ -1,9 +1,9 @@
--- What the timed loops answer: a recording's first events as a run, all its answers in one number. No rule of its own.
+-- What the timed loops answer: a recording's first events as a run, all its answers in one number, or its lines. No rule of its own.
 use mathlib.Core.Bool.{Bool, true, false, cond}
-use mathlib.Core.List.{List, [], _∷_}
+use mathlib.Core.List.{List, [], _∷_, _++_}
 use mathlib.Core.Path.{_≡_}
 use Prim.Native.Nat.{ℕ, zero, suc, _+_, _*_, _%_, _^_}
-use lib.ListN.{drop}
+use lib.ListN.{length, drop}
 use Rattle.checks.specs.declared.Verdict.{Verdict}
 use Rattle.checks.specs.declared.Verdict.the-variants.{Passed, Refused}
 use Rattle.checks.specs.Check.{Exactly}
@@ -20,6 +20,7 @@ use Rattle.calls.specs.declared.Departure.{Departure}
 use Rattle.calls.specs.Run.{Call, arrival, send, Made, made, runOf, madeIn}
 use Rattle.run.specs.Event.{packetIn}
 use Rattle.run.specs.Run.{beginOf, eventsFrom}
+use Rattle.parts.specs.Part.{partOf}
 use Rattle.speed.specs.declared.TimedEvent.{TimedEvent}
 
 -- ---- a run of a recording's first events
@@ -52,6 +53,16 @@ heard tally (made send answer after) = tallied tally (sendNumber (answer .verdic
 unfoldable pub tallyOf : ℕ → List Made → ℕ
 tallyOf tally [] = tally
 tallyOf tally (m ∷ ms) = tallyOf (heard tally m) ms
+
+-- the lines of its events, one part of them into a buffer with this room; none where the plan is refused
+unfoldable pub timedText : List ℕ → ℕ → List ℕ
+timedText input room =
+    let s = beginOf input in
+    cond (s .more) (partOf true (s .link) input (s .place) room .text) []
+
+-- the answer is a text's length, and the buffer holds the text and then what it held from there on before
+abbrev pub LaysText : List ℕ → List ℕ → ℕ → List ℕ → Type 0
+LaysText text before r after = (r ≡ length text) × (after ≡ text ++ drop (length text) before)
 
 -- how often a link is found sound, asked so many times: each time or never
 abbrev pub SoundTimes : Link → ℕ → ℕ → Type 0

@@ -5,13 +5,14 @@ pub mod opening;
 ghost use mathlib.Core.Path.{_≡_};
 ghost use mathlib.Core.Bool.{true, cond};
 ghost use Prim.Native.Nat.{_+_, _^_, _<_};
+ghost use lib.ListN.{length};
 ghost use Rattle.plan.specs.Reader.{planOf};
 ghost use Rattle.sound.specs.Sound.{SoundLink};
 ghost use Rattle.calls.specs.Run.{runOf, madeIn, lastLink};
 ghost use Rattle.run.specs.Event.{packetIn};
 ghost use Rattle.run.specs.Run.{beginOf};
 ghost use Rattle.speed.specs.Timed.{timedRun, sendNumber, tallied, heardArrival, tallyOf, SoundTimes, freshSize};
-ghost use Rattle.speed.specs.Timed.{plainTimed, timedAt, callsIn};
+ghost use Rattle.speed.specs.Timed.{plainTimed, timedAt, callsIn, timedText, LaysText};
 use checks::Verdict;
 use link::Arrival;
 use link::Departure;
@@ -245,35 +246,17 @@ pub extern "C" fn speed_fresh(input: &[u8], at: usize) -> u64
     std::num::wrapping_add_u64(size.0, wide(link.lengths[at % 2048]))
 }
 
-// The loop of the lent entries: one record, lent to each call.
-fn serve(first: Link, input: &[u8], start: TimedEvent) -> u64
-    ensures { λ r. ⌜ (SoundLink first → r ≡ tallyOf 0 (madeIn (runOf true first (callsIn (now (input .entry)) start)))) ⌝ }
-{
-    let mut link = first;
-    let mut event = start;
-    let mut tally: u64 = 0;
-    while event.call {
-        if event.arrives {
-            let answer = lent::arrive(&mut link, event.class, event.packet);
-            tally = after_arrival(tally, answer);
-        } else {
-            let answer = lent::send(&mut link);
-            tally = after_send(tally, answer);
-        }
-        event = event_at(input, event.place, event.more);
-    }
-    tally
-}
-
-// The first events of a recording by the lent entries: all answers in one number.
+// The lines of a recording's events by the box's loop, one part of them: as many as the buffer has room for; how many bytes they are. None
+// where the plan is refused.
 #[no_mangle]
-pub extern "C" fn speed_lent(input: &[u8], events: usize) -> u64
-    ensures { λ r. ⌜ r ≡ tallyOf 0 (timedRun events (now (input .entry))) ⌝ }
+pub extern "C" fn speed_lent(input: &[u8], out: &mut [u8]) -> usize
+    ensures { λ r. ⌜ LaysText (timedText (now (input .entry)) (length (now (out .entry)))) (now (out .entry)) r (now (out .exit)) ⌝ }
 {
     let begun = run::begin(input);
-    if begun.more {
-        let link = begun.link;
-        return serve(link, input, event_at(input, begun.place, events));
+    if !begun.more {
+        return 0;
     }
-    0
+    let link = begun.link;
+    let part = lent_parts::part(link, input, begun.place, out);
+    part.laid
 }

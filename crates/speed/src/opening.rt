@@ -2,6 +2,8 @@
 // It shows what an opening costs (docs/speed.md). The plan is one of rule 1: under rule 2 a round may only open where one has closed.
 ghost use mathlib.Core.Path.{_≡_};
 ghost use mathlib.Core.Bool.{false};
+ghost use lib.ListN.{length};
+ghost use Rattle.shape.specs.Shape.{treeIn};
 ghost use Rattle.sound.specs.Sound.{SoundLink};
 ghost use Rattle.rules.specs.After.{openedLink};
 ghost use Rattle.steps.specs.Fields.{lentLink};
@@ -10,7 +12,6 @@ ghost use Rattle.run.specs.Run.{beginOf};
 ghost use Rattle.speed.specs.Openings.{Rest, offeredTo, openedTimes, rootLeft, leftAfter};
 use state::Link;
 use state::Packet;
-use tree::Tree;
 use units::Bytes;
 
 // A packet is offered to every class: each leaf takes it.
@@ -28,27 +29,30 @@ fn backlogged(link: Link) -> Link
     link
 }
 
-// A round opens over the fields of a link that it reads and changes: who is active in it.
+// A round opens over the fields of a link that it reads and changes: who is active in it. The weight sums are worked out anew each time.
 fn open_next(
-    tree: Tree,
+    shape: &[u64; 195],
+    kept: &mut [u32; Link::CLASSES],
     size: Bytes,
     held: &[u8; Link::CLASSES],
     balance: &mut [u64; Link::CLASSES],
     residual: &mut [u64; Link::CLASSES],
 ) -> u64
-    requires { ⌜ ((k : Rest) × InFields tree size (k .active) (k .place) (now balance) (now residual) (k .start) (now held) (k .lengths)
-        (k .tags) (k .marks) (k .totals)) × (tree .follows ≡ false) ⌝ }
+    requires { ⌜ ((k : Rest) × InFields (lentLink (treeIn (now shape)) size (k .active) (k .place) (now balance) (now residual) (k .start)
+        (now held) (k .lengths) (k .tags) (k .marks) (k .totals)))
+        × (treeIn (now shape) .follows ≡ false) × (length (now kept) ≡ 64) ⌝ }
     ensures { λ r. ⌜ ((k : Rest)
-        → InFields tree size (k .active) (k .place) (now (balance .entry)) (now (residual .entry)) (k .start) (now (held .entry))
+        → InFields (lentLink (treeIn (now (shape .entry))) size (k .active) (k .place) (now (balance .entry)) (now (residual .entry))
+        (k .start) (now (held .entry)) (k .lengths) (k .tags) (k .marks) (k .totals))
+        → lentLink (treeIn (now (shape .entry))) size r 1 (now (balance .exit)) (now (residual .exit)) (k .start) (now (held .entry))
         (k .lengths) (k .tags) (k .marks) (k .totals)
-        → lentLink tree size r 1 (now (balance .exit)) (now (residual .exit)) (k .start) (now (held .entry)) (k .lengths) (k .tags)
-        (k .marks) (k .totals)
-        ≡ openedLink (lentLink tree size (k .active) (k .place) (now (balance .entry)) (now (residual .entry)) (k .start)
-        (now (held .entry)) (k .lengths) (k .tags) (k .marks) (k .totals))) ⌝ }
+        ≡ openedLink (lentLink (treeIn (now (shape .entry))) size (k .active) (k .place) (now (balance .entry)) (now (residual .entry))
+        (k .start) (now (held .entry)) (k .lengths) (k .tags) (k .marks) (k .totals))) ⌝ }
+    ensures { λ _. ⌜ length (now (kept .exit)) ≡ 64 ⌝ }
 {
-    let active = steps::round_active(tree, 0, held);
-    let sums = steps::weight_sums(tree, active);
-    steps::open_round(tree, active, sums, size, balance, residual);
+    let active = steps::round_active(shape, 0, held);
+    steps::refresh(shape, active, kept);
+    steps::open_round(shape, active, kept, size, balance, residual);
     active
 }
 
@@ -58,6 +62,8 @@ fn open_times(link: Link, times: usize) -> Link
     ensures { λ r. ⌜ r ≡ openedTimes times link ⌝ }
 {
     let tree = link.tree;
+    let shape = shape::shape_of(tree);
+    let mut kept = [0u32; Link::CLASSES];
     let size = link.size;
     let held = link.held;
     let before = link.accounts;
@@ -67,7 +73,7 @@ fn open_times(link: Link, times: usize) -> Link
     let mut place = link.place;
     let mut n: usize = 0;
     while n < times {
-        active = open_next(tree, size, &held, &mut balance, &mut residual);
+        active = open_next(&shape, &mut kept, size, &held, &mut balance, &mut residual);
         place = 1;
         n += 1;
     }

@@ -5,9 +5,7 @@ use lib.ListN.{length, length-map}
 use mir.Val.{Val}
 use denote.Laws.{Is}
 use denote.Struct.Laws as LL
-use Rattle.tree.specs.declared.Tree.{Tree}
-use Rattle.tree.proofs.Tree as T
-use Rattle.tree.proofs.Tree.Laws as T′
+use Rattle.shape.proofs.Read.{tree-weights}
 use Rattle.state.specs.declared.Link.{Link}
 use Rattle.state.specs.Queue.{Shaped}
 use Rattle.state.proofs.Totals as N
@@ -31,9 +29,6 @@ shaped l values is =
       bytes = sym (length-map (l .totals .bytes) _) ∙ q .1 .0 .1 .0 .1;
     }
 
--- a tree has as many weights as class numbers, and so has the tree of a link
-pub tree-weights : (t : Tree) (values : List Val) → Is T.the-row t values → length (t .weight) ≡ 64
-tree-weights t values is = sym (length-map (t .weight) _) ∙ LL.owed T.the-type T′.the-laws t values is .1 .1 .1 .0 .1 .0 .1
-
+-- the tree of a link has as many weights as class numbers
 pub link-weights : (l : Link) (values : List Val) → Is L.the-row l values → length (l .tree .weight) ≡ 64
 link-weights l values is = tree-weights (l .tree) _ (LL.owed L.the-type L′.the-laws l values is .0)

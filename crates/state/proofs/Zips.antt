@@ -49,12 +49,6 @@ zip-length [] rs e = refl
 zip-length (b ∷ bs) [] e = absurd (omega arith)
 zip-length (b ∷ bs) (r ∷ rs) e = ap suc (zip-length bs rs (omega arith))
 
--- a list is the table of its elements
-pub list-table : {A : Type 0} (d : A) (xs : List A) (n : ℕ) → length xs ≡ n → table (λ i. getD xs i d) n ≡ xs
-list-table d xs n e =
-    ext-getD d (table (λ i. getD xs i d) n) xs (table-length (λ i. getD xs i d) n ∙ sym e)
-    (λ k m. table-at (λ i. getD xs i d) d n k (rw table-length at m))
-
 -- accounts taken apart and put together again
 pub zip-fields : (xs : List Account) → length xs ≡ 64 → zipAccounts (table (balanceOf xs) 64) (table (residualOf xs) 64) ≡ xs
 zip-fields xs e =

@@ -4,6 +4,7 @@ use mathlib.Core.List.{List}
 use Prim.Native.Nat.{ℕ, _+_, _-_, _^_, _≤_, _<_}
 use lib.ListN.{getD}
 use Rattle.tree.specs.declared.Tree.{Tree}
+use Rattle.tree.specs.Class.{parentOf}
 use Rattle.tree.specs.Below.{changedUp}
 use Rattle.state.specs.declared.Totals.{Totals}
 
@@ -19,8 +20,8 @@ recounted fewer t i charge totals = record {
   charged = totals .charged;
 }
 
--- what a walk up asks of the numbers that it is lent: parents are lower, and the totals have room for one packet more
-pub record Climbs (parent packets bytes : List ℕ) : Type 0 where
-  pub lower : (k : ℕ) → 1 ≤ k → k < 64 → getD parent k 0 < k
+-- what a walk up asks: parents are lower, and the totals have room for one packet more
+pub record Climbs (t : Tree) (packets bytes : List ℕ) : Type 0 where
+  pub lower : (k : ℕ) → 1 ≤ k → k < 64 → parentOf t k < k
   pub few : (k : ℕ) → k < 64 → getD packets k 0 < 2 ^ 32
   pub light : (k : ℕ) → k < 64 → getD bytes k 0 < 2 ^ 32

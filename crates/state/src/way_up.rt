@@ -3,10 +3,9 @@
 // Serves demand 2.
 ghost use mathlib.Core.Path.{_≡_};
 ghost use Prim.Native.Nat.{ℕ, _+_, _^_, _<_};
-ghost use Rattle.tree.specs.declared.Tree.{Tree};
 ghost use Rattle.units.specs.Cost.{costOf};
+ghost use Rattle.shape.specs.Shape.{treeIn};
 ghost use Rattle.state.specs.WayUp.{changed, recounted, Climbs};
-use tree::wide;
 
 // A number more by another, or less by it and never below 0.
 fn changed(fewer: bool, by: u64, n: u64) -> u64
@@ -27,14 +26,13 @@ pub fn recount(
     fewer: bool,
     class: usize,
     length: u16,
-    parent: &[u8; 64],
+    shape: &[u64; 195],
     packets: &mut [u64; 64],
     bytes: &mut [u64; 64],
 )
-    requires { ⌜ (class < 64) × Climbs (now parent) (now packets) (now bytes) ⌝ }
-    ensures { λ _. ⌜ ((t : Tree) (charged : ℕ) → t .parent ≡ now (parent .entry)
-        → record { packets = now (packets .exit); bytes = now (bytes .exit); charged = charged }
-        ≡ recounted fewer t class (costOf length)
+    requires { ⌜ (class < 64) × Climbs (treeIn (now shape)) (now packets) (now bytes) ⌝ }
+    ensures { λ _. ⌜ ((charged : ℕ) → record { packets = now (packets .exit); bytes = now (bytes .exit); charged = charged }
+        ≡ recounted fewer (treeIn (now (shape .entry))) class (costOf length)
         (record { packets = now (packets .entry); bytes = now (bytes .entry); charged = charged })) ⌝ }
 {
     let cost = units::cost(length);
@@ -45,6 +43,6 @@ pub fn recount(
         if i == 0 {
             return;
         }
-        i = wide(parent[i]);
+        i = shape::parent(shape, i);
     }
 }

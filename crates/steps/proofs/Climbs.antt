@@ -1,24 +1,23 @@
--- Turning inactive, over a lent list of parents.
+-- Turning inactive, class by class up.
 use mathlib.Core.Bool.{Bool, true, false}
 use mathlib.Core.List.{List}
 use mathlib.Core.Path.{_≡_, refl, sym, ap, subst, _∙_}
 use Prim.Native.Nat.{ℕ, _<_}
 use native.Mathlib.Omega.{arith}
-use lib.ListN.{getD, set}
+use lib.ListN.{set}
 use Rattle.sets.specs.Set.{without}
 use Rattle.tree.specs.declared.Tree.{Tree}
 use Rattle.tree.specs.Class.{parentOf, isClass}
 use Rattle.tree.specs.Rules.{PlanRules}
 use Rattle.tree.specs.Sum.{someTo}
 use Rattle.tree.proofs.Classes.{class-range}
-use Rattle.tree.proofs.Rules.{parent-lower, few-classes}
+use Rattle.tree.proofs.Rules.{few-classes}
 use Rattle.state.specs.declared.Account.{Account}
 use Rattle.state.specs.Account.{accountOf, fundsOf, returned, received}
 use Rattle.rules.specs.Sending.{Books}
 use Rattle.rules.specs.Active.{activeChild}
 use Rattle.rules.specs.Sending.{givenUp, rootOff, turnsOff}
 use Rattle.rules.proofs.GivenUp.{parent-class, turns-stays, turns-root, turns-up}
-use Rattle.steps.specs.Fields.{Grown}
 
 -- the books after a class has given up, from what the steps gave
 pub given-by : (t : Tree) (i p : ℕ) (b : Books) (active funds : ℕ) (own none mine next : Account) (mid last : List Account)
@@ -29,16 +28,9 @@ pub given-by : (t : Tree) (i p : ℕ) (b : Books) (active funds : ℕ) (own none
 unfolding givenUp
 given-by t i p b active funds own none mine next mid last e a o n m y h x l = rw (a, l, x, y, h, m, n, o, e) refl
 
--- a class of a lent tree is below 64, and its parent below it
-module _ (t : Tree) (count : ℕ) (parent : List ℕ) (i : ℕ) (g : Grown t count parent) where
-  pub grown-parent : parentOf t i ≡ getD parent i 0
-  grown-parent = ap (λ (ps : List ℕ). getD ps i 0) (g .parents)
-
-  pub grown-lower : isClass t i ≡ true → getD parent i 0 < i
-  grown-lower is = subst (λ (p : ℕ). p < i) grown-parent (parent-lower t i (g .rules) is)
-
-  pub grown-within : isClass t i ≡ true → i < 64
-  grown-within is = omega (arith, class-range t i is .1, few-classes t (g .rules))
+-- a class of a tree is below 64
+pub class-low : (t : Tree) (i : ℕ) → PlanRules t → isClass t i ≡ true → i < 64
+class-low t i rules is = omega (arith, class-range t i is .1, few-classes t rules)
 
 -- class i has given up, and its parent is p: the three ways on
 module _ (t : Tree) (i p : ℕ) (b b′ : Books) (e : parentOf t i ≡ p) (same : b′ ≡ givenUp t i b) where

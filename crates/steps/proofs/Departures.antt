@@ -1,5 +1,5 @@
 -- A whole send over the fields of a link: no packet waits, a leaf is found at once, or rounds are opened. Demand 2.
-use mathlib.Core.Bool.{true}
+use mathlib.Core.Bool.{Bool, true, false}
 use mathlib.Core.List.{List}
 use mathlib.Core.Path.{_≡_, refl, sym, ap, subst, _∙_}
 use Prim.Native.Nat.{ℕ, _≤_, _<_}
@@ -22,14 +22,20 @@ use Rattle.rules.proofs.Waiting.{active-meaning}
 use Rattle.rules.proofs.Rounds.{leaf-most}
 use Rattle.rules.proofs.Taken.{root-waits}
 use Rattle.rules.proofs.Counted.{root-counts-some}
-use Rattle.rules.specs.After.{sentLink}
+use Rattle.rules.specs.After.{Sent, sentLink}
+use Rattle.calls.specs.declared.AfterSend.{AfterSend}
+use Rattle.calls.specs.Send.{sendLeaves, sendOf}
+use Rattle.calls.proofs.Departures.{send-goes, send-nothing}
+use Rattle.steps.specs.declared.Went.{Went}
 use Rattle.rules.specs.Steps.{SendsNext, OnTheWay}
 use Rattle.rules.proofs.Meanings.{waits-leaf}
 use Rattle.rules.proofs.OnTheWay.{way-starts, way-found, way-ends}
 use Rattle.steps.specs.declared.leaf.Gone.{Gone}
-use Rattle.steps.specs.Fields.{lentLink, GoesNext}
+use Rattle.steps.specs.declared.Stand.{Stand}
+use Rattle.steps.specs.Fields.{lentLink, lentTotals, linkAt, GoesNext}
 use Rattle.steps.specs.declared.reopening.Found.{Found}
-use Rattle.steps.specs.Rounds.{InFields, Going, Unseen, Closed, Opens, Finds, closedLink, openLink, Departs, wentBy, nothingGoes}
+use Rattle.steps.specs.Rounds.{InFields, Going, Unseen, Closed, Opens, Finds, closedLink, openLink, sentWhere, Departs, wentBy, nothingGoes}
+use Rattle.steps.specs.Rounds.{answerOf, wentAnswers}
 
 -- a leaf is found at once, on a link in fields
 module _
@@ -38,10 +44,10 @@ module _
   abbrev whole : Link
   whole = lentLink t size before from balance residual start held lengths tags marks totals
 
-  pub now-finds : (at : ℕ) → at ≡ nextLeaf (meaning whole) → at < 64
-      → Finds whole (record { class = at; rounds = 0; active = before; size = size })
+  pub now-finds : (at known : ℕ) → at ≡ nextLeaf (meaning whole) → at < 64
+      → Finds whole (record { class = at; rounds = 0; active = before; size = size; known = known })
       (λ after active place. lentLink t after active place balance residual start held lengths tags marks totals)
-  now-finds at next here = record {
+  now-finds at known next here = record {
     here = here;
     place = from;
     way = way-starts whole at (s .fields .wide) (s .fields .sound) (waits-leaf (meaning whole) (s .some)) next;
@@ -100,12 +106,12 @@ module _
   its-turn : SendsNext at-turn (f .class)
   its-turn = way-found found-in (f .class) at-turn (f .rounds) (q .way) (λ z. omega (arith, q .here, z))
 
-  pub then-goes : GoesNext t (f .size) (q .place) (f .class) (f .active) (t .count) (t .parent) b r start held lengths tags marks totals
-  then-goes = record { many = refl; parents = refl; wide = q .way .many; next = its-turn }
+  pub then-goes : GoesNext t (f .size) (q .place) (f .class) (f .active) b r start held lengths tags marks totals
+  then-goes = record { wide = q .way .many; next = its-turn }
 
   pub then-departs : (gone : Gone) (after : Link) → gone .packet ≡ packetAt at-turn (f .class) 0 → after ≡ sentLink at-turn (f .class)
       → true ≡ someWaits (meaning found-in)
-      → Departs found-in (wentBy (f .class) (f .rounds) (f .size) gone) after
+      → Departs found-in (wentBy f gone) after
   then-departs gone after packet link some = record {
     some = some;
     sent = way-ends found-in (f .class) at-turn (f .rounds) (gone .packet) after (q .way) its-turn packet link;
@@ -113,19 +119,35 @@ module _
 
 -- whether the root of a link in fields counts a packet
 module _
-    {t : Tree} {size : Bytes} {before from : ℕ} (balance residual : List ℕ) {start held lengths tags marks : List ℕ} {totals : Totals}
-    (s : InFields t size before from balance residual start held lengths tags marks totals) where
-  abbrev withTotals-in : Link
-  withTotals-in = lentLink t size before from balance residual start held lengths tags marks totals
+    {t : Tree} (stand : Stand) (balance residual : List ℕ) {start held lengths tags marks packets bytes : List ℕ}
+    (s : InFields (linkAt t stand balance residual start held lengths tags marks packets bytes)) where
+  abbrev standing : Link
+  standing = linkAt t stand balance residual start held lengths tags marks packets bytes
 
-  root-some : someWaits (meaning withTotals-in) ≡ leb 1 (getD (totals .packets) 0 0)
-  root-some = root-counts-some (meaning withTotals-in) (s .sound .state)
+  root-some : someWaits (meaning standing) ≡ leb 1 (getD packets 0 0)
+  root-some = root-counts-some (meaning standing) (s .sound .state)
 
   -- one does
-  pub going-on : (getD (totals .packets) 0 0 ≡ 0 → ⊥) → Going t size before from balance residual start held lengths tags marks totals
-  going-on n = record { fields = s; some = root-some ∙ le-leb 1 (getD (totals .packets) 0 0) (omega (arith, n)) }
+  pub going-on : (getD packets 0 0 ≡ 0 → ⊥)
+      → Going t (stand .size) (stand .active) (stand .place) balance residual start held lengths tags marks
+      (lentTotals packets bytes (stand .charged))
+  going-on n = record { fields = s; some = root-some ∙ le-leb 1 (getD packets 0 0) (omega (arith, n)) }
 
   -- none does, and nothing changes
-  pub nothing-departs : getD (totals .packets) 0 0 ≡ 0 → Departs withTotals-in (nothingGoes size before from (totals .charged))
-      withTotals-in
-  nothing-departs none = record { some = sym (root-some ∙ lt-leb 1 (getD (totals .packets) 0 0) (omega (arith, none))); sent = refl }
+  pub nothing-departs : getD packets 0 0 ≡ 0 → Departs standing (nothingGoes stand) standing
+  nothing-departs none = record { some = sym (root-some ∙ lt-leb 1 (getD packets 0 0) (omega (arith, none))); sent = refl }
+
+-- ---- what a send gives is what the call answers
+
+abbrev asDeparture : Bool → Sent → AfterSend
+asDeparture some s = sendLeaves (answerOf some (s .class) (s .packet) (s .rounds) (s .link .totals .charged)) (s .link)
+
+pub departs-answers : (l : Link) (w : Went) (after : Link) → w .stand .charged ≡ after .totals .charged → Departs l w after
+    → sendLeaves (wentAnswers w) after ≡ sendOf true l
+departs-answers l w after total d =
+    ap (λ (n : ℕ). sendLeaves (answerOf (w .some) (w .class) (w .packet) (w .rounds) n) after) total
+    ∙ ap (asDeparture (w .some)) (d .sent) ∙ go (w .some) (d .some)
+  where
+    go : (b : Bool) → b ≡ someWaits (meaning l) → asDeparture b (sentWhere b l) ≡ sendOf true l
+    go true e = sym (send-goes l (sym e))
+    go false e = sym (send-nothing l (sym e))

@@ -9,6 +9,8 @@ use Rattle.units.specs.declared.Bytes.{Bytes}
 use Rattle.units.specs.Cost.{costOf}
 use Rattle.tree.specs.declared.Tree.{Tree}
 use Rattle.tree.specs.Class.{isClass}
+use Rattle.tree.specs.Rules.{PlanRules}
+use Rattle.shape.specs.Shape.{Families}
 use Rattle.state.specs.declared.Account.{Account}
 use Rattle.state.specs.declared.Link.{Link}
 use Rattle.state.specs.declared.Waiting.{Waiting}
@@ -25,7 +27,7 @@ use Rattle.rules.proofs.Counted.{sound-climbs}
 use Rattle.rules.proofs.Fitting.{fit-paid}
 use Rattle.rules.proofs.Meanings.{start-low, sound-fit, link-sender, sender-holds, first-cost, paid-means, books-more, books-last}
 use Rattle.state.specs.Account.{zipAccounts}
-use Rattle.steps.specs.Fields.{lentLink, lentTotals, booksOf, Grown, GoesNext}
+use Rattle.steps.specs.Fields.{lentLink, lentTotals, booksOf, GoesNext}
 
 -- the link after, from the books, the queues and the totals after
 sent-by : (l : Link) (i : ℕ) (b : Books) (start held : List ℕ) (totals : Totals) → b ≡ booksAfter (meaning l) i
@@ -38,8 +40,8 @@ unfolding sentState
 sent-by l i b start held totals e q n = ap₂ withTotals (q (linkInRound l (l .size .0) (b .active) i (b .accounts))) n ∙ rw e refl
 
 module _
-    {t : Tree} {size : Bytes} {place i active count : ℕ} {parent balance residual start held lengths tags marks : List ℕ} {totals : Totals}
-    (s : GoesNext t size place i active count parent balance residual start held lengths tags marks totals) where
+    {t : Tree} {size : Bytes} {place i active : ℕ} {balance residual start held lengths tags marks : List ℕ} {totals : Totals}
+    (s : GoesNext t size place i active balance residual start held lengths tags marks totals) where
   abbrev whole : Link
   whole = lentLink t size active place balance residual start held lengths tags marks totals
 
@@ -50,15 +52,11 @@ module _
   pub goes-takes : (i < 64) × (getD start i 0 < 32) × (1 ≤ getD held i 0)
   goes-takes = (s .next .found, goes-first .1, sender-holds whole i (s .next))
 
-  pub goes-climbs : (i < 64) × Climbs parent (totals .packets) (totals .bytes)
-  goes-climbs = (
-    s .next .found,
-    subst (λ (ps : List ℕ). Climbs ps (totals .packets) (totals .bytes)) (s .parents)
-        (sound-climbs whole (s .next .sound)),
-  )
+  pub goes-climbs : (i < 64) × Climbs t (totals .packets) (totals .bytes)
+  goes-climbs = (s .next .found, sound-climbs whole (s .next .sound))
 
-  grown : Grown t count parent
-  grown = record { rules = s .next .sound .state .fits .tree; many = s .many; parents = s .parents }
+  rules : PlanRules t
+  rules = s .next .sound .state .fits .tree
 
   class : isClass t i ≡ true
   class = link-sender whole i (s .next) .class
@@ -74,22 +72,25 @@ module _
         (sound-fit whole (s .wide) (s .next .sound), s .next .found, omega (arith, costs, link-sender whole i (s .next) .covers))
 
     module _ (b r : List ℕ) (y : zipAccounts b r ≡ paidBy (zipAccounts balance residual) i cost) where
-      pub goes-off : ((u : Tree) × Grown u count parent × (isClass u i ≡ true)) × Fit (zipAccounts b r)
-      goes-off = (
-        (t, grown, class),
+      pub goes-off : {children : List ℕ} → Families t children
+          → PlanRules t × Families t children × (isClass t i ≡ true) × Fit (zipAccounts b r)
+      goes-off kin = (
+        rules,
+        kin,
+        class,
         subst Fit (sym y) (fit-paid (zipAccounts balance residual) i cost (goes-pays .0) (goes-pays .1) (goes-pays .2)),
       )
 
       module _ {start′ held′ packets′ bytes′ : List ℕ} {charged′ : ℕ}
           (q : (l : Link) → queued l start′ held′ lengths tags marks ≡ liftedFirst (queued l start held lengths tags marks) i)
-          (n : (u : Tree) (charged : ℕ) → u .parent ≡ parent → lentTotals packets′ bytes′ charged
-          ≡ recounted true u i (costOf (p .length)) (lentTotals (totals .packets) (totals .bytes) charged))
+          (n : (charged : ℕ) → lentTotals packets′ bytes′ charged
+          ≡ recounted true t i (costOf (p .length)) (lentTotals (totals .packets) (totals .bytes) charged))
           (g : charged′ ≡ wrapped (totals .charged + cost)) where
         fewer : lentTotals packets′ bytes′ charged′
             ≡ chargedMore (recounted true t i (costOf (packetAt whole i 0 .length)) totals) (costOf (packetAt whole i 0 .length))
         fewer =
             ap (lentTotals packets′ bytes′) (g ∙ ap (λ (c : ℕ). wrapped (totals .charged + c)) k)
-            ∙ ap (λ (x : Totals). chargedMore x (costOf (p .length))) (n t (totals .charged) (s .parents))
+            ∙ ap (λ (x : Totals). chargedMore x (costOf (p .length))) (n (totals .charged))
             ∙ ap (λ (c : ℕ). chargedMore (recounted true t i c totals) c) (ap (λ (x : Waiting). costOf (x .length)) (e whole held))
 
         -- the link after a packet that was not the last, and after one that was
@@ -102,11 +103,11 @@ module _
             ∙ sym (books-more whole i (s .next .found) m)) q fewer
 
         pub goes-last : getD held i 0 ≤ 1 → (a : ℕ) (b′ r′ : List ℕ)
-            → ((u : Tree) → Grown u count parent → isClass u i ≡ true → booksOf a b′ r′ ≡ turnsOff 63 u i (booksOf active b r))
+            → booksOf a b′ r′ ≡ turnsOff 63 t i (booksOf active b r)
             → lentLink t size a i b′ r′ start′ held′ lengths tags marks (lentTotals packets′ bytes′ charged′)
             ≡ sentLink whole i
         goes-last m a b′ r′ off =
             sent-by whole i (booksOf a b′ r′) start′ held′ (lentTotals packets′ bytes′ charged′)
-            (off t grown class
+            (off
             ∙ ap (λ (xs : List Account). turnsOff 63 t i (record { active = active; accounts = xs })) (y ∙ paid-means whole i cost costs)
             ∙ sym (books-last whole i (s .next .found) m)) q fewer

@@ -15,7 +15,9 @@ use Rattle.tree.specs.Rules.{PlanRules}
 use Rattle.state.specs.declared.Link.{Link}
 use Rattle.state.specs.declared.Totals.{Totals}
 use Rattle.state.specs.State.{meaning, linkOf}
-use Rattle.rules.specs.Active.{roundActive}
+use Rattle.tree.proofs.Tables.{table-length}
+use Rattle.rules.specs.Active.{upward, roundActive, weightSum}
+use Rattle.rules.specs.Steps.{holdsSome}
 use Rattle.rules.specs.Opening.{nextKind, nextSize, resizedAccounts, openedWith, Covers}
 use Rattle.rules.specs.Sending.{nextLeaf}
 use Rattle.rules.specs.Steps.{CanResize}
@@ -31,12 +33,22 @@ use Rattle.state.specs.Account.{zipAccounts}
 use Rattle.opening.specs.Opens.{OpensWith}
 use Rattle.steps.specs.Fields.{lentLink, lentTotals, Searched}
 use Rattle.state.proofs.Zips.{zip-at}
+use Rattle.active.specs.Known.{Raised, Summed}
 pub use Rattle.active.proofs.Raised.{raised-none, raised-round}
 use Rattle.steps.specs.Rounds.{InFields, Kept, Unseen, Opens, closedLink, openLink}
 
 -- no set is known, and no weight sums are kept
-pub none-kept : (t : Tree) (kept : List ℕ) → PlanRules t → Kept t 0 kept
-none-kept t kept rules = record { raised = raised-none t rules; sums = λ on. absurd (not-true-and-false on (has-empty 0)) }
+pub none-kept : (t : Tree) (kept : List ℕ) → length kept ≡ 64 → PlanRules t → Kept t 0 kept
+none-kept t kept wide rules = record { wide = wide; raised = raised-none t rules; sums = λ on. absurd (not-true-and-false on (has-empty 0)) }
+
+-- the active set of a round is known, and its weight sums are kept
+pub round-kept : (t : Tree) (held kept : List ℕ) (active known : ℕ) → PlanRules t → active ≡ upward t (holdsSome t held) → known ≡ active
+    → Summed t active kept → Kept t known kept
+round-kept t held kept active known rules is same sums = record {
+  wide = ap length sums ∙ table-length (weightSum t active) 64;
+  raised = subst (Raised t) (sym (same ∙ is)) (raised-round t held rules);
+  sums = λ on. subst (λ (a : ℕ). Summed t a kept) (sym same) sums;
+}
 
 -- the root can take the difference of the sizes when a round opens on a link
 abbrev pub CoversNext : Link → Type 0
@@ -45,7 +57,7 @@ CoversNext l = Covers (meaning l) (nextSize (meaning l))
 -- what the search and the sender ask of fields
 module _
     {t : Tree} {size : Bytes} {active place : ℕ} (balance residual : List ℕ) {start held lengths tags marks : List ℕ} {totals : Totals}
-    (s : InFields t size active place balance residual start held lengths tags marks totals) where
+    (s : InFields (lentLink t size active place balance residual start held lengths tags marks totals)) where
   pub fields-low : (i : ℕ) → i < 64 → getD start i 0 < 32
   fields-low i u = omega (arith, s .sound .starts i u .start)
 
@@ -86,7 +98,7 @@ module _
       → (on : ℕ) (new : Bytes) (b r : List ℕ)
       → lentLink t new on 1 b r start held lengths tags marks totals
       ≡ openedLink (lentLink t size active place balance residual start held lengths tags marks totals)
-      → InFields t new on 1 b r start held lengths tags marks totals
+      → InFields (lentLink t new on 1 b r start held lengths tags marks totals)
   fields-sound covers on new b r e =
       let l = lentLink t size active place balance residual start held lengths tags marks totals in
       let wide = meaning-wide l (s .wide) in
@@ -125,7 +137,7 @@ module _
   abbrev here : Link
   here = lentLink t size (w .on) (w .place) balance residual start (k .held) lengths (k .tags) (k .marks) (k .totals)
 
-  in-fields : InFields t size (w .on) (w .place) balance residual start (k .held) lengths (k .tags) (k .marks) (k .totals)
+  in-fields : InFields (lentLink t size (w .on) (w .place) balance residual start (k .held) lengths (k .tags) (k .marks) (k .totals))
   in-fields = record { sound = w .way .sound; wide = w .way .many }
 
   -- its round has closed, so the root can take the difference
@@ -141,7 +153,7 @@ module _
     is-opened : openLink t new k active b r start lengths ≡ openedLink here
     is-opened = fields-opened balance residual in-fields active new b r (w .taken) y
 
-    pub under-fields : InFields t new active 1 b r start (k .held) lengths (k .tags) (k .marks) (k .totals)
+    pub under-fields : InFields (lentLink t new active 1 b r start (k .held) lengths (k .tags) (k .marks) (k .totals))
     under-fields = fields-sound balance residual in-fields covered active new b r is-opened
 
     -- a leaf is found in it, or none

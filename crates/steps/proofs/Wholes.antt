@@ -3,11 +3,9 @@ use mathlib.Core.Bool.{Bool, true, false}
 use mathlib.Core.List.{List}
 use mathlib.Core.Path.{_≡_, sym, ap, ap₂, subst, _∙_}
 use Prim.Native.Nat.{ℕ}
-use lib.ListN.{length, getD}
+use lib.ListN.{length}
 use Rattle.units.specs.declared.Bytes.{Bytes}
-use Rattle.units.specs.declared.Weight.{Weight}
 use Rattle.tree.specs.declared.Tree.{Tree}
-use Rattle.tree.specs.Class.{noWeight, weightOf}
 use Rattle.state.specs.declared.Account.{Account}
 use Rattle.state.specs.declared.Link.{Link}
 use Rattle.state.specs.declared.Totals.{Totals}
@@ -15,7 +13,6 @@ use Rattle.state.specs.Account.{balanceOf, residualOf}
 use Rattle.state.specs.Queue.{Shaped}
 use Rattle.tree.specs.Sum.{table}
 use Rattle.state.specs.State.{meaning, linkOf}
-use Rattle.tree.proofs.Tables.{table-same, table-at}
 use Rattle.sound.specs.Sound.{SoundLink}
 use Rattle.rules.specs.Active.{someWaits}
 use Rattle.rules.proofs.Traces.{trace-wide}
@@ -23,9 +20,9 @@ use Rattle.rules.specs.After.{Sent}
 use Rattle.rules.proofs.Meanings.{meaning-wide, waits-leaf}
 use Rattle.steps.specs.declared.Went.{Went}
 use Rattle.state.specs.Account.{zipAccounts}
-use Rattle.steps.specs.Fields.{lentLink, lentTotals, lentTree}
-use Rattle.steps.specs.Rounds.{InFields, sentWhere, Departs, Moves}
-use Rattle.state.proofs.Zips.{zip-fields, list-table}
+use Rattle.steps.specs.Fields.{lentLink}
+use Rattle.steps.specs.Rounds.{InFields, sentWhere, Departs}
+use Rattle.state.proofs.Zips.{zip-fields}
 
 -- every class number keeps an account
 sent-many : (l : Link) (some : Bool) → length (l .accounts) ≡ 64 → SoundLink l → some ≡ someWaits (meaning l)
@@ -44,23 +41,7 @@ pub in-lists : (accounts : List Account) → length accounts ≡ 64 → (b r : L
     → zipAccounts b r ≡ accounts
 in-lists accounts many b r x y = ap₂ zipAccounts x y ∙ zip-fields accounts many
 
--- a tree taken apart and put together again is the same
-pub tree-fields : (t : Tree) → length (t .weight) ≡ 64 → (weight : List ℕ) → weight ≡ table (weightOf t) 64
-    → lentTree (t .count) (t .leaves) (t .parent) weight (t .longest) (t .follows) ≡ t
-tree-fields t many weight is =
-    ap (λ (ws : List Weight). record {
-      count = t .count;
-      leaves = t .leaves;
-      parent = t .parent;
-      weight = ws;
-      longest = t .longest;
-      follows = t .follows;
-    })
-    (table-same (λ i. record { 0 = getD weight i 0 }) (λ i. getD (t .weight) i noWeight) 64
-    (λ i u. ap (λ (n : ℕ). record { 0 = n }) (ap (λ (ns : List ℕ). getD ns i 0) is ∙ table-at (weightOf t) 0 64 i u))
-    ∙ list-table noWeight (t .weight) 64 many)
-
--- and so is a link
+-- a link taken apart and put together again is the same
 pub apart-is : (l : Link) (t : Tree) (b r : List ℕ) → t ≡ l .tree → Shaped l → b ≡ table (balanceOf (l .accounts)) 64
     → r ≡ table (residualOf (l .accounts)) 64
     → lentLink t (l .size) (l .active) (l .place) b r (l .start) (l .held) (l .lengths) (l .tags) (l .marks) (l .totals)
@@ -84,7 +65,7 @@ module _
   whole-is = ap₂ (λ (x : Tree) (xs : List Account). linkOf x size active place xs start held lengths tags marks
       totals) same apart
 
-  pub values-fields : InFields lent size active place b r start held lengths tags marks totals
+  pub values-fields : InFields (lentLink lent size active place b r start held lengths tags marks totals)
   values-fields = record { sound = subst SoundLink (sym whole-is) sound; wide = ap length apart ∙ many }
 
   -- after the send
@@ -92,26 +73,14 @@ module _
     pub values-wide : length (after .accounts) ≡ 64
     values-wide = departs-wide after (values-fields .wide) (values-fields .sound) d
 
-    pub values-moves : {xs : List Account} {s h : List ℕ} {n : Totals} → after
-        ≡ linkOf lent (w .size) (w .active) (w .place) xs s h lengths tags marks n
-        → Moves (linkOf t size active place accounts start held lengths tags marks totals)
-        (record {
-          some = w .some;
-          class = w .class;
-          packet = w .packet;
-          rounds = w .rounds;
-          active = w .active;
-          place = w .place;
-          accounts = xs;
-          start = s;
-          held = h;
-          size = w .size;
-          totals = n;
-        })
-    values-moves {xs} {s} {h} {n} e = record {
+    pub values-departs : {xs : List Account} {s h : List ℕ} {n : Totals} → after
+        ≡ linkOf lent (w .stand .size) (w .stand .active) (w .stand .place) xs s h lengths tags marks n
+        → Departs (linkOf t size active place accounts start held lengths tags marks totals) w
+        (linkOf t (w .stand .size) (w .stand .active) (w .stand .place) xs s h lengths tags marks n)
+    values-departs {xs} {s} {h} {n} e = record {
       some = d .some ∙ ap (λ (l : Link). someWaits (meaning l)) whole-is;
       sent =
           ap (λ (l : Link). record { class = w .class; packet = w .packet; rounds = w .rounds; link = l })
-          (sym (e ∙ ap (λ (x : Tree). linkOf x (w .size) (w .active) (w .place) xs s h lengths tags marks n) same))
+          (sym (e ∙ ap (λ (x : Tree). linkOf x (w .stand .size) (w .stand .active) (w .stand .place) xs s h lengths tags marks n) same))
           ∙ d .sent ∙ ap (sentWhere (w .some)) whole-is;
     }

@@ -4,35 +4,38 @@ use mathlib.Core.List.{List}
 use mathlib.Core.Path.{_≡_}
 use Prim.Native.Nat.{ℕ, _≤_, _<_}
 use lib.ListN.{length}
+use Rattle.checks.specs.declared.Verdict.the-variants.{Refused}
 use Rattle.units.specs.declared.Bytes.{Bytes}
 use Rattle.tree.specs.declared.Tree.{Tree}
 use Rattle.state.specs.declared.Link.{Link}
 use Rattle.state.specs.declared.Totals.{Totals}
-use Rattle.state.specs.Queue.{noPacket, queued, withTotals}
-use Rattle.state.specs.State.{meaning, linkInRound}
+use Rattle.state.specs.declared.Waiting.{Waiting}
+use Rattle.state.specs.Queue.{noPacket}
+use Rattle.state.specs.State.{meaning}
 use Rattle.sound.specs.Sound.{SoundLink}
 use Rattle.rules.specs.Active.{someWaits, roundActive}
 use Rattle.rules.specs.Sending.{nextLeaf, traceOf}
 use Rattle.rules.specs.Steps.{OnTheWay}
 use Rattle.rules.specs.After.{Sent, sentBy}
+use Rattle.calls.specs.declared.Departure.{Departure}
+use Rattle.calls.specs.Send.{goes, refusedSend}
 use Rattle.state.specs.Account.{zipAccounts}
 pub use Rattle.active.specs.Known.{Raised, Kept}
 use Rattle.steps.specs.declared.leaf.Gone.{Gone}
 use Rattle.steps.specs.declared.reopening.Found.{Found}
+use Rattle.steps.specs.declared.Stand.{Stand}
 use Rattle.steps.specs.declared.Went.{Went}
-use Rattle.steps.specs.declared.Moved.{Moved}
 use Rattle.steps.specs.Fields.{lentLink}
 
--- a sound link in fields
-pub record InFields (t : Tree) (size : Bytes) (active place : ℕ)
-    (balance residual start held lengths tags marks : List ℕ) (totals : Totals) : Type 0 where
-  pub sound : SoundLink (lentLink t size active place balance residual start held lengths tags marks totals)
-  pub wide : length (zipAccounts balance residual) ≡ 64
+-- a sound link whose accounts are as many as the class numbers
+pub record InFields (l : Link) : Type 0 where
+  pub sound : SoundLink l
+  pub wide : length (l .accounts) ≡ 64
 
 -- one in which a packet waits
 pub record Going (t : Tree) (size : Bytes) (active place : ℕ)
     (balance residual start held lengths tags marks : List ℕ) (totals : Totals) : Type 0 where
-  pub fields : InFields t size active place balance residual start held lengths tags marks totals
+  pub fields : InFields (lentLink t size active place balance residual start held lengths tags marks totals)
   pub some : someWaits (meaning (lentLink t size active place balance residual start held lengths tags marks totals)) ≡ true
 
 -- what an opening does not see of its link
@@ -71,29 +74,23 @@ pub record Finds (l : Link) (r : Found) (turn : Bytes → ℕ → ℕ → Link) 
   pub way : OnTheWay l (r .class) (turn (r .size) (r .active) place) (r .rounds)
 
 -- a packet has gone, or none waits
-abbrev pub wentBy : ℕ → ℕ → Bytes → Gone → Went
-wentBy class rounds size gone = record {
+abbrev pub wentBy : Found → Gone → Went
+wentBy next gone = record {
   some = true;
-  class = class;
+  class = next .class;
   packet = gone .packet;
-  rounds = rounds;
-  active = gone .active;
-  place = class;
-  size = size;
-  charged = gone .charged;
+  rounds = next .rounds;
+  stand = record {
+    known = next .known;
+    size = next .size;
+    active = gone .active;
+    place = next .class;
+    charged = gone .charged;
+  };
 }
 
-abbrev pub nothingGoes : Bytes → ℕ → ℕ → ℕ → Went
-nothingGoes size active place charged = record {
-  some = false;
-  class = 0;
-  packet = noPacket;
-  rounds = 0;
-  active = active;
-  place = place;
-  size = size;
-  charged = charged;
-}
+abbrev pub nothingGoes : Stand → Went
+nothingGoes stand = record { some = false; class = 0; packet = noPacket; rounds = 0; stand = stand }
 
 -- what a send on a sound link gives, where a packet waits and where none does
 abbrev pub sentWhere : Bool → Link → Sent
@@ -104,12 +101,10 @@ pub record Departs (l : Link) (r : Went) (after : Link) : Type 0 where
   pub some : r .some ≡ someWaits (meaning l)
   pub sent : record { class = r .class; packet = r .packet; rounds = r .rounds; link = after } ≡ sentWhere (r .some) l
 
--- and by value
-abbrev pub movedLink : Link → Moved → Link
-movedLink l r =
-    withTotals (queued (linkInRound l (r .size .0) (r .active) (r .place) (r .accounts)) (r .start) (r .held) (l .lengths)
-    (l .tags) (l .marks)) (r .totals)
+-- what the call answers, of what the step gives
+abbrev pub answerOf : Bool → ℕ → Waiting → ℕ → ℕ → Departure
+answerOf true class p rounds total = goes class p rounds total
+answerOf false class p rounds total = refusedSend (Refused 15 0)
 
-pub record Moves (l : Link) (r : Moved) : Type 0 where
-  pub some : r .some ≡ someWaits (meaning l)
-  pub sent : record { class = r .class; packet = r .packet; rounds = r .rounds; link = movedLink l r } ≡ sentWhere (r .some) l
+abbrev pub wentAnswers : Went → Departure
+wentAnswers w = answerOf (w .some) (w .class) (w .packet) (w .rounds) (w .stand .charged)

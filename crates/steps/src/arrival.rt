@@ -4,6 +4,8 @@
 ghost use mathlib.Core.Bool.{true, _||_};
 ghost use mathlib.Core.Path.{_≡_};
 ghost use lib.Dec.{ltb};
+ghost use Rattle.tree.specs.Rules.{PlanRules};
+ghost use Rattle.shape.specs.Shape.{treeIn};
 ghost use Rattle.state.specs.declared.Link.{Link};
 ghost use Rattle.state.specs.WayUp.{Climbs};
 ghost use Rattle.calls.specs.Arrival.{arrivalAnswer};
@@ -54,9 +56,7 @@ pub fn arrive(
     sound: bool,
     class: usize,
     packet: Packet,
-    leaves: u64,
-    parent: &[u8; 64],
-    longest: &[u16; 64],
+    shape: &[u64; 195],
     start: &[u8; 64],
     held: &mut [u8; 64],
     lengths: &mut [u16; 2048],
@@ -66,26 +66,28 @@ pub fn arrive(
     packets: &mut [u64; 64],
     bytes: &mut [u64; 64],
 ) -> Arrival
-    requires { ⌜ (sound ≡ true → Climbs (now parent) (now packets) (now bytes)) ⌝ }
-    ensures { λ r. ⌜ ((l : Link) → l .tree .leaves ≡ leaves → l .tree .parent ≡ now (parent .entry) → l .tree .longest
-        ≡ now (longest .entry)
+    requires { ⌜ (sound ≡ true → PlanRules (treeIn (now shape)) × Climbs (treeIn (now shape)) (now packets) (now bytes)) ⌝ }
+    ensures { λ r. ⌜ ((l : Link) → l .tree ≡ treeIn (now (shape .entry))
         → (sound ≡ true → TakesOn (lentWaiting l (now (start .entry)) (now (held .entry)) (now (lengths .entry)) (now (tags .entry))
-        (now (marks .entry))
-        (lentTotals (now (packets .entry)) (now (bytes .entry)) charged)))
+        (now (marks .entry)) (lentTotals (now (packets .entry)) (now (bytes .entry)) charged)))
         → ArrivesOn sound (lentWaiting l (now (start .entry)) (now (held .entry)) (now (lengths .entry)) (now (tags .entry))
-        (now (marks .entry))
-        (lentTotals (now (packets .entry)) (now (bytes .entry)) charged)) class packet
+        (now (marks .entry)) (lentTotals (now (packets .entry)) (now (bytes .entry)) charged)) class packet
         r (lentWaiting l (now (start .entry)) (now (held .exit)) (now (lengths .exit)) (now (tags .exit)) (now (marks .exit))
         (lentTotals (now (packets .exit)) (now (bytes .exit)) charged))) ⌝ }
 {
     if !sound {
         return refused(Verdict::Refused(checks::NOT_SOUND, 0));
     }
-    let leaf = sets::holds(leaves, class);
+    let leaf = sets::holds(shape::leaves(shape), class);
     if !leaf {
         return refused(Verdict::Refused(checks::NO_LEAF, class));
     }
-    let verdict = judge(class, packet.length, longest[class], held[class]);
+    let verdict = judge(
+        class,
+        packet.length,
+        shape::longest(shape, class),
+        held[class],
+    );
     if let Verdict::Passed = verdict {
         queue::put(
             class,
@@ -96,7 +98,7 @@ pub fn arrive(
             tags,
             marks,
         );
-        recount(false, class, packet.length, parent, packets, bytes);
+        recount(false, class, packet.length, shape, packets, bytes);
         let waiting = Bytes(bytes[class]);
         return Arrival {
             verdict,

@@ -9,7 +9,7 @@ ghost use Rattle.rules.specs.Steps.{Fit};
 ghost use Rattle.state.specs.declared.Link.{Link};
 ghost use Rattle.state.specs.Queue.{packetAt};
 ghost use Rattle.state.specs.State.{meaning};
-ghost use Rattle.tree.specs.declared.Tree.{Tree};
+ghost use Rattle.shape.specs.Shape.{treeIn, Families};
 ghost use Rattle.state.specs.Account.{zipAccounts};
 ghost use Rattle.steps.specs.Fields.{lentLink, lentTotals, Searched, GoesNext};
 ghost use Rattle.units.specs.declared.Bytes.{Bytes};
@@ -77,8 +77,8 @@ pub struct Gone {
 pub fn goes(
     i: usize,
     active: u64,
-    count: usize,
-    parent: &[u8; 64],
+    shape: &[u64; 195],
+    children: &[u64; 64],
     balance: &mut [u64; 64],
     residual: &mut [u64; 64],
     start: &mut [u8; 64],
@@ -90,26 +90,27 @@ pub fn goes(
     packets: &mut [u64; 64],
     bytes: &mut [u64; 64],
 ) -> Gone
-    requires { ⌜ ((t : Tree) × (size : Bytes) × (place : ℕ)
-        × GoesNext t size place i active count (now parent) (now balance) (now residual) (now start) (now held) (now lengths)
-        (now tags) (now marks) (lentTotals (now packets) (now bytes) charged)) ⌝ }
-    ensures { λ r. ⌜ ((t : Tree) (size : Bytes) (place : ℕ)
-        → GoesNext t size place i active count (now (parent .entry)) (now (balance .entry)) (now (residual .entry)) (now (start .entry))
+    requires { ⌜ ((size : Bytes) × (place : ℕ) × GoesNext (treeIn (now shape)) size place i active (now balance) (now residual) (now start)
+        (now held) (now lengths) (now tags) (now marks) (lentTotals (now packets) (now bytes) charged))
+        × Families (treeIn (now shape)) (now children) ⌝ }
+    ensures { λ r. ⌜ ((size : Bytes) (place : ℕ)
+        → GoesNext (treeIn (now (shape .entry))) size place i active (now (balance .entry)) (now (residual .entry)) (now (start .entry))
         (now (held .entry)) (now (lengths .entry)) (now (tags .entry)) (now (marks .entry))
         (lentTotals (now (packets .entry)) (now (bytes .entry)) charged)
-        → (r .packet ≡ packetAt (lentLink t size active place (now (balance .entry)) (now (residual .entry)) (now (start .entry))
-        (now (held .entry)) (now (lengths .entry)) (now (tags .entry)) (now (marks .entry))
+        → (r .packet ≡ packetAt (lentLink (treeIn (now (shape .entry))) size active place (now (balance .entry)) (now (residual .entry))
+        (now (start .entry)) (now (held .entry)) (now (lengths .entry)) (now (tags .entry)) (now (marks .entry))
         (lentTotals (now (packets .entry)) (now (bytes .entry)) charged)) i 0)
-        × (lentLink t size (r .active) i (now (balance .exit)) (now (residual .exit)) (now (start .exit)) (now (held .exit))
-        (now (lengths .entry)) (now (tags .entry)) (now (marks .entry)) (lentTotals (now (packets .exit)) (now (bytes .exit)) (r .charged))
-        ≡ sentLink (lentLink t size active place (now (balance .entry)) (now (residual .entry)) (now (start .entry)) (now (held .entry))
-        (now (lengths .entry)) (now (tags .entry)) (now (marks .entry)) (lentTotals (now (packets .entry)) (now (bytes .entry)) charged))
-        i)) ⌝ }
+        × (lentLink (treeIn (now (shape .entry))) size (r .active) i (now (balance .exit)) (now (residual .exit)) (now (start .exit))
+        (now (held .exit)) (now (lengths .entry)) (now (tags .entry)) (now (marks .entry))
+        (lentTotals (now (packets .exit)) (now (bytes .exit)) (r .charged))
+        ≡ sentLink (lentLink (treeIn (now (shape .entry))) size active place (now (balance .entry)) (now (residual .entry)) (now (start .entry))
+        (now (held .entry)) (now (lengths .entry)) (now (tags .entry)) (now (marks .entry))
+        (lentTotals (now (packets .entry)) (now (bytes .entry)) charged)) i)) ⌝ }
 {
     let packet = queue::first(i, start, lengths, tags, marks);
     let cost = units::cost(packet.length);
     pay(i, cost, balance, residual);
-    recount(true, i, packet.length, parent, packets, bytes);
+    recount(true, i, packet.length, shape, packets, bytes);
     let total = grown(charged, cost.0);
     let waiting = wide(held[i]);
     queue::take(i, start, held);
@@ -120,7 +121,7 @@ pub fn goes(
             charged: total,
         };
     }
-    let off = turn_off(i, active, count, parent, balance, residual);
+    let off = turn_off(i, active, shape, children, balance, residual);
     Gone {
         packet,
         active: off,

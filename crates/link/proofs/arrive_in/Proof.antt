@@ -1,10 +1,13 @@
 -- `link::arrive_in` meets its contract: the step of an arrival, told whether the link that the fields make up is sound.
-use mathlib.Core.Path.{_≡_, refl, sym, _∙_}
+use mathlib.Core.Path.{_≡_, sym, subst, _∙_}
 use lib.ListN.{length, length-map}
 use denote.Struct.Laws as LL
 use Rattle.state.proofs.Totals as N
 use Rattle.state.proofs.Totals.Laws as N′
 use Rattle.state.specs.declared.Link.{Link}
+use Rattle.tree.specs.declared.Tree.{Tree}
+use Rattle.tree.specs.Rules.{PlanRules}
+use Rattle.state.specs.WayUp.{Climbs}
 use Rattle.state.specs.State.{linkOf}
 use Rattle.rules.proofs.Counted.{sound-climbs}
 use borrow.Author.Needs.{needs}
@@ -27,22 +30,30 @@ whole st =
     linkOf (a .tree) (a .size) (a .active) (a .place) (a .accounts) (a .t6) (a .held) (a .lengths .now) (a .tags .now) (a .marks .now)
     (a .totals)
 
+shape-of-requires : tie.Need-shape-of-requires
+shape-of-requires c κs = search needs
+
 arrive-requires : tie.Need-arrive-requires
 arrive-requires c κs =
-    let s = c .before .before .before .before .before .before .before .before .before .before .before .before .before in
+    let s = c .before .before .before .before .before .before .before .before .before .before .before in
     let l = whole (s .before .before) in
-    λ yes′. sound-climbs l (s .is-sound-of .ensures (l .tags) (l .marks) .sound yes′)
+    let h = c .before .before .before .before .before .before .before .before .before .before in
+    λ on.
+    let sound = s .is-sound-of .ensures (l .tags) (l .marks) .sound on in
+    subst (λ (t : Tree). PlanRules t × Climbs t (l .totals .packets) (l .totals .bytes)) (sym (h .shape-of .ensures))
+    (sound .state .fits .tree, sound-climbs l sound)
 
 returns : tie.Need-returns
 returns c =
-    let s = c .before .before .before .before .before .before .before .before .before .before .before .before .before .before in
+    let s = c .before .before .before .before .before .before .before .before .before .before .before .before in
     let l = whole (s .before .before) in
+    let h = c .before .before .before .before .before .before .before .before .before .before .before in
     record {
       sound = s .is-sound-of .result;
       exactly = s .is-sound-of .ensures (l .tags) (l .marks);
-      gives = c .arrive .ensures l refl refl refl
+      gives = c .arrive .ensures l (sym (h .shape-of .ensures))
           (λ on. record { sound = s .is-sound-of .ensures (l .tags) (l .marks) .sound on; wide = counts (s .before .before) });
     }
 
 pub arrive-in-spec : {M : Type 1} → statement M
-arrive-in-spec = tie.close (tie.spec is-sound-of-requires arrive-requires returns)
+arrive-in-spec = tie.close (tie.spec is-sound-of-requires shape-of-requires arrive-requires returns)

@@ -9,6 +9,7 @@ use Rattle.tree.specs.Rules.{PlanRules}
 use Rattle.tree.specs.Size.{mostSize, SizeRight}
 use Rattle.tree.proofs.Rules.{size-ceiling}
 use Rattle.state.specs.declared.Account.{Account}
+use Rattle.shape.specs.Shape.{treeIn}
 use Rattle.rules.specs.Opening.{Kind, main, surplus, kindIs, kindOf, sizeIn, resized}
 use Rattle.rules.proofs.Sizes.{main-right}
 use Rattle.state.specs.Account.{zipAccounts}
@@ -39,13 +40,13 @@ resize-requires c κs =
       omega (
         arith,
         n .size-after .ensures,
-        in-most (kindIs (s .is-surplus .result)) (a .tree) (a .active) (a .size .0)
+        in-most (kindIs (s .is-surplus .result)) (treeIn (a .shape .now)) (a .active) (a .size .0)
             (can .before .rules) (can .right),
       ),
       λ r.
           omega (
             arith,
-            n .size-after .ensures ∙ ap (λ (b : Bool). sizeIn (kindIs b) (a .tree) (a .active) (a .size .0)) r,
+            n .size-after .ensures ∙ ap (λ (b : Bool). sizeIn (kindIs b) (treeIn (a .shape .now)) (a .active) (a .size .0)) r,
             can .covers (sym (s .is-surplus .ensures) ∙ ap kindIs r),
           ),
     )
@@ -53,16 +54,16 @@ resize-requires c κs =
 -- the accounts that are shared out
 shared : (c : tie.After-resize)
     → zipAccounts (c .resize .last .1 .1 .1 .0) (c .resize .last .1 .1 .1 .1 .0)
-    ≡ resized (kindOf (c .before .before .before .before .before .before .before .args .tree)
+    ≡ resized (kindOf (treeIn (c .before .before .before .before .before .before .before .args .shape .now))
     (c .before .before .before .before .before .before .before .args .active)
     (zipAccounts (c .before .before .before .before .before .before .before .args .balance .now)
     (c .before .before .before .before .before .before .before .args .residual .now)))
     (c .before .before .before .before .before .before .before .args .size .0)
-    (sizeIn (kindOf (c .before .before .before .before .before .before .before .args .tree)
+    (sizeIn (kindOf (treeIn (c .before .before .before .before .before .before .before .args .shape .now))
     (c .before .before .before .before .before .before .before .args .active)
     (zipAccounts (c .before .before .before .before .before .before .before .args .balance .now)
     (c .before .before .before .before .before .before .before .args .residual .now)))
-    (c .before .before .before .before .before .before .before .args .tree) (c .before .before .before .before .before .before .before
+    (treeIn (c .before .before .before .before .before .before .before .args .shape .now)) (c .before .before .before .before .before .before .before
     .args .active)
     (c .before .before .before .before .before .before .before .args .size .0))
     (zipAccounts (c .before .before .before .before .before .before .before .args .balance .now)
@@ -74,7 +75,7 @@ shared c =
     let xs = zipAccounts (a .balance .now) (a .residual .now) in
     c .resize .ensures
     ∙ ap (λ (m : ℕ). resized (kindIs (s .is-surplus .result)) (a .size .0) m xs) (n .size-after .ensures)
-    ∙ ap (λ (k : Kind). resized k (a .size .0) (sizeIn k (a .tree) (a .active) (a .size .0)) xs) (s .is-surplus .ensures)
+    ∙ ap (λ (k : Kind). resized k (a .size .0) (sizeIn k (treeIn (a .shape .now)) (a .active) (a .size .0)) xs) (s .is-surplus .ensures)
 
 returns : tie.Need-returns
 returns c =
@@ -83,7 +84,7 @@ returns c =
     let a = s .before .before .before .args in
     record {
       kind-is = s .is-surplus .ensures;
-      size-is = n .size-after .ensures ∙ ap (λ (x : Kind). sizeIn x (a .tree) (a .active) (a .size .0)) (s .is-surplus .ensures);
+      size-is = n .size-after .ensures ∙ ap (λ (x : Kind). sizeIn x (treeIn (a .shape .now)) (a .active) (a .size .0)) (s .is-surplus .ensures);
       accounts-are = shared c;
     }
 

@@ -1,8 +1,11 @@
 -- `opening::is_surplus` meets its contract.
-use mathlib.Core.Bool.{Bool, false, cond}
+use mathlib.Core.Bool.{Bool, false, cond, _&&_}
 use mathlib.Core.Path.{_≡_, sym, ap, _∙_}
-use Prim.Native.Nat.{ℕ, _-_, _≤_, _<_}
+use Prim.Native.Nat.{ℕ, _-_, _^_, _≤_, _<_}
 use native.Mathlib.Omega.{arith}
+use Rattle.sets.specs.Set.{has}
+use Rattle.tree.specs.declared.Tree.{Tree}
+use Rattle.shape.specs.Shape.{treeIn}
 use Rattle.tree.proofs.Sums.{some-found, none-more, some-never}
 use Rattle.tree.proofs.Classes.{class-in}
 use Rattle.tree.proofs.Rules.{few-classes}
@@ -14,11 +17,24 @@ use Rattle.opening.proofs.is_surplus.Statement.{statement}
 use Rattle.opening.proofs.is_surplus.Tie as tie
 
 abbrev Inv-loop : tie.InvT-loop
-Inv-loop tree active balance residual sums last inner i₀ i =
-    (1 ≤ i) × (i ≤ 64) × ((k : ℕ) → 1 ≤ k → k < i → hasSurplus tree active (zipAccounts balance residual) k ≡ false)
+Inv-loop shape active sums balance residual last leaves inner i₀ i =
+    (1 ≤ i) × (i ≤ 64) × ((k : ℕ) → 1 ≤ k → k < i → hasSurplus (treeIn shape) active (zipAccounts balance residual) k ≡ false)
 
 abbrev μ-loop : tie.MeasureT-loop
-μ-loop tree active balance residual sums last inner i₀ i = 64 - i
+μ-loop shape active sums balance residual last leaves inner i₀ i = 64 - i
+
+-- where the function starts, and the tree
+abbrev start-of : tie.At-loop Inv-loop μ-loop → tie.Start Inv-loop μ-loop
+start-of h = h .before .before .before .before .before
+
+abbrev treeAt : tie.Start Inv-loop μ-loop → Tree
+treeAt st = treeIn (st .args .shape .now)
+
+count-requires : tie.Need-count-requires Inv-loop μ-loop
+count-requires c κs = search needs
+
+leaves-requires : tie.Need-leaves-requires Inv-loop μ-loop
+leaves-requires c κs = search needs
 
 both-requires : tie.Need-both-requires Inv-loop μ-loop
 both-requires c κs = search needs
@@ -29,71 +45,71 @@ next-requires c κs = omega arith
 loop-holds : tie.Need-loop-holds Inv-loop μ-loop
 loop-holds c =
     let b = c .before in
-    let a = b .before .before .args in
+    let v = b .before in
+    let st = c .before .before .before .before in
     let n = c .next .ensures in (
       n .low,
       n .high,
       λ k l h.
-          not-inner (a .tree) (a .active) _ k (omega (arith, h, n .high)) (search needs)
-          (sym (b .both .ensures .both k) ∙ n .between k l h),
+          not-inner (treeAt st) (st .args .active) _ k (omega (arith, h, n .high)) (st .pre .0 .rules .unset .word)
+          (ap (λ (s : ℕ). has (st .args .active) k && has (2 ^ 64 - 1 - s) k) (sym (v .leaves .ensures))
+          ∙ sym (b .both .ensures .both k) ∙ n .between k l h),
     )
 
 -- the loop's class, and whether it has a surplus
+at-hand : (g : tie.In-loop Inv-loop μ-loop) → g .before .loop .i ≤ treeAt (start-of (g .before)) .count
+at-hand g = omega (arith, g .loop-test .taken, g .before .before .before .before .before .count .ensures)
+
 low : (g : tie.In-loop Inv-loop μ-loop) → g .before .loop .i < 64
-low g =
-    let st = g .before .before .before .before .before in
-    omega (arith, few-classes (st .args .tree) (st .pre .0 .rules), g .loop-test .taken)
+low g = let st = start-of (g .before) in omega (arith, few-classes (treeAt st) (st .pre .0 .rules), at-hand g)
 
 abbrev test-of : tie.After-class-surplus Inv-loop μ-loop → tie.In-loop Inv-loop μ-loop
 test-of c = c .before .before .before .before .before
 
 abbrev surplus-at : tie.In-loop Inv-loop μ-loop → ℕ → Bool
 surplus-at g =
-    let a = g .before .before .before .before .before .args in
-    hasSurplus (a .tree) (a .active) (zipAccounts (a .balance .now) (a .residual .now))
+    let st = start-of (g .before) in
+    hasSurplus (treeAt st) (st .args .active) (zipAccounts (st .args .balance .now) (st .args .residual .now))
 
 said : (c : tie.After-class-surplus Inv-loop μ-loop) → surplus-at (test-of c) (test-of c .before .loop .i) ≡ c .class-surplus .result
 said c =
     let x = c .before in
-    let e = x .before in
+    let e = x .before .before in
     let g = test-of c in
     let h = g .before in
-    let st = h .before .before .before .before in
+    let st = start-of h in
     let a = st .args in
-    sym (surplus-by (a .tree) (a .active) _ (h .loop .i) (low g) (a .t3)
-    (class-in (a .tree) (h .loop .i) (h .loop .inv .0) (g .loop-test .taken))
-    (st .pre .1) (e .has2 .ensures) (e .before .has .ensures) (x .account-of .ensures))
+    let leaf = e .has2 .ensures ∙ ap (λ (s : ℕ). has s (h .loop .i)) (h .before .before .before .leaves .ensures) in
+    sym (surplus-by (treeAt st) (a .active) _ (h .loop .i) (low g) (a .sums .now)
+    (class-in (treeAt st) (h .loop .i) (h .loop .inv .0) (at-hand g))
+    (st .pre .1) leaf (e .before .has .ensures) (x .account-of .ensures))
     ∙ sym (c .class-surplus .ensures)
 
-mul-s : tie.Need-mul-s Inv-loop μ-loop
-mul-s c = omega (arith, low c)
-
-array-copy-out-s : tie.Need-array-copy-out-s Inv-loop μ-loop
-array-copy-out-s c = low c
-
 has-requires : tie.Need-has-requires Inv-loop μ-loop
-has-requires c κs = low (c .before)
+has-requires c κs = low c
 
 has-requires-2 : tie.Need-has-requires-2 Inv-loop μ-loop
-has-requires-2 c κs = low (c .before .before)
+has-requires-2 c κs = low (c .before)
+
+mul-t14 : tie.Need-mul-t14 Inv-loop μ-loop
+mul-t14 c = omega (arith, low (c .before .before))
+
+element-copy-out-t17 : tie.Need-element-copy-out-t17 Inv-loop μ-loop
+element-copy-out-t17 c = low (c .before .before)
 
 account-of-requires : tie.Need-account-of-requires Inv-loop μ-loop
-account-of-requires c κs =
-    let g = c .before .before .before in
-    (low g, g .before .before .before .before .before .pre .0 .many)
+account-of-requires c κs = (low (c .before .before .before), c .before .before .before .before .before .before .before .before .before .pre .0 .many)
 
 class-surplus-requires : tie.Need-class-surplus-requires Inv-loop μ-loop
-class-surplus-requires c κs =
-    let g = c .before .before .before .before in
-    rw (c .account-of .ensures) (g .before .before .before .before .before .pre .0 .small (g .before .loop .i) (low g))
+class-surplus-requires c κs = rw (c .account-of .ensures) (c .before .before .before .before .before .before .before .before .before .before .pre .0 .small (c .before .before .before .before .before .loop .i) (low (c .before .before .before .before)))
 
 returns : tie.Need-returns Inv-loop μ-loop
 unfolding kindOf
 returns c =
     let g = test-of (c .before) in
     let h = g .before in
-    let count = h .before .before .before .before .args .tree .count in
-    let found = some-found (surplus-at g) count (h .loop .i) (h .loop .inv .0) (g .loop-test .taken) (said (c .before) ∙ c .if1 .taken) in
+    let count = treeAt (start-of h) .count in
+    let found = some-found (surplus-at g) count (h .loop .i) (h .loop .inv .0) (at-hand g) (said (c .before) ∙ c .if1 .taken) in
     sym (ap (λ (b : Bool). cond b surplus main) found)
 
 add-i : tie.Need-add-i Inv-loop μ-loop
@@ -112,9 +128,10 @@ returns-2 : tie.Need-returns-2 Inv-loop μ-loop
 unfolding kindOf
 returns-2 c =
     let h = c .before in
-    let a = h .before .before .before .before .args in
-    let f = hasSurplus (a .tree) (a .active) (zipAccounts (a .balance .now) (a .residual .now)) in
-    sym (ap (λ (b : Bool). cond b surplus main) (some-never f (a .tree .count) (λ k l m. h .loop .inv .2 k l (omega (arith, m)))))
+    let st = start-of h in
+    let t = treeAt st in
+    let f = hasSurplus t (st .args .active) (zipAccounts (st .args .balance .now) (st .args .residual .now)) in
+    sym (ap (λ (b : Bool). cond b surplus main) (some-never f (t .count) (λ k l m. h .loop .inv .2 k l (omega (arith, m, c .loop-test .left, h .before .before .before .before .count .ensures)))))
 
 pub is-surplus-spec : {M : Type 1} → statement M
 is-surplus-spec =
@@ -122,13 +139,15 @@ is-surplus-spec =
     (tie.spec
     Inv-loop
     μ-loop
+    count-requires
+    leaves-requires
     both-requires
     next-requires
     loop-holds
-    mul-s
-    array-copy-out-s
     has-requires
     has-requires-2
+    mul-t14
+    element-copy-out-t17
     account-of-requires
     class-surplus-requires
     returns

@@ -1,12 +1,21 @@
 -- `opening::open_accounts` meets its contract.
-use Prim.Native.Nat.{_-_, _≤_}
+use Prim.Native.Nat.{ℕ, _-_, _*_, _≤_, _<_}
+use mathlib.Core.Bool.{Bool}
 use mathlib.Core.List.{List}
+use mathlib.Core.Path.{_≡_, ap, ap₂, _∙_}
 use native.Mathlib.Omega.{arith}
+use lib.ListN.{getD}
+use Rattle.sets.specs.Set.{has}
+use Rattle.units.specs.Unit.{dueOf}
+use Rattle.tree.specs.declared.Tree.{Tree}
+use Rattle.tree.specs.Class.{parentOf, weightOf}
 use Rattle.state.specs.declared.Account.{Account}
 use Rattle.rules.specs.Opening.{kindIs}
 use Rattle.rules.specs.Steps.{CanOpen}
+use Rattle.shape.specs.Shape.{treeIn}
 use Rattle.rules.proofs.Shares.{parent-most}
 use Rattle.state.specs.Account.{zipAccounts}
+use Rattle.tree.specs.Size.{mostSize}
 use Rattle.opening.specs.Opens.{OpenedUpTo}
 use Rattle.opening.proofs.Openings.{opening-wide, opening-funds, opening-due, opening-on, opening-starts, opening-ends}
 use borrow.Author.Needs.{needs}
@@ -14,22 +23,25 @@ use Rattle.opening.proofs.open_accounts.Statement.{statement}
 use Rattle.opening.proofs.open_accounts.Tie as tie
 
 abbrev Inv-loop : tie.InvT-loop
-Inv-loop active surplus balance₀ residual₀ tree sums quotas₀ i₀ balance residual quotas i =
+Inv-loop shape active surplus sums balance₀ residual₀ leaves quotas₀ i₀ balance residual quotas i =
+    let t = treeIn shape in
     (1 ≤ i) × (i ≤ 64)
-    × ((accounts : List Account) → CanOpen tree active accounts → OpenedUpTo (kindIs surplus) tree active accounts 1 quotas₀ balance₀
-    residual₀
-    → OpenedUpTo (kindIs surplus) tree active accounts i quotas balance residual)
+    × ((accounts : List Account) → CanOpen t active accounts → OpenedUpTo (kindIs surplus) t active accounts 1 quotas₀ balance₀ residual₀
+    → OpenedUpTo (kindIs surplus) t active accounts i quotas balance residual)
 
 abbrev μ-loop : tie.MeasureT-loop
-μ-loop active surplus balance₀ residual₀ tree sums quotas₀ i₀ balance residual quotas i = 64 - i
+μ-loop shape active surplus sums balance₀ residual₀ leaves quotas₀ i₀ balance residual quotas i = 64 - i
 
--- where the function starts
+-- where the function starts, and the tree
 abbrev start-of : (c : tie.At-loop Inv-loop μ-loop) → tie.Start Inv-loop μ-loop
-start-of c = c .before .before .before .before .before .before .before .before .before .before
+start-of c = c .before .before .before .before .before .before .before .before .before .before .before
+
+abbrev treeAt : tie.Start Inv-loop μ-loop → Tree
+treeAt st = treeIn (st .args .shape .now)
 
 -- the opening has come to the loop's class
 reached : (c : tie.At-loop Inv-loop μ-loop)
-    → OpenedUpTo (kindIs (start-of c .args .surplus)) (start-of c .args .t1) (start-of c .args .active)
+    → OpenedUpTo (kindIs (start-of c .args .surplus)) (treeAt (start-of c)) (start-of c .args .active)
     (zipAccounts (start-of c .args .balance .now) (start-of c .args .residual .now)) (c .loop .i) (c .loop .quotas) (c .loop .balance)
     (c .loop .residual)
 reached c =
@@ -37,19 +49,41 @@ reached c =
     let o = k .before .before .before .before in
     let st = start-of c in
     c .loop .inv .2 _ (st .pre .0)
-    (opening-starts (st .args .surplus) _ _ _ (st .pre .0) _ _ (st .args .t4) (st .pre .1) (o .before .account-of .ensures)
+    (opening-starts (st .args .surplus) _ _ _ (st .pre .0) _ _ (st .args .sums .now) (st .pre .1) (o .before .account-of .ensures)
     (o .open-root .ensures) (k .keep .ensures))
 
-array-copy-out-s : tie.Need-array-copy-out-s Inv-loop μ-loop
-array-copy-out-s c = search needs
+-- the parent of the loop's class is a class number
+up : (g : tie.In-loop Inv-loop μ-loop) → parentOf (treeAt (start-of (g .before))) (g .before .loop .i) < 64
+up g =
+    let h = g .before in
+    let st = start-of h in
+    omega (arith, parent-most (treeAt st) (h .loop .i) (st .pre .0 .rules) (g .loop-test .taken), g .loop-test .taken)
+
+-- what it is due is within the ceiling
+light : (g : tie.In-loop Inv-loop μ-loop) → weightOf (treeAt (start-of (g .before))) (g .before .loop .i)
+    * getD (g .before .loop .quotas) (parentOf (treeAt (start-of (g .before))) (g .before .loop .i)) 0 ≤ 64 * mostSize * 1_000_000
+light g =
+    let h = g .before in
+    opening-due _ _ _ _ (start-of h .pre .0) (h .loop .i) (h .loop .inv .0) (g .loop-test .taken) _ _ (reached h)
+
+-- as the class's weight and its parent's quota were read
+due-is : (g : tie.In-loop Inv-loop μ-loop) (w p : ℕ) → w ≡ weightOf (treeAt (start-of (g .before))) (g .before .loop .i)
+    → p ≡ parentOf (treeAt (start-of (g .before))) (g .before .loop .i)
+    → w * getD (g .before .loop .quotas) p 0 ≡ weightOf (treeAt (start-of (g .before))) (g .before .loop .i)
+    * getD (g .before .loop .quotas) (parentOf (treeAt (start-of (g .before))) (g .before .loop .i)) 0
+due-is g w p e f = ap₂ (λ (x y : ℕ). x * getD (g .before .loop .quotas) y 0) e f
+
+leaves-requires : tie.Need-leaves-requires Inv-loop μ-loop
+leaves-requires c κs = search needs
+
+element-copy-out-t19 : tie.Need-element-copy-out-t19 Inv-loop μ-loop
+element-copy-out-t19 c = search needs
 
 account-of-requires : tie.Need-account-of-requires Inv-loop μ-loop
-account-of-requires c κs = let st = c .before .before .before in (omega arith, st .pre .0 .many)
+account-of-requires c κs = (omega arith, c .before .before .before .before .pre .0 .many)
 
 open-root-requires : tie.Need-open-root-requires Inv-loop μ-loop
-open-root-requires c κs =
-    let st = c .before .before .before .before in
-    rw (c .account-of .ensures) (st .pre .0 .small 0 (omega arith))
+open-root-requires c κs = rw (c .account-of .ensures) (c .before .before .before .before .before .pre .0 .small 0 (omega arith))
 
 array-write-quotas : tie.Need-array-write-quotas Inv-loop μ-loop
 array-write-quotas c = search needs
@@ -60,54 +94,32 @@ keep-requires c κs = search needs
 loop-holds : tie.Need-loop-holds Inv-loop μ-loop
 loop-holds c = (omega arith, omega arith, λ accounts can o. o)
 
-element-copy-out-p : tie.Need-element-copy-out-p Inv-loop μ-loop
-element-copy-out-p c = omega (arith, c .loop-test .taken)
+parent-requires : tie.Need-parent-requires Inv-loop μ-loop
+parent-requires c κs = omega (arith, c .loop-test .taken)
 
-cast-p : tie.Need-cast-p Inv-loop μ-loop
-cast-p c =
-    let g = c .before in
-    let h = g .before in
-    let st = start-of h in
-    omega (arith, parent-most (st .args .t1) (h .loop .i) (st .pre .0 .rules) (g .loop-test .taken), g .loop-test .taken)
-
-mul-w : tie.Need-mul-w Inv-loop μ-loop
-mul-w c = omega (arith, c .before .loop-test .taken)
-
-element-copy-out-w : tie.Need-element-copy-out-w Inv-loop μ-loop
-element-copy-out-w c = omega (arith, c .before .loop-test .taken)
-
-mul-s : tie.Need-mul-s Inv-loop μ-loop
-mul-s c = omega (arith, c .before .before .loop-test .taken)
-
-array-copy-out-s-2 : tie.Need-array-copy-out-s-2 Inv-loop μ-loop
-array-copy-out-s-2 c = omega (arith, c .before .before .loop-test .taken)
+weight-requires : tie.Need-weight-requires Inv-loop μ-loop
+weight-requires c κs = (c .before .before .before .before .before .before .before .before .before .before .before .before .before .pre .0 .rules, omega (arith, c .before .loop-test .taken))
 
 mul-due : tie.Need-mul-due Inv-loop μ-loop
-mul-due c =
-    let g = c .before .before .before in
-    let h = g .before in
-    let st = start-of h in
-    omega (arith, parent-most (st .args .t1) (h .loop .i) (st .pre .0 .rules) (g .loop-test .taken), g .loop-test .taken)
+mul-due c = omega (arith, up (c .before .before), c .before .parent .ensures)
 
 array-read-due : tie.Need-array-read-due Inv-loop μ-loop
-array-read-due c =
-    let g = c .before .before .before in
-    let h = g .before in
-    let st = start-of h in
-    omega (arith, parent-most (st .args .t1) (h .loop .i) (st .pre .0 .rules) (g .loop-test .taken), g .loop-test .taken)
+array-read-due c = omega (arith, up (c .before .before), c .before .parent .ensures)
 
 due-requires : tie.Need-due-requires Inv-loop μ-loop
-due-requires c κs =
-    let g = c .before .before .before in
-    let h = g .before in
-    let st = start-of h in
-    omega (arith, opening-due _ _ _ _ (st .pre .0) (h .loop .i) (h .loop .inv .0) (g .loop-test .taken) _ _ (reached h))
+due-requires c κs = omega (arith, light (c .before .before), due-is (c .before .before) _ _ (c .weight .ensures) (c .before .parent .ensures))
 
 has-requires : tie.Need-has-requires Inv-loop μ-loop
-has-requires c κs = omega (arith, c .before .before .before .before .loop-test .taken)
+has-requires c κs = omega (arith, c .before .before .before .loop-test .taken)
 
 has-requires-2 : tie.Need-has-requires-2 Inv-loop μ-loop
-has-requires-2 c κs = omega (arith, c .before .before .before .before .before .loop-test .taken)
+has-requires-2 c κs = omega (arith, c .before .before .before .before .loop-test .taken)
+
+mul-t30 : tie.Need-mul-t30 Inv-loop μ-loop
+mul-t30 c = omega (arith, c .before .before .before .before .before .loop-test .taken)
+
+element-copy-out-t37 : tie.Need-element-copy-out-t37 Inv-loop μ-loop
+element-copy-out-t37 c = omega (arith, c .before .before .before .before .before .loop-test .taken)
 
 account-of-requires-2 : tie.Need-account-of-requires-2 Inv-loop μ-loop
 account-of-requires-2 c κs =
@@ -117,12 +129,13 @@ account-of-requires-2 c κs =
 
 open-class-requires : tie.Need-open-class-requires Inv-loop μ-loop
 open-class-requires c κs =
-    let d = c .before .before .before .before .before in
-    let g = d .before .before .before .before in
+    let d = c .before .before .before .before .before .before in
+    let q = d .before .before in
+    let g = q .before in
     let h = g .before in
     let can = start-of h .pre .0 in (
       rw (c .account-of2 .ensures) (opening-funds _ _ _ _ can (h .loop .i) (h .loop .inv .0) (g .loop-test .taken) _ _ (reached h)),
-      omega (arith, d .due .ensures, opening-due _ _ _ _ can (h .loop .i) (h .loop .inv .0) (g .loop-test .taken) _ _ (reached h)),
+      omega (arith, d .due .ensures, light g, due-is g _ _ (d .before .weight .ensures) (q .parent .ensures)),
     )
 
 mul-quotas : tie.Need-mul-quotas Inv-loop μ-loop
@@ -132,14 +145,10 @@ array-write-quotas-2 : tie.Need-array-write-quotas-2 Inv-loop μ-loop
 array-write-quotas-2 c = omega (arith, c .before .before .before .before .before .before .before .before .before .before .loop-test .taken)
 
 keep-requires-2 : tie.Need-keep-requires-2 Inv-loop μ-loop
-keep-requires-2 c κs =
-    let k = c .before .before .before .before .before .before .before in
-    omega (arith, k .before .before .before .before .before .before .loop-test .taken)
+keep-requires-2 c κs = omega (arith, c .before .before .before .before .before .before .before .before .before .before .before .before .before .loop-test .taken)
 
 add-i : tie.Need-add-i Inv-loop μ-loop
-add-i c =
-    let k = c .before .before .before .before .before .before .before in
-    omega (arith, k .before .before .before .before .before .before .before .loop-test .taken)
+add-i c = omega (arith, c .before .before .before .before .before .before .before .before .before .before .before .before .before .before .loop-test .taken)
 
 loop-less : tie.Need-loop-less Inv-loop μ-loop
 loop-less c = search needs
@@ -148,18 +157,21 @@ loop-again : tie.Need-loop-again Inv-loop μ-loop
 loop-again c =
     let o = c .before .before .before .before in
     let x = o .before in
-    let f = x .before .before .before in
+    let f = x .before .before .before .before in
     let e = f .before in
     let d = e .before in
-    let g = d .before .before .before .before in
+    let q = d .before .before in
+    let g = q .before in
     let h = g .before in
-    let st = start-of h in (
+    let st = start-of h in
+    let leaf = f .has2 .ensures ∙ ap (λ (s : ℕ). has s (h .loop .i)) (c .before .before .before .before .before .before .before .before .before .before .before .before .before .before .before .before .before .before .before .before .before .before .before .before .before .leaves .ensures) in
+    let due = d .due .ensures ∙ due-is g _ _ (d .before .weight .ensures) (q .parent .ensures) in (
       omega arith,
       omega (arith, g .loop-test .taken),
       λ accounts can begins.
           opening-on _ _ _ _ can (h .loop .i) (h .loop .inv .0) (g .loop-test .taken) _ _ (h .loop .inv .2 accounts can begins) _ _
-          (st .args .t4) (st .pre .1)
-          (e .has .ensures) (f .has2 .ensures) (d .due .ensures) (x .account-of2 .ensures) (o .open-class .ensures) (c .keep2 .ensures),
+          (st .args .sums .now) (st .pre .1)
+          (e .has .ensures) leaf due (x .account-of2 .ensures) (o .open-class .ensures) (c .keep2 .ensures),
     )
 
 returns : tie.Need-returns Inv-loop μ-loop
@@ -173,23 +185,22 @@ open-accounts-spec =
     (tie.spec
     Inv-loop
     μ-loop
-    array-copy-out-s
+    leaves-requires
+    element-copy-out-t19
     account-of-requires
     open-root-requires
     array-write-quotas
     keep-requires
     loop-holds
-    element-copy-out-p
-    cast-p
-    mul-w
-    element-copy-out-w
-    mul-s
-    array-copy-out-s-2
+    parent-requires
+    weight-requires
     mul-due
     array-read-due
     due-requires
     has-requires
     has-requires-2
+    mul-t30
+    element-copy-out-t37
     account-of-requires-2
     open-class-requires
     mul-quotas

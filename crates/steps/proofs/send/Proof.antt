@@ -14,24 +14,27 @@ nothing-requires c κs = search needs
 returns : tie.Need-returns
 returns c =
     let i = c .before in
-    let st = i .before .before in
-    rw (c .nothing .ensures) (nothing-departs _ _ (st .pre .0) (i .if1 .taken))
+    let st = c .before .before .before in
+    rw (c .nothing .ensures) (nothing-departs (st .args .stand) _ _ (st .pre .0) (i .if1 .taken), st .pre .2)
 
 next-sender-requires : tie.Need-next-sender-requires
 next-sender-requires c κs =
-    let i = c .before .before .before .before in
-    let st = i .before .before in
-    ((_, _, _, going-on _ _ (st .pre .0) (i .if1 .left)), st .pre .1)
+    let i = c .before .before .before .before .before in
+    let st = c .before .before .before .before .before .before .before in
+    ((_, _, _, going-on (st .args .stand) _ _ (st .pre .0) (i .if1 .left)), st .pre .2)
 
 goes-requires : tie.Need-goes-requires
 goes-requires c κs =
     let n = c .before .before .before .before .before .before in
-    let i = n .before .before .before .before .before in (
-      _,
-      _,
-      _,
-      then-goes _ _ (n .next-sender .result) _ _
-          (n .next-sender .ensures _ _ _ (going-on _ _ (i .before .before .pre .0) (i .if1 .left))),
+    let i = c .before .before .before .before .before .before .before .before .before .before .before .before in
+    let st = c .before .before .before .before .before .before .before .before .before .before .before .before .before .before in (
+      (
+        _,
+        _,
+        then-goes _ _ (n .next-sender .result) _ _
+            (n .next-sender .ensures .0 _ _ _ (going-on (st .args .stand) _ _ (st .pre .0) (i .if1 .left))),
+      ),
+      st .pre .1,
     )
 
 has-gone-requires : tie.Need-has-gone-requires
@@ -40,13 +43,16 @@ has-gone-requires c κs = search needs
 returns-2 : tie.Need-returns-2
 returns-2 c =
     let g = c .before in
-    let n = g .before .before .before .before .before .before .before in
-    let i = n .before .before .before .before .before in
-    let going = going-on _ _ (i .before .before .pre .0) (i .if1 .left) in
-    let found = n .next-sender .ensures _ _ _ going in
-    let gone = g .goes .ensures _ _ _ (then-goes _ _ (n .next-sender .result) _ _ found) in
-    rw (c .has-gone .ensures)
-    (then-departs _ _ (n .next-sender .result) _ _ found (g .goes .result) _ (gone .0) (gone .1) (sym (going .some)))
+    let n = c .before .before .before .before .before .before .before .before in
+    let i = c .before .before .before .before .before .before .before .before .before .before .before .before .before .before in
+    let st = c .before .before .before .before .before .before .before .before .before .before .before .before .before .before .before .before in
+    let going = going-on (st .args .stand) _ _ (st .pre .0) (i .if1 .left) in
+    let found = n .next-sender .ensures .0 _ _ _ going in
+    let gone = g .goes .ensures _ _ (then-goes _ _ (n .next-sender .result) _ _ found) in
+    rw (c .has-gone .ensures) (
+      then-departs _ _ (n .next-sender .result) _ _ found (g .goes .result) _ (gone .0) (gone .1) (sym (going .some)),
+      n .next-sender .ensures .1,
+    )
 
 pub send-spec : {M : Type 1} → statement M
 send-spec =

@@ -6,7 +6,10 @@ use borrow.Author.Tests.{not-true, not-false}
 use Rattle.checks.specs.Check.{Exactly}
 use Rattle.checks.proofs.Laws.{exactly-yes, exactly-no, not-true-and-false}
 use Rattle.sets.specs.Set.{has}
+use Rattle.tree.specs.declared.Tree.{Tree}
+use Rattle.tree.specs.Rules.{PlanRules}
 use Rattle.tree.proofs.Rules.{few-classes}
+use Rattle.rules.specs.Active.{weightSums}
 use Rattle.rules.proofs.Shares.{parent-most}
 use Rattle.published.specs.Asking.{Published}
 use Rattle.asking.proofs.Flagged.{flags-say, flags-of}
@@ -35,7 +38,7 @@ here f = omega (arith, f .before .before .before .before .before .before .before
 abbrev made : tie.After-flags-right Inv-loop μ-loop → Published
 made f =
     means (f .before .before .before .before .before .before .before .before .before .before .before .before .before .before .before .before
-    .before .before .before .before .args .second)
+    .before .before .before .before .before .before .args .second)
 
 -- what was read is what the clauses speak of
 decided : (f : tie.After-flags-right Inv-loop μ-loop) → Exactly (f .flags-right .result) (ClassAsked (made f) (number f))
@@ -52,20 +55,27 @@ decided f =
     let h = g .before in
     let s = h .before .before in
     let t = s .before in
-    let st = t .before .before .before .before .before in
+    let m = t .before .before in
+    let st = m .before .before .before .before .before in
     flags-say (made f) (number f) _ (f .flags-right .result)
     (flags-of (made f) (number f) (t .yet-to-ask .result) (s .weight-sums .result) _
-    (few-classes (st .args .second .link .tree) (st .pre)) (here f) (t .yet-to-ask .ensures) (s .weight-sums .ensures)
+    (few-classes (st .args .second .link .tree) (st .pre)) (here f) (t .yet-to-ask .ensures)
+    (s .weight-sums .ensures ∙ ap (λ (k : Tree). weightSums k (t .yet-to-ask .result)) (m .shape-of .ensures))
     (k .is-class .ensures)
     (h1 .has .ensures) (h2 .has2 .ensures) (h3 .has3 .ensures)
     (h4 .has4 .ensures ∙ ap (has (st .args .second .asked)) (w .wide .ensures .0)) (b .is-behind .ensures) (y .can-pay .ensures))
     (f .flags-right .ensures)
 
+shape-of-requires : tie.Need-shape-of-requires Inv-loop μ-loop
+shape-of-requires c κs = search needs
+
 yet-to-ask-requires : tie.Need-yet-to-ask-requires Inv-loop μ-loop
 yet-to-ask-requires c κs = search needs
 
 weight-sums-requires : tie.Need-weight-sums-requires Inv-loop μ-loop
-weight-sums-requires c κs = c .before .before .before .before .before .pre
+weight-sums-requires c κs =
+    let m = c .before .before in
+    subst PlanRules (sym (m .shape-of .ensures)) (m .before .before .before .before .before .pre)
 
 loop-holds : tie.Need-loop-holds Inv-loop μ-loop
 loop-holds c = (omega arith, λ k u. absurd (omega arith))
@@ -105,7 +115,7 @@ has-requires-4 c κs =
     let w = c .before .before .before .before in
     let g = w .before .before .before in
     let h = g .before in
-    let st = h .before .before .before .before .before .before .before .before in
+    let st = h .before .before .before .before .before .before .before .before .before .before in
     omega (
       arith,
       w .wide .ensures .0,
@@ -165,6 +175,7 @@ asked-right-spec =
     (tie.spec
     Inv-loop
     μ-loop
+    shape-of-requires
     yet-to-ask-requires
     weight-sums-requires
     loop-holds

@@ -10,15 +10,15 @@ use Rattle.asking.proofs.visits.visit.Statement.{statement}
 use Rattle.asking.proofs.visits.visit.Tie as tie
 
 abbrev Inv-loop : tie.InvT-loop
-Inv-loop leaves place asked active count parent weight balance₀ residual₀ quotas₀ start lengths asked₀ at₀ balance residual quotas asked'
+Inv-loop leaves place asked active shape balance₀ residual₀ quotas₀ start lengths asked₀ at₀ balance residual quotas asked'
     at =
     (1 ≤ at) × (at ≤ 64)
-    × ((x : Published) → Lent x active count asked parent weight balance₀ residual₀ quotas₀ → Lying x leaves start lengths
+    × ((x : Published) → Lent x active asked shape balance₀ residual₀ quotas₀ → Lying x leaves start lengths
     → SoundPublished x → WidePublished x
-    → Reached x place at leaves active count asked' parent weight balance residual quotas start lengths)
+    → Reached x place at leaves active asked' shape balance residual quotas start lengths)
 
 abbrev μ-loop : tie.MeasureT-loop
-μ-loop leaves place asked active count parent weight balance₀ residual₀ quotas₀ start lengths asked₀ at₀ balance residual quotas asked' at =
+μ-loop leaves place asked active shape balance₀ residual₀ quotas₀ start lengths asked₀ at₀ balance residual quotas asked' at =
     64 - at
 
 -- the leaf that was found is a class number
@@ -35,7 +35,7 @@ returns : tie.Need-returns Inv-loop μ-loop
 returns c =
     let n = c .before in
     let h = n .before in
-    λ x l y s w. reached-none x _ _ _ _ _ _ _ _ _ _ _ _ _ (h .loop .inv .2 x l y s w) (n .next .result) (n .next .ensures) (c .if1 .taken)
+    λ x l y s w. reached-none x _ _ _ _ _ _ _ _ _ _ _ (h .loop .inv .2 x l y s w) (n .next .result) (n .next .ensures) (c .if1 .taken)
 
 ask-requires : tie.Need-ask-requires Inv-loop μ-loop
 ask-requires c κs =
@@ -44,7 +44,7 @@ ask-requires c κs =
     let h = n .before in
     let p = h .before .pre .0 in
     let o = h .loop .inv .2 (p .0) (p .1) (p .2) (p .3) (p .4) in
-    (o .y, o .lent, reached-asker (p .0) _ _ _ _ _ _ _ _ _ _ _ _ _ o (n .next .result) (n .next .ensures) (in-range b))
+    (o .y, o .lent, reached-asker (p .0) _ _ _ _ _ _ _ _ _ _ _ o (n .next .result) (n .next .ensures) (in-range b))
 
 first-cost-requires : tie.Need-first-cost-requires Inv-loop μ-loop
 first-cost-requires c κs =
@@ -66,8 +66,8 @@ returns-2 c =
     let h = n .before in
     λ x l y s w.
     let o = h .loop .inv .2 x l y s w in
-    reached-hit x _ _ _ _ _ _ _ _ _ _ _ _ _ o (n .next .result) (n .next .ensures) (in-range b) (k .ask .result) _ _ _
-    (k .ask .ensures (o .y) (o .lent) (reached-asker x _ _ _ _ _ _ _ _ _ _ _ _ _ o (n .next .result) (n .next .ensures) (in-range b)))
+    reached-hit x _ _ _ _ _ _ _ _ _ _ _ o (n .next .result) (n .next .ensures) (in-range b) (k .ask .result) _ _ _
+    (k .ask .ensures (o .y) (o .lent) (reached-asker x _ _ _ _ _ _ _ _ _ _ _ o (n .next .result) (n .next .ensures) (in-range b)))
     (f .first-cost .result) (f .first-cost .ensures) (c .if2 .taken)
 
 add-at : tie.Need-add-at Inv-loop μ-loop
@@ -89,8 +89,8 @@ loop-again c =
       omega (arith, in-range b),
       λ x l y s w.
           let o = h .loop .inv .2 x l y s w in
-          reached-pass x _ _ _ _ _ _ _ _ _ _ _ _ _ o (n .next .result) (n .next .ensures) (in-range b) (k .ask .result) _ _ _
-          (k .ask .ensures (o .y) (o .lent) (reached-asker x _ _ _ _ _ _ _ _ _ _ _ _ _ o (n .next .result) (n .next .ensures) (in-range b)))
+          reached-pass x _ _ _ _ _ _ _ _ _ _ _ o (n .next .result) (n .next .ensures) (in-range b) (k .ask .result) _ _ _
+          (k .ask .ensures (o .y) (o .lent) (reached-asker x _ _ _ _ _ _ _ _ _ _ _ o (n .next .result) (n .next .ensures) (in-range b)))
           (f .first-cost .result) (f .first-cost .ensures) (c .if2 .left) (h .loop .inv .0),
     )
 

@@ -10,8 +10,8 @@ use Rattle.claims.proofs.in_place.compared.Tie as tie
 same-claim-requires : tie.Need-same-claim-requires
 same-claim-requires c κs = search needs
 
-add-t7 : tie.Need-add-t7
-add-t7 c = search needs
+add-t8 : tie.Need-add-t8
+add-t8 c = search needs
 
 decides-requires : tie.Need-decides-requires
 decides-requires c κs = search needs
@@ -39,18 +39,17 @@ returns-2 c =
     let u = c .before in
     let e = u .before in
     let h = e .before in
-    let a = h .before .args in
+    let a = h .before .before .args in
     rw (sym (h .same-claim .ensures) ∙ not-false _ (e .if1 .left))
     (c .goes-on .ensures
-    ∙ ap (λ (n : ℕ). didGoOn (a .place + n) (a .claims + 1) (a .went .active) (a .went .place) (a .went .size)
-    (a .went .charged)) (u .claim-uses .ensures))
+    ∙ ap (λ (n : ℕ). didGoOn (a .place + n) (a .claims + 1) (a .went .stand)) (u .claim-uses .ensures))
 
 pub compared-spec : {M : Type 1} → statement M
 compared-spec =
     tie.close
     (tie.spec
     same-claim-requires
-    add-t7
+    add-t8
     decides-requires
     returns
     claim-uses-requires

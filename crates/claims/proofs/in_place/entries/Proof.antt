@@ -1,7 +1,7 @@
 -- `in_place::entries` meets its contract: the link of the locals is the link after the entries before the place.
 use mathlib.Core.Bool.{true}
 use mathlib.Core.List.{List}
-use mathlib.Core.Path.{_≡_, sym, ap, ap₂, subst, _∙_}
+use mathlib.Core.Path.{_≡_, refl, sym, ap, ap₂, subst, _∙_}
 use Prim.Native.Nat.{ℕ, _+_, _-_, _<_}
 use native.Mathlib.Omega.{arith}
 use denote.Ref.{now}
@@ -9,13 +9,18 @@ use lib.ListN.{length, take, drop, length-drop}
 use lib.Seq.{take-all}
 use Rattle.tree.proofs.Classes.{both-true}
 use Rattle.tree.specs.declared.Tree.{Tree}
+use Rattle.tree.specs.Rules.{PlanRules}
+use Rattle.shape.specs.Shape.{treeIn}
 use Rattle.plan.specs.Entry.{entryAt}
 use Rattle.state.specs.declared.Link.{Link}
 use Rattle.state.specs.Queue.{Shaped}
-use Rattle.state.proofs.Shapes.{shaped, link-weights}
+use Rattle.state.proofs.Shapes.{shaped}
 use Rattle.sound.specs.Sound.{SoundLink}
-use Rattle.steps.specs.Fields.{lentLink, lentTotals, lentTree}
-use Rattle.steps.proofs.Wholes.{tree-fields, apart-is}
+use Rattle.steps.specs.declared.Stand.{Stand}
+use Rattle.steps.specs.Fields.{linkAt}
+use Rattle.steps.specs.Rounds.{Kept}
+use Rattle.steps.proofs.Rounding.{none-kept}
+use Rattle.steps.proofs.Wholes.{apart-is}
 use Rattle.claims.specs.declared.Checked.{Checked}
 use Rattle.claims.specs.declared.in_place.Did.{Did}
 use Rattle.claims.specs.Recording.{goesOn, takesOne}
@@ -26,64 +31,51 @@ use Rattle.claims.proofs.in_place.entries.Statement.{statement}
 use Rattle.claims.proofs.in_place.entries.Tie as tie
 
 abbrev Inv-loop : tie.InvT-loop
-Inv-loop part place claims last tree parent weight longest balance₀ residual₀ start₀ held₀ lengths₀ tags₀ marks₀ packets₀ bytes₀ kept s₀
-    balance residual start held lengths tags marks packets bytes s =
-    let lent = lentTree (tree .count) (tree .leaves) parent weight longest (tree .follows) in
-    let link = lentLink lent (s .size) (s .active) (s .visit) balance residual start held lengths tags marks
-    (lentTotals packets bytes (s .charged)) in
+Inv-loop part place claims last tree shape children kept₀ balance₀ residual₀ start₀ held₀ lengths₀ tags₀ marks₀ packets₀ bytes₀ s₀
+    kept balance residual start held lengths tags marks packets bytes s =
+    let t = treeIn shape in
+    let link = linkAt t (s .stand) balance residual start held lengths tags marks packets bytes in
     Loop last place claims part
-    (checkedBy s₀ (lentLink lent (s₀ .size) (s₀ .active) (s₀ .visit) balance₀ residual₀ start₀ held₀ lengths₀ tags₀ marks₀
-    (lentTotals packets₀ bytes₀ (s₀ .charged))))
+    (checkedBy s₀ (linkAt t (s₀ .stand) balance₀ residual₀ start₀ held₀ lengths₀ tags₀ marks₀ packets₀ bytes₀))
     (checkedBy s link)
-    × Shaped link
+    × Shaped link × Kept t (s .stand .known) kept
 
 abbrev μ-loop : tie.MeasureT-loop
-μ-loop part place claims last tree parent weight longest balance₀ residual₀ start₀ held₀ lengths₀ tags₀ marks₀ packets₀ bytes₀ kept s₀
-    balance residual start held lengths tags marks packets bytes s =
+μ-loop part place claims last tree shape children kept₀ balance₀ residual₀ start₀ held₀ lengths₀ tags₀ marks₀ packets₀ bytes₀ s₀
+    kept balance residual start held lengths tags marks packets bytes s =
     leftOf (s .more) (place + length part - s .place)
 
 -- what is handed on is what follows
 handed : (s : List ℕ) (k : ℕ) → take (length s - k) (drop k s) ≡ drop k s
 handed s k = take-all (length s - k) (drop k s) (omega (arith, length-drop k s))
 
--- where the link was handed in
-abbrev handedIn : tie.After-weight-numbers Inv-loop μ-loop → tie.Start Inv-loop μ-loop
-handedIn c = c .before .before .before .before .before
-
--- the tree in its fields is the tree
-abbrev lent : tie.After-weight-numbers Inv-loop μ-loop → Tree
-lent c =
-    let t = handedIn c .args .link .tree in
-    lentTree (t .count) (t .leaves) (t .parent) (c .weight-numbers .result) (t .longest) (t .follows)
-
-same : (c : tie.After-weight-numbers Inv-loop μ-loop) → lent c ≡ handedIn c .args .link .tree
-same c =
-    let l = handedIn c .args .link in
-    tree-fields (l .tree) (link-weights l _ (handedIn c .good .0)) (c .weight-numbers .result) (c .weight-numbers .ensures)
-
--- where the link lies in its fields
-abbrev weighed : tie.After-residuals Inv-loop μ-loop → tie.After-weight-numbers Inv-loop μ-loop
-weighed c = c .before .before .before .before
-
-abbrev lying : tie.After-goes-on Inv-loop μ-loop → tie.After-residuals Inv-loop μ-loop
-lying c = c .before .before .before .before .before .before .before .before .before
-
+-- where the link was handed in, and the tree as its numbers
 abbrev first : tie.After-goes-on Inv-loop μ-loop → tie.Start Inv-loop μ-loop
-first c = handedIn (weighed (lying c))
+first o = o .before .before .before .before .before .before .before .before .before .before .before .before .before .before .before .before .before .before
 
--- with the numbers that the check began with they are the link
+abbrev treeAt : tie.After-goes-on Inv-loop μ-loop → Tree
+treeAt o = treeIn (o .before .before .before .before .before .before .before .before .before .before .before .before .before .before .before .shape-of .result)
+
+lawful : (s : tie.After-shape-of Inv-loop μ-loop) → PlanRules (treeIn (s .shape-of .result))
+lawful s = subst PlanRules (sym (s .shape-of .ensures)) (s .before .before .before .pre .0 .state .fits .tree)
+
+-- with the numbers that the check began with its fields are the link
+abbrev apartAt : tie.After-goes-on Inv-loop μ-loop → Stand → Link
+apartAt o stand =
+    let l = first o .args .link in
+    linkAt (treeAt o) stand (o .before .before .before .before .before .before .before .before .before .before .before .balances .result) (o .before .before .before .before .before .before .before .before .before .before .residuals .result)
+    (l .start) (l .held) (l .lengths) (l .tags) (l .marks) (l .totals .packets) (l .totals .bytes)
+
 abbrev apart : tie.After-goes-on Inv-loop μ-loop → Did → Link
-apart c d =
-    let l = first c .args .link in
-    lentLink (lent (weighed (lying c))) (d .size) (d .active) (d .visit) (lying c .before .balances .result) (lying c .residuals .result)
-    (l .start) (l .held) (l .lengths) (l .tags) (l .marks) (lentTotals (l .totals .packets) (l .totals .bytes) (d .charged))
+apart o d = apartAt o (d .stand)
 
-whole : (c : tie.After-goes-on Inv-loop μ-loop) → apart c (c .goes-on .result) ≡ first c .args .link
-whole c =
-    let st = first c in
-    ap (apart c) (c .goes-on .ensures)
-    ∙ apart-is (st .args .link) (lent (weighed (lying c))) _ _ (same (weighed (lying c))) (shaped (st .args .link) _ (st .good .0))
-    (lying c .before .balances .ensures) (lying c .residuals .ensures)
+whole : (o : tie.After-goes-on Inv-loop μ-loop) → apart o (o .goes-on .result) ≡ first o .args .link
+whole o =
+    let st = first o in
+    ap (apart o) (o .goes-on .ensures)
+    ∙ apart-is (st .args .link) (treeAt o) _ _ (o .before .before .before .before .before .before .before .before .before .before .before .before .before .before .before .shape-of .ensures)
+    (shaped (st .args .link) _ (st .good .0)) (o .before .before .before .before .before .before .before .before .before .before .before .balances .ensures)
+    (o .before .before .before .before .before .before .before .before .before .before .residuals .ensures)
 
 starts : (c : tie.After-goes-on Inv-loop μ-loop)
     → checkedBy (c .goes-on .result) (apart c (c .goes-on .result))
@@ -97,11 +89,10 @@ begun h = first (h .before)
 abbrev linkNow : tie.At-loop Inv-loop μ-loop → Tree → Link
 linkNow h t =
     let v = h .loop in
-    lentLink t (v .s .size) (v .s .active) (v .s .visit) (v .balance) (v .residual) (v .start) (v .held) (v .lengths) (v .tags)
-    (v .marks) (lentTotals (v .packets) (v .bytes) (v .s .charged))
+    linkAt t (v .s .stand) (v .balance) (v .residual) (v .start) (v .held) (v .lengths) (v .tags) (v .marks) (v .packets) (v .bytes)
 
 abbrev sofar : tie.At-loop Inv-loop μ-loop → Checked
-sofar h = checkedBy (h .loop .s) (linkNow h (lent (weighed (lying (h .before)))))
+sofar h = checkedBy (h .loop .s) (linkNow h (treeAt (h .before)))
 
 -- one entry more is judged
 abbrev looked : tie.Then1 Inv-loop μ-loop → tie.At-loop Inv-loop μ-loop
@@ -115,7 +106,7 @@ taken t =
 
 -- where the entry that was judged was taken
 abbrev took : tie.After-entry Inv-loop μ-loop → tie.Then1 Inv-loop μ-loop
-took c = c .before .before .before .before .before .before .before .before .before .before .before .before .before .before .before .before
+took e = e .before .before .before .before .before .before .before .before .before .before .before .before .before .before .before
 
 -- what follows is handed on
 follows : (c : tie.After-entry Inv-loop μ-loop) {l after : Link} {place claims : ℕ} {r : Did}
@@ -128,8 +119,11 @@ follows c {l} {after} {place} {claims} {r} e =
     subst (λ (rest : List ℕ). Enters l place claims (entryAt rest) r after)
     (handed (now (begun h .args .part)) (h .loop .s .place - begun h .args .place)) e
 
-weight-numbers-requires : tie.Need-weight-numbers-requires Inv-loop μ-loop
-weight-numbers-requires c κs = search needs
+shape-of-requires : tie.Need-shape-of-requires Inv-loop μ-loop
+shape-of-requires c κs = search needs
+
+families-requires : tie.Need-families-requires Inv-loop μ-loop
+families-requires c κs = lawful (c .before)
 
 balances-requires : tie.Need-balances-requires Inv-loop μ-loop
 balances-requires c κs = search needs
@@ -146,6 +140,7 @@ loop-holds c =
     let a = st .args in (
       loop-starts (a .last) (a .link) (a .place) (a .claims) (now (a .part)) _ (starts c) (st .pre .0),
       subst Shaped (sym (whole c)) (shaped (a .link) _ (st .good .0)),
+      subst (λ (d : Did). Kept (treeAt c) (d .stand .known) _) (sym (c .goes-on .ensures)) (none-kept _ _ refl (lawful (c .before .before .before .before .before .before .before .before .before .before .before .before .before .before .before))),
     )
 
 sub-takes-one : tie.Need-sub-takes-one Inv-loop μ-loop
@@ -160,34 +155,28 @@ takes-one-requires c κs = search needs
 sub-at : tie.Need-sub-at Inv-loop μ-loop
 sub-at c = c .before .before .before .before .loop .inv .0 .forward
 
--- where the loop stood when its fields were lent
-abbrev reached : tie.After-bytes2 Inv-loop μ-loop → tie.At-loop Inv-loop μ-loop
-reached c =
-    c .before .before .before .before .before .before .before .before .before .before .before .before .before .before .before .before
-    .before
-
 sub-entry : tie.Need-sub-entry Inv-loop μ-loop
-sub-entry c = let i = reached c .loop .inv .0 in omega (arith, i .forward, i .within)
+sub-entry c = let i = c .before .before .before .before .before .before .before .before .before .before .before .before .before .before .before .before .loop .inv .0 in omega (arith, i .forward, i .within)
 
 part-entry-start : tie.Need-part-entry-start Inv-loop μ-loop
-part-entry-start c = let i = reached c .loop .inv .0 in omega (arith, i .forward, i .within)
+part-entry-start c = let i = c .before .before .before .before .before .before .before .before .before .before .before .before .before .before .before .before .loop .inv .0 in omega (arith, i .forward, i .within)
 
 part-entry-end : tie.Need-part-entry-end Inv-loop μ-loop
 part-entry-end c = search needs
 
 entry-requires : tie.Need-entry-requires Inv-loop μ-loop
 entry-requires c κs =
-    let h = c .before .before .before .before .before .before .before .before .before .before .before .before .before .before
-    .before .before .before .before in
+    let h = c .before .before .before .before .before .before .before .before .before .before .before .before .before .before .before .before .before in
     let st = begun h in
     let s = now (st .args .part) in
     let i = h .loop .inv .0 in
     let follow = handed s (h .loop .s .place - st .args .place) in
     let many = length-drop (h .loop .s .place - st .args .place) s in (
-      i .sound,
-      h .loop .inv .1,
+      record { sound = i .sound; shape = h .loop .inv .1 },
       rw follow (omega (arith, i .forward, i .within, st .pre .1, many)),
       rw follow (omega (arith, i .forward, i .within, i .counted, st .pre .2, many)),
+      c .before .before .before .before .before .before .before .before .before .before .before .before .before .before .before .before .before .before .before .before .before .before .before .before .before .before .before .before .before .before .before .families .ensures,
+      h .loop .inv .2,
     )
 
 loop-less : tie.Need-loop-less Inv-loop μ-loop
@@ -195,8 +184,8 @@ loop-less c =
     let t = took c in
     let h = looked t in
     let a = begun h .args in
-    let d = follows c (c .entry .ensures) in
-    let on = loop-on (a .last) (a .place) (a .claims) (now (a .part)) _ (sofar h) _ (h .loop .inv .0) (taken t) (d .gives) (d .sound) in
+    let d = follows c (c .entry .ensures .0) in
+    let on = loop-on (a .last) (a .place) (a .claims) (now (a .part)) _ (sofar h) _ (h .loop .inv .0) (taken t) (d .gives) (d .on .sound) in
     rw (both-true (h .loop .s .more) _ (taken t) .0)
     (left-less (c .entry .result .more) (a .place + length (now (a .part)) - c .entry .result .place)
     (a .place + length (now (a .part)) - h .loop .s .place) (λ m. omega (arith, on .1 m, on .0 .within)))
@@ -206,21 +195,24 @@ loop-again c =
     let t = took c in
     let h = looked t in
     let a = begun h .args in
-    let d = follows c (c .entry .ensures) in
-    (loop-on (a .last) (a .place) (a .claims) (now (a .part)) _ (sofar h) _ (h .loop .inv .0) (taken t) (d .gives) (d .sound) .0, d .shape)
+    let d = follows c (c .entry .ensures .0) in (
+      loop-on (a .last) (a .place) (a .claims) (now (a .part)) _ (sofar h) _ (h .loop .inv .0) (taken t) (d .gives) (d .on .sound) .0,
+      d .on .shape,
+      c .entry .ensures .1,
+    )
 
 zipped-requires : tie.Need-zipped-requires Inv-loop μ-loop
 zipped-requires c κs = c .before .before .before .before .before .loop .inv .1 .accounts
 
 returns : tie.Need-returns Inv-loop μ-loop
 returns c =
-    let x = c .before .before .before .before in
-    let h = x .before .before .before in
+    let x = c .before .before .before .before .before in
+    let h = c .before .before .before .before .before .before .before .before in
     let a = begun h .args in
     let Done : Link → Type 0 = λ after. PartDone (a .last) (a .link) (a .place) (a .claims) (now (a .part))
     (checkedBy (h .loop .s) after) in
-    rw (c .before .zipped .ensures)
-    (subst (λ (t : Tree). Done (linkNow h t)) (same (weighed (lying (h .before))))
+    rw (c .before .before .zipped .ensures)
+    (subst (λ (t : Tree). Done (linkNow h t)) (c .before .before .before .before .before .before .before .before .before .before .before .before .before .before .before .before .before .before .before .before .before .before .before .before .shape-of .ensures)
     (loop-ends (a .last) (a .link) (a .place) (a .claims) (now (a .part)) _ (sofar h) (starts (h .before)) (h .loop .inv .0)
     (sym (test-same (a .last) (a .place) (now (a .part)) (sofar h)) ∙ sym (x .before .takes-one .ensures) ∙ x .if1 .left)))
 
@@ -230,7 +222,8 @@ entries-spec =
     (tie.spec
     Inv-loop
     μ-loop
-    weight-numbers-requires
+    shape-of-requires
+    families-requires
     balances-requires
     residuals-requires
     goes-on-requires

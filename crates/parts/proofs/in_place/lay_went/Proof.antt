@@ -34,8 +34,8 @@ same-length-2 c = search needs
 returns-2 : tie.Need-returns-2
 returns-2 c =
     let lay = c .before .before in
-    let s = lay .before .before in
-    let i = s .before .before .before .before in
+    let s = c .before .before .before .before in
+    let i = c .before .before .before .before .before .before .before .before .before in
     rw (not-false (i .before .before .before .args .went .some) (i .if1 .left)) (rw (s .since .ensures) at (lay .lay-out .ensures))
 
 pub lay-went-spec : {M : Type 1} → statement M

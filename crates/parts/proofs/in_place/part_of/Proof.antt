@@ -1,6 +1,6 @@
 -- `in_place::part_of` meets its contract: the link of the locals is the link after the events before the place, and their lines are laid.
 use mathlib.Core.Bool.{true, _&&_}
-use mathlib.Core.Path.{_≡_, sym, subst, _∙_}
+use mathlib.Core.Path.{_≡_, refl, sym, ap, subst, _∙_}
 use Prim.Native.Nat.{_+_, _≤_}
 use native.Mathlib.Omega.{arith}
 use denote.Ref.{now}
@@ -9,14 +9,18 @@ use lib.ListN.{length}
 use Rattle.checks.specs.Check.{Exactly}
 use Rattle.tree.proofs.Classes.{both-true}
 use Rattle.tree.specs.declared.Tree.{Tree}
+use Rattle.tree.specs.Rules.{PlanRules}
+use Rattle.shape.specs.Shape.{treeIn}
 use Rattle.state.specs.declared.Link.{Link}
 use Rattle.state.specs.Queue.{Shaped}
-use Rattle.state.proofs.Shapes.{shaped, link-weights}
+use Rattle.state.proofs.Shapes.{shaped}
 use Rattle.sound.specs.Sound.{SoundLink}
 use Rattle.lines.specs.Line.{lineRoom}
-use Rattle.steps.specs.Fields.{lentLink, lentTotals, lentTree}
+use Rattle.steps.specs.Fields.{linkAt}
 use Rattle.steps.specs.Rounds.{Kept}
-use Rattle.steps.proofs.Wholes.{tree-fields, apart-is}
+use Rattle.steps.specs.declared.Stand.{Stand}
+use Rattle.parts.specs.declared.in_place.Did.{Did}
+use Rattle.steps.proofs.Wholes.{apart-is}
 use Rattle.parts.specs.Steps.{Taken}
 use Rattle.run.proofs.Lines.{stepsLeft, steps-less, next-on}
 use Rattle.parts.proofs.Parts.{Laying, laying-starts, laying-on, laying-ends}
@@ -26,91 +30,93 @@ use Rattle.parts.proofs.in_place.part_of.Statement.{statement}
 use Rattle.parts.proofs.in_place.part_of.Tie as tie
 
 abbrev Inv-loop : tie.InvT-loop
-Inv-loop sound input place out₀ tree parent weight longest balance₀ residual₀ start₀ held₀ lengths₀ tags₀ marks₀ packets₀ bytes₀ sums kept
-    size₀
-    active₀ visit₀ charged₀ laid₀ more₀ from₀ out balance residual start held lengths tags marks packets bytes size active visit charged
-    laid
-    more from =
-    let lent = lentTree (tree .count) (tree .leaves) parent weight longest (tree .follows) in
-    let link = lentLink lent size active visit balance residual start held lengths tags marks (lentTotals packets bytes charged) in
-    Laying (lentLink lent size₀ active₀ visit₀ balance₀ residual₀ start₀ held₀ lengths₀ tags₀ marks₀
-    (lentTotals packets₀ bytes₀ charged₀)) input place out₀
-    (record { laid = laid; more = more; link = link; place = from }) out
-    × Shaped link
+Inv-loop sound input place out₀ tree shape children kept₀ balance₀ residual₀ start₀ held₀ lengths₀ tags₀ marks₀ packets₀ bytes₀ known did₀
+    out kept balance residual start held lengths tags marks packets bytes did =
+    let t = treeIn shape in
+    let link = linkAt t (did .stand) balance residual start held lengths tags marks packets bytes in
+    Laying (linkAt t (did₀ .stand) balance₀ residual₀ start₀ held₀ lengths₀ tags₀ marks₀ packets₀ bytes₀) input place out₀
+    (record { laid = did .laid; more = did .more; link = link; place = did .place }) out
+    × Shaped link × (did .sound ≡ sound) × (sound ≡ true → Kept t (did .stand .known) kept)
 
 abbrev μ-loop : tie.MeasureT-loop
-μ-loop sound input place out₀ tree parent weight longest balance₀ residual₀ start₀ held₀ lengths₀ tags₀ marks₀ packets₀ bytes₀ sums kept
-    size₀
-    active₀ visit₀ charged₀ laid₀ more₀ from₀ out balance residual start held lengths tags marks packets bytes size active visit charged
-    laid
-    more from =
-    stepsLeft input more from
+μ-loop sound input place out₀ tree shape children kept₀ balance₀ residual₀ start₀ held₀ lengths₀ tags₀ marks₀ packets₀ bytes₀ known did₀
+    out kept balance residual start held lengths tags marks packets bytes did =
+    stepsLeft input (did .more) (did .place)
 
--- where the link was handed in
-abbrev handed : tie.After-weight-numbers Inv-loop μ-loop → tie.Start Inv-loop μ-loop
-handed c = c .before .before .before .before .before .before
+-- where the link was handed in, the tree as its numbers, and where the part begins
+abbrev first : tie.After-outcome Inv-loop μ-loop → tie.Start Inv-loop μ-loop
+first o = o .before .before .before .before .before .before .before .before .before .before .before .before .before .before .before .before .before .before .before .before .before .before .before
 
--- the tree in its fields is the tree
-abbrev lent : tie.After-weight-numbers Inv-loop μ-loop → Tree
-lent c =
-    let t = handed c .args .link .tree in
-    lentTree (t .count) (t .leaves) (t .parent) (c .weight-numbers .result) (t .longest) (t .follows)
+abbrev treeAt : tie.After-outcome Inv-loop μ-loop → Tree
+treeAt o = treeIn (o .before .before .before .before .before .before .before .before .before .before .before .before .before .before .before .before .before .before .before .shape-of .result)
 
-same : (c : tie.After-weight-numbers Inv-loop μ-loop) → lent c ≡ handed c .args .link .tree
-same c =
-    let l = handed c .args .link in
-    tree-fields (l .tree) (link-weights l _ (handed c .good .1 .0)) (c .weight-numbers .result) (c .weight-numbers .ensures)
+abbrev beginsAt : tie.After-outcome Inv-loop μ-loop → Stand → Link
+beginsAt o stand =
+    let l = first o .args .link in
+    linkAt (treeAt o) stand (o .before .before .before .before .before .before .before .before .before .before .before .before .before .before .before .balances .result)
+    (o .before .before .before .before .before .before .before .before .before .before .before .before .before .before .residuals .result) (l .start) (l .held) (l .lengths) (l .tags) (l .marks) (l .totals .packets)
+    (l .totals .bytes)
 
--- where the part began
-abbrev weighed : tie.After-residuals Inv-loop μ-loop → tie.After-weight-numbers Inv-loop μ-loop
-weighed c = c .before .before .before .before
-
-abbrev first : tie.After-residuals Inv-loop μ-loop → tie.Start Inv-loop μ-loop
-first c = handed (weighed c)
+abbrev begins : tie.After-outcome Inv-loop μ-loop → Link
+begins o = beginsAt o (o .outcome .result .stand)
 
 -- the link as it was taken apart is the link
-apart : (c : tie.After-residuals Inv-loop μ-loop)
-    → lentLink (lent (weighed c)) (first c .args .link .size) (first c .args .link .active) (first c .args .link .place)
-    (c .before .balances .result) (c .residuals .result) (first c .args .link .start) (first c .args .link .held)
-    (first c .args .link .lengths) (first c .args .link .tags) (first c .args .link .marks) (first c .args .link .totals)
-    ≡ first c .args .link
-apart c =
-    let st = first c in
-    apart-is (st .args .link) (lent (weighed c)) _ _ (same (weighed c)) (shaped (st .args .link) _ (st .good .1 .0))
-    (c .before .balances .ensures) (c .residuals .ensures)
+abbrev standAt : tie.After-outcome Inv-loop μ-loop → Stand
+standAt o =
+    let l = first o .args .link in
+    record {
+      known = o .before .before .sums-now .result;
+      size = l .size;
+      active = l .active;
+      place = l .place;
+      charged = l .totals .charged;
+    }
 
-abbrev apart-at : tie.At-loop Inv-loop μ-loop → tie.After-residuals Inv-loop μ-loop
-apart-at h = h .before .before .before .before .before .before .before .before .before .before .before .before .before
+taken-apart : (o : tie.After-outcome Inv-loop μ-loop) → beginsAt o (standAt o) ≡ first o .args .link
+taken-apart o =
+    let st = first o in
+    apart-is (st .args .link) (treeAt o) _ _ (o .before .before .before .before .before .before .before .before .before .before .before .before .before .before .before .before .before .before .before .shape-of .ensures)
+    (shaped (st .args .link) _ (st .good .1 .0)) (o .before .before .before .before .before .before .before .before .before .before .before .before .before .before .before .balances .ensures)
+    (o .before .before .before .before .before .before .before .before .before .before .before .before .before .before .residuals .ensures)
 
-abbrev begun : tie.At-loop Inv-loop μ-loop → tie.Start Inv-loop μ-loop
-begun h = first (apart-at h)
+apart : (o : tie.After-outcome Inv-loop μ-loop) → begins o ≡ first o .args .link
+apart o = ap (λ (d : Did). beginsAt o (d .stand)) (o .outcome .ensures) ∙ taken-apart o
+
+-- its tree obeys the rules where it is sound
+lawful : (s : tie.After-shape-of Inv-loop μ-loop)
+    → let st = s .before .before .before .before in st .args .sound ≡ true → PlanRules (treeIn (s .shape-of .result))
+lawful s on =
+    let st = s .before .before .before .before in
+    subst PlanRules (sym (s .shape-of .ensures)) (st .pre .sound on .state .fits .tree)
 
 -- the link of the locals, which is as sound as the link was
 abbrev linkNow : tie.At-loop Inv-loop μ-loop → Tree → Link
 linkNow h t =
     let v = h .loop in
-    lentLink t (v .size) (v .active) (v .visit) (v .balance) (v .residual) (v .start) (v .held) (v .lengths) (v .tags) (v .marks)
-    (lentTotals (v .packets) (v .bytes) (v .charged))
+    linkAt t (v .did .stand) (v .balance) (v .residual) (v .start) (v .held) (v .lengths) (v .tags) (v .marks) (v .packets) (v .bytes)
 
-as-sound : (h : tie.At-loop Inv-loop μ-loop) → Exactly (begun h .args .sound) (SoundLink (linkNow h (lent (weighed (apart-at h)))))
+as-sound : (h : tie.At-loop Inv-loop μ-loop)
+    → Exactly (first (h .before) .args .sound) (SoundLink (linkNow h (treeAt (h .before))))
 as-sound h =
-    h .loop .inv .0 .kept (begun h .args .sound)
-    (subst (λ (l : Link). Exactly (begun h .args .sound) (SoundLink l)) (sym (apart (apart-at h))) (begun h .pre))
+    let st = first (h .before) in
+    h .loop .inv .0 .kept (st .args .sound)
+    (subst (λ (l : Link). Exactly (st .args .sound) (SoundLink l)) (sym (apart (h .before))) (st .pre))
 
 -- an event more is taken where the run goes on and there is room for its line
 taken : (c : tie.Then1 Inv-loop μ-loop)
-    → let h = c .before .before .loop in (h .more && leb (h .laid + lineRoom) (length (h .out))) ≡ true
+    → let h = c .before .before .loop in (h .did .more && leb (h .did .laid + lineRoom) (length (h .out))) ≡ true
 taken c = sym (c .before .takes-one .ensures) ∙ c .if1 .taken
 
-room : (c : tie.Then1 Inv-loop μ-loop) → c .before .before .loop .laid + lineRoom ≤ length (c .before .before .loop .out)
-room c = let h = c .before .before .loop in leb-true (h .laid + lineRoom) (length (h .out)) (both-true (h .more) _ (taken c) .1)
+room : (c : tie.Then1 Inv-loop μ-loop) → c .before .before .loop .did .laid + lineRoom ≤ length (c .before .before .loop .out)
+room c =
+    let h = c .before .before .loop in
+    leb-true (h .did .laid + lineRoom) (length (h .out)) (both-true (h .did .more) _ (taken c) .1)
 
--- where the event that has happened was taken
-abbrev took : tie.After-event Inv-loop μ-loop → tie.Then1 Inv-loop μ-loop
-took e = e .before .before .before .before .before .before .before .before .before .before .before .before .before .before .before
+shape-of-requires : tie.Need-shape-of-requires Inv-loop μ-loop
+shape-of-requires c κs = search needs
 
-weight-numbers-requires : tie.Need-weight-numbers-requires Inv-loop μ-loop
-weight-numbers-requires c κs = search needs
+children-of-requires : tie.Need-children-of-requires Inv-loop μ-loop
+children-of-requires c κs = lawful (c .before)
 
 balances-requires : tie.Need-balances-requires Inv-loop μ-loop
 balances-requires c κs = search needs
@@ -119,16 +125,20 @@ residuals-requires : tie.Need-residuals-requires Inv-loop μ-loop
 residuals-requires c κs = search needs
 
 sums-now-requires : tie.Need-sums-now-requires Inv-loop μ-loop
-sums-now-requires c κs = λ e. first (c .before .before .before .before .before .before .before .before .before) .pre .sound e .state .fits
-    .tree
+sums-now-requires c κs = (lawful (c .before .before .before .before .before .before .before .before .before .before .before .before .before .before .before .before), refl)
+
+outcome-requires : tie.Need-outcome-requires Inv-loop μ-loop
+outcome-requires c κs = search needs
 
 loop-holds : tie.Need-loop-holds Inv-loop μ-loop
 loop-holds c =
-    let z = c .before .before .before .before .before .before .before .before .before .before .before .before in
-    let st = first z in
-    let a = st .args in (
+    let st = first c in
+    let a = st .args in
+    rw (c .outcome .ensures) (
       laying-starts _ (now (a .input)) (a .place) (now (a .out)),
-      subst Shaped (sym (apart z)) (shaped (st .args .link) _ (st .good .1 .0)),
+      subst Shaped (sym (taken-apart c)) (shaped (a .link) _ (st .good .1 .0)),
+      refl,
+      c .before .before .sums-now .ensures,
     )
 
 takes-one-requires : tie.Need-takes-one-requires Inv-loop μ-loop
@@ -136,55 +146,60 @@ takes-one-requires c κs = let y = c .loop .inv .0 in omega (arith, y .within, y
 
 event-requires : tie.Need-event-requires Inv-loop μ-loop
 event-requires c κs =
-    let t = c .before .before .before .before .before .before .before .before .before .before .before .before .before .before in
-    let h = t .before .before in
-    let sums = h .before .before .before .sums-now in (
-      as-sound h,
-      h .loop .inv .1,
-      λ on. subst (λ (x : Tree). Kept x (sums .result .known) (sums .result .kept)) (sym (same (weighed (apart-at h)))) (sums .ensures on),
+    let t = c .before .before .before .before .before .before .before .before .before .before .before .before .before in
+    let h = c .before .before .before .before .before .before .before .before .before .before .before .before .before .before .before in
+    let same = h .loop .inv .2 in (
+      record { exactly = rw same (as-sound h); shape = h .loop .inv .1 },
+      λ on. (c .before .before .before .before .before .before .before .before .before .before .before .before .before .before .before .before .before .before .before .before .before .before .before .before .before .before .before .before .before .before .before .before .before .children-of .ensures (sym same ∙ on), h .loop .inv .3 (sym same ∙ on)),
       room t,
     )
 
 loop-less : tie.Need-loop-less Inv-loop μ-loop
 loop-less c =
-    let e = c .before .before .before in
-    let t = took e in
-    let h = t .before .before in
-    let a = begun h .args in
+    let e = c .before .before in
+    let t = c .before .before .before .before .before .before .before .before .before .before .before .before .before .before .before .before in
+    let h = c .before .before .before .before .before .before .before .before .before .before .before .before .before .before .before .before .before .before in
+    let a = c .before .before .before .before .before .before .before .before .before .before .before .before .before .before .before .before .before .before .before .before .before .before .before .before .before .before .before .before .before .before .before .before .before .before .before .before .before .before .before .before .before .before .args in
     let did = e .event .result in
-    steps-less (now (a .input)) (did .more) (did .place) (h .loop .more) (h .loop .from) (both-true (h .loop .more) _ (taken t) .0)
-    (next-on _ (now (a .input)) (h .loop .from) _ (e .event .ensures .goes))
+    let was = h .loop .did in
+    steps-less (now (a .input)) (did .more) (did .place) (was .more) (was .place) (both-true (was .more) _ (taken t) .0)
+    (next-on _ (now (a .input)) (was .place) _ (e .event .ensures .0 .goes))
 
 loop-again : tie.Need-loop-again Inv-loop μ-loop
 loop-again c =
-    let e = c .before .before .before in
-    let t = took e in
-    let h = t .before .before in
-    let a = begun h .args in
-    let happens = e .event .ensures in (
+    let e = c .before .before in
+    let t = c .before .before .before .before .before .before .before .before .before .before .before .before .before .before .before .before in
+    let h = c .before .before .before .before .before .before .before .before .before .before .before .before .before .before .before .before .before .before in
+    let a = c .before .before .before .before .before .before .before .before .before .before .before .before .before .before .before .before .before .before .before .before .before .before .before .before .before .before .before .before .before .before .before .before .before .before .before .before .before .before .before .before .before .before .args in
+    let happens = e .event .ensures .0 in
+    let told = e .event .ensures .1 in
+    let same = h .loop .inv .2 in (
       laying-on _ (now (a .input)) (a .place) (now (a .out)) _ _ _ (e .event .result .laid) _ (h .loop .inv .0) (happens .goes) (taken t)
           (happens .lays .0) (omega (arith, happens .lays .1, room t, h .loop .inv .0 .long)),
       happens .shape,
+      told .0 ∙ same,
+      λ on. told .1 (same ∙ on),
     )
 
 zipped-requires : tie.Need-zipped-requires Inv-loop μ-loop
 zipped-requires c κs = c .before .before .before .before .loop .inv .1 .accounts
 
 same-length : tie.Need-same-length Inv-loop μ-loop
-same-length c = c .before .before .before .before .before .loop .inv .0 .long
+same-length c = c .before .before .before .before .before .before .before .loop .inv .0 .long
 
 returns : tie.Need-returns Inv-loop μ-loop
 returns c =
-    let i = c .before .before .before in
-    let h = i .before .before in
-    let a = begun h .args in
+    let i = c .before .before .before .before .before in
+    let h = c .before .before .before .before .before .before .before in
+    let o = h .before in
+    let a = first o .args in
     let v = h .loop in
     let TakenBy : Link → Link → Type 0 = λ l after.
     Taken l (now (a .input)) (a .place) (now (a .out))
-    (record { laid = v .laid; more = v .more; link = after; place = v .from }) (v .out) in
-    rw (c .zipped .ensures)
-    (subst (λ (x : Tree). TakenBy (a .link) (linkNow h x)) (same (weighed (apart-at h)))
-    (subst (λ (l : Link). TakenBy l (linkNow h (lent (weighed (apart-at h))))) (apart (apart-at h))
+    (record { laid = v .did .laid; more = v .did .more; link = after; place = v .did .place }) (v .out) in
+    rw (c .before .before .zipped .ensures)
+    (subst (λ (x : Tree). TakenBy (a .link) (linkNow h x)) (c .before .before .before .before .before .before .before .before .before .before .before .before .before .before .before .before .before .before .before .before .before .before .before .before .before .before .before .shape-of .ensures)
+    (subst (λ (l : Link). TakenBy l (linkNow h (treeAt o))) (apart o)
     (laying-ends _ (now (a .input)) (a .place) (now (a .out)) _ (v .out) (v .inv .0) (sym (i .before .takes-one .ensures) ∙ i .if1 .left))))
 
 pub part-of-spec : {M : Type 1} → statement M
@@ -193,10 +208,12 @@ part-of-spec =
     (tie.spec
     Inv-loop
     μ-loop
-    weight-numbers-requires
+    shape-of-requires
+    children-of-requires
     balances-requires
     residuals-requires
     sums-now-requires
+    outcome-requires
     loop-holds
     takes-one-requires
     event-requires

@@ -1,6 +1,9 @@
 -- `rounds::open_until_sent` meets its contract.
-use Prim.Native.Nat.{_-_}
+use mathlib.Core.Path.{refl, subst}
+use Prim.Native.Nat.{ℕ, _-_}
 use native.Mathlib.Omega.{arith}
+use Rattle.sets.specs.Set.{Both}
+use Rattle.shape.specs.Shape.{treeIn}
 use Rattle.published.specs.Asking.{Published}
 use Rattle.published.specs.Visiting.{visited, openedPublished}
 use Rattle.published_send.specs.Under.{Under}
@@ -10,15 +13,23 @@ use Rattle.published_send.proofs.rounds.open_until_sent.Statement.{stat
 use Rattle.published_send.proofs.rounds.open_until_sent.Tie as tie
 
 abbrev Inv-loop : tie.InvT-loop
-Inv-loop tree active sums parent weight balance₀ residual₀ quotas₀ start lengths leaves count rounds₀ in-force₀ balance residual quotas
-    rounds
-    in-force =
-    (x₀ : Published) → Under x₀ tree (in-force₀ .0) active 0 parent weight balance₀ residual₀ quotas₀ start lengths
-    → Under x₀ tree (in-force .0) active rounds parent weight balance residual quotas start lengths
+Inv-loop shape active sums balance₀ residual₀ quotas₀ start lengths leaves rounds₀ in-force₀ balance residual quotas rounds in-force =
+    (x₀ : Published) → Under x₀ (in-force₀ .0) active 0 shape balance₀ residual₀ quotas₀ start lengths
+    → Under x₀ (in-force .0) active rounds shape balance residual quotas start lengths
 
 abbrev μ-loop : tie.MeasureT-loop
-μ-loop tree active sums parent weight balance₀ residual₀ quotas₀ start lengths leaves count rounds₀ in-force₀ balance residual quotas rounds
-    in-force = 3 - rounds
+μ-loop shape active sums balance₀ residual₀ quotas₀ start lengths leaves rounds₀ in-force₀ balance residual quotas rounds in-force =
+    3 - rounds
+
+-- the leaves that are visited are the active ones
+searched : (b : tie.After-both Inv-loop μ-loop)
+    → let a = b .before .before .args in Both (a .active) (treeIn (a .shape .now) .leaves) (b .both .result)
+searched b =
+    let v = b .before in
+    subst (λ (s : ℕ). Both (v .before .args .active) s (b .both .result)) (v .leaves .ensures) (b .both .ensures)
+
+leaves-requires : tie.Need-leaves-requires Inv-loop μ-loop
+leaves-requires c κs = search needs
 
 both-requires : tie.Need-both-requires Inv-loop μ-loop
 both-requires c κs = search needs
@@ -28,28 +39,25 @@ loop-holds c = λ x₀ u. u
 
 open-unshared-requires : tie.Need-open-unshared-requires Inv-loop μ-loop
 open-unshared-requires c κs =
-    let h = c .before .before .before in
-    let st = h .before .before in
-    (can-of _ _ _ _ _ _ _ _ _ _ _ _ (h .loop .inv (st .pre .0 .0) (st .pre .0 .1)), st .pre .1)
+    let st = c .before .before .before .before .before .before in
+    (can-of _ _ _ _ _ _ _ _ _ _ (c .before .before .before .loop .inv (st .pre .0 .0) (st .pre .0 .1)), st .pre .1)
 
 add-rounds : tie.Need-add-rounds Inv-loop μ-loop
 add-rounds c =
-    let h = c .before .before .before .before .before in
-    let st = h .before .before in
-    omega (arith, left-of _ _ _ _ _ _ _ _ _ _ _ _ (h .loop .inv (st .pre .0 .0) (st .pre .0 .1)))
+    let st = c .before .before .before .before .before .before .before .before in
+    omega (arith, left-of _ _ _ _ _ _ _ _ _ _ (c .before .before .before .before .before .loop .inv (st .pre .0 .0) (st .pre .0 .1)))
 
 visit-requires : tie.Need-visit-requires Inv-loop μ-loop
 visit-requires c κs =
     let o = c .before .before .before .before in
-    let h = o .before .before .before .before in
-    let b = h .before in
-    let st = b .before in
+    let h = c .before .before .before .before .before .before .before .before in
+    let st = c .before .before .before .before .before .before .before .before .before .before .before in
     let u = h .loop .inv (st .pre .0 .0) (st .pre .0 .1) in
-    let w = way-of _ _ _ _ _ _ _ _ _ _ _ _ u in (
+    let w = way-of _ _ _ _ _ _ _ _ _ _ u in (
       (
         openedPublished (visited (u .x) .after),
-        lent-open _ _ _ _ _ _ _ _ _ _ _ _ u (o .open-unshared .result) _ _ _ (o .open-unshared .ensures),
-        lying-open _ _ _ _ _ _ _ _ _ _ _ _ u (b .both .result) (b .both .ensures),
+        lent-open _ _ _ _ _ _ _ _ _ _ u (o .open-unshared .result) _ _ _ (o .open-unshared .ensures),
+        lying-open _ _ _ _ _ _ _ _ _ _ u (h .before .both .result) (searched (h .before)),
         w .sound,
         w .wide,
       ),
@@ -61,41 +69,41 @@ visit-requires c κs =
 returns : tie.Need-returns Inv-loop μ-loop
 returns c =
     let v = c .before .before in
-    let o = v .before .before .before .before .before in
-    let h = o .before .before .before .before in
-    let b = h .before in
-    λ x₀ q.
-    let u = h .loop .inv x₀ q in
-    let w = way-of _ _ _ _ _ _ _ _ _ _ _ _ u in
-    let f =
-    v .visit .ensures (openedPublished (visited (u .x) .after))
-    (lent-open _ _ _ _ _ _ _ _ _ _ _ _ u (o .open-unshared .result) _ _ _ (o .open-unshared .ensures))
-    (lying-open _ _ _ _ _ _ _ _ _ _ _ _ u (b .both .result) (b .both .ensures)) (w .sound) (w .wide)
-    in
-    under-found _ _ _ _ _ _ _ _ _ _ _ _ u (o .open-unshared .result) _ _ _ (o .open-unshared .ensures) (v .visit .result .leaf)
-    (v .visit .result .asked) _ _ _ f (c .if1 .taken)
+    let o = c .before .before .before .before .before .before .before in
+    let h = c .before .before .before .before .before .before .before .before .before .before .before in (
+      λ x₀ q.
+          let u = h .loop .inv x₀ q in
+          let w = way-of _ _ _ _ _ _ _ _ _ _ u in
+          let f =
+          v .visit .ensures (openedPublished (visited (u .x) .after))
+          (lent-open _ _ _ _ _ _ _ _ _ _ u (o .open-unshared .result) _ _ _ (o .open-unshared .ensures))
+          (lying-open _ _ _ _ _ _ _ _ _ _ u (h .before .both .result) (searched (h .before))) (w .sound) (w .wide)
+          in
+          under-found _ _ _ _ _ _ _ _ _ _ u (o .open-unshared .result) _ _ _ (o .open-unshared .ensures) (v .visit .result .leaf)
+          (v .visit .result .asked) _ _ _ f (c .if1 .taken),
+      refl,
+    )
 
 loop-less : tie.Need-loop-less Inv-loop μ-loop
 loop-less c =
     let h = c .before .before .before .before .before .before .before .before .before .before .before in
-    let st = h .before .before in
-    omega (arith, left-of _ _ _ _ _ _ _ _ _ _ _ _ (h .loop .inv (st .pre .0 .0) (st .pre .0 .1)))
+    let st = h .before .before .before in
+    omega (arith, left-of _ _ _ _ _ _ _ _ _ _ (h .loop .inv (st .pre .0 .0) (st .pre .0 .1)))
 
 loop-again : tie.Need-loop-again Inv-loop μ-loop
 loop-again c =
     let v = c .before .before in
-    let o = v .before .before .before .before .before in
-    let h = o .before .before .before .before in
-    let b = h .before in
+    let o = c .before .before .before .before .before .before .before in
+    let h = c .before .before .before .before .before .before .before .before .before .before .before in
     λ x₀ q.
     let u = h .loop .inv x₀ q in
-    let w = way-of _ _ _ _ _ _ _ _ _ _ _ _ u in
+    let w = way-of _ _ _ _ _ _ _ _ _ _ u in
     let f =
     v .visit .ensures (openedPublished (visited (u .x) .after))
-    (lent-open _ _ _ _ _ _ _ _ _ _ _ _ u (o .open-unshared .result) _ _ _ (o .open-unshared .ensures))
-    (lying-open _ _ _ _ _ _ _ _ _ _ _ _ u (b .both .result) (b .both .ensures)) (w .sound) (w .wide)
+    (lent-open _ _ _ _ _ _ _ _ _ _ u (o .open-unshared .result) _ _ _ (o .open-unshared .ensures))
+    (lying-open _ _ _ _ _ _ _ _ _ _ u (h .before .both .result) (searched (h .before))) (w .sound) (w .wide)
     in
-    under-on _ _ _ _ _ _ _ _ _ _ _ _ u (o .open-unshared .result) _ _ _ (o .open-unshared .ensures) (v .visit .result .leaf)
+    under-on _ _ _ _ _ _ _ _ _ _ u (o .open-unshared .result) _ _ _ (o .open-unshared .ensures) (v .visit .result .leaf)
     (v .visit .result .asked) _ _ _ f (c .if1 .left)
 
 pub open-until-sent-spec : {M : Type 1} → statement M
@@ -104,6 +112,7 @@ open-until-sent-spec =
     (tie.spec
     Inv-loop
     μ-loop
+    leaves-requires
     both-requires
     loop-holds
     open-unshared-requires

@@ -8,7 +8,7 @@ use Rattle.state.specs.Account.{noAccount, accountOf}
 use Rattle.tree.specs.Sum.{table}
 use Rattle.tree.proofs.Tables.{table-none, table-fill}
 use Rattle.state.specs.Account.{zipAccounts}
-use Rattle.state.proofs.Zips.{list-table}
+use Rattle.shape.proofs.Read.{list-table}
 use borrow.Author.Needs.{needs}
 use Rattle.state.proofs.lent_accounts.zipped.Statement.{statement}
 use Rattle.state.proofs.lent_accounts.zipped.Tie as tie

@@ -1,7 +1,6 @@
 -- `way_up::recount` meets its contract: class by class upward.
-use mathlib.Core.Bool.{Bool}
 use mathlib.Core.List.{List}
-use mathlib.Core.Path.{_≡_, refl, sym, ap, subst, _∙_}
+use mathlib.Core.Path.{_≡_, sym, ap, _∙_}
 use Prim.Native.Nat.{ℕ, _+_, _-_, _^_, _≤_, _<_}
 use native.Mathlib.Omega.{arith}
 use lib.ListN.{getD, set}
@@ -11,54 +10,47 @@ use Rattle.tree.specs.Class.{parentOf}
 use Rattle.tree.specs.Below.{wayUp, changedUp}
 use Rattle.tree.proofs.Changes.{way-starts, way-next, way-ends}
 use Rattle.units.specs.Cost.{costOf}
+use Rattle.shape.specs.Shape.{treeIn}
 use Rattle.state.specs.WayUp.{changed, Climbs}
 use borrow.Author.Needs.{needs}
 use Rattle.state.proofs.way_up.recount.Statement.{statement}
 use Rattle.state.proofs.way_up.recount.Tie as tie
 
 -- what a walk of a table up from a class has come to: the rest of the way is left, and every number up to the class at hand is as it was
-pub record Walks (parent : List ℕ) (f : ℕ → ℕ) (class : ℕ) (before : List ℕ) (at : ℕ) (now : List ℕ) : Type 0 where
-  pub rest : (t : Tree) → t .parent ≡ parent → changedUp t f class before ≡ wayUp at t f at now
+pub record Walks (t : Tree) (f : ℕ → ℕ) (class : ℕ) (before : List ℕ) (at : ℕ) (now : List ℕ) : Type 0 where
+  pub rest : changedUp t f class before ≡ wayUp at t f at now
   pub small : (k : ℕ) → k ≤ at → getD now k 0 < 2 ^ 32
 
--- the parents of a tree with these parents are lower
-lower : (t : Tree) (parent : List ℕ) → ((k : ℕ) → 1 ≤ k → k < 64 → getD parent k 0 < k) → t .parent ≡ parent
-    → (k : ℕ) → 1 ≤ k → k < 64 → parentOf t k < k
-lower t parent low same k l u = subst (λ (xs : List ℕ). getD xs k 0 < k) (sym same) (low k l u)
-
-module _ (parent : List ℕ) (low : (k : ℕ) → 1 ≤ k → k < 64 → getD parent k 0 < k) (f : ℕ → ℕ) (class : ℕ) (before : List ℕ) where
-  walks-starts : class < 64 → ((k : ℕ) → k < 64 → getD before k 0 < 2 ^ 32) → Walks parent f class before class before
-  walks-starts u small = record {
-    rest = λ t same. way-starts t f (lower t parent low same) class before u;
-    small = λ k v. small k (omega (arith, u, v));
-  }
+module _ (t : Tree) (low : (k : ℕ) → 1 ≤ k → k < 64 → parentOf t k < k) (f : ℕ → ℕ) (class : ℕ) (before : List ℕ) where
+  walks-starts : class < 64 → ((k : ℕ) → k < 64 → getD before k 0 < 2 ^ 32) → Walks t f class before class before
+  walks-starts u small = record { rest = way-starts t f low class before u; small = λ k v. small k (omega (arith, u, v)) }
 
   -- one class up
-  walks-on : (i up x : ℕ) (now : List ℕ) → Walks parent f class before i now → 1 ≤ i → i < 64 → up ≡ getD parent i 0
-      → x ≡ f (getD now i 0) → Walks parent f class before up (set now i x)
+  walks-on : (i up x : ℕ) (now : List ℕ) → Walks t f class before i now → 1 ≤ i → i < 64 → up ≡ parentOf t i
+      → x ≡ f (getD now i 0) → Walks t f class before up (set now i x)
   walks-on i up x now w l u e same = record {
     rest =
-        λ t p.
-        w .rest t p ∙ way-next t f (lower t parent low p) i now l u
-        ∙ ap (λ (j : ℕ). wayUp j t f j (set now i (f (getD now i 0)))) (ap (λ (ps : List ℕ). getD ps i 0) p ∙ sym e)
+        w .rest ∙ way-next t f low i now l u
+        ∙ ap (λ (j : ℕ). wayUp j t f j (set now i (f (getD now i 0)))) (sym e)
         ∙ ap (λ (y : ℕ). wayUp up t f up (set now i y)) (sym same);
     small =
         λ k v.
         rw (getD-set-other now i k x 0 (λ z. omega (arith, z, v, e, low i l u))) (w .small k (omega (arith, v, e, low i l u)));
   }
 
-  walks-ends : (i x : ℕ) (now : List ℕ) → Walks parent f class before i now → i ≡ 0 → x ≡ f (getD now i 0)
-      → (t : Tree) → t .parent ≡ parent → set now i x ≡ changedUp t f class before
-  walks-ends i x now w z same t p =
+  walks-ends : (i x : ℕ) (now : List ℕ) → Walks t f class before i now → i ≡ 0 → x ≡ f (getD now i 0)
+      → set now i x ≡ changedUp t f class before
+  walks-ends i x now w z same =
       ap (λ (y : ℕ). set now i y) same ∙ ap (λ (j : ℕ). set now j (f (getD now j 0))) z
-      ∙ sym (w .rest t p ∙ way-ends t f (lower t parent low p) i now z)
+      ∙ sym (w .rest ∙ way-ends t f low i now z)
 
 abbrev Inv-loop : tie.InvT-loop
-Inv-loop fewer class length parent packets₀ bytes₀ cost i₀ packets bytes i =
-    (i < 64) × Walks parent (changed fewer 1) class packets₀ i packets × Walks parent (changed fewer (cost .0)) class bytes₀ i bytes
+Inv-loop fewer class length shape packets₀ bytes₀ cost i₀ packets bytes i =
+    (i < 64) × Walks (treeIn shape) (changed fewer 1) class packets₀ i packets
+    × Walks (treeIn shape) (changed fewer (cost .0)) class bytes₀ i bytes
 
 abbrev μ-loop : tie.MeasureT-loop
-μ-loop fewer class length parent packets₀ bytes₀ cost i₀ packets bytes i = i
+μ-loop fewer class length shape packets₀ bytes₀ cost i₀ packets bytes i = i
 
 cost-requires : tie.Need-cost-requires Inv-loop μ-loop
 cost-requires c κs = search needs
@@ -69,8 +61,8 @@ loop-holds c =
     let a = st .args in
     let k = st .pre .1 in (
       st .pre .0,
-      walks-starts (a .parent .now) (k .lower) (changed (a .fewer) 1) (a .class) (a .packets .now) (st .pre .0) (k .few),
-      walks-starts (a .parent .now) (k .lower) (changed (a .fewer) (c .cost .result .0)) (a .class) (a .bytes .now) (st .pre .0) (k .light),
+      walks-starts (treeIn (a .shape .now)) (k .lower) (changed (a .fewer) 1) (a .class) (a .packets .now) (st .pre .0) (k .few),
+      walks-starts (treeIn (a .shape .now)) (k .lower) (changed (a .fewer) (c .cost .result .0)) (a .class) (a .bytes .now) (st .pre .0) (k .light),
     )
 
 mul-changed : tie.Need-mul-changed Inv-loop μ-loop
@@ -107,7 +99,7 @@ element-write-bytes : tie.Need-element-write-bytes Inv-loop μ-loop
 element-write-bytes c = search needs
 
 returns : tie.Need-returns Inv-loop μ-loop
-returns c = λ t charged same.
+returns c = λ charged.
     let f = c .before in
     let g = f .before .before in
     let h = g .before .before in
@@ -117,47 +109,44 @@ returns c = λ t charged same.
     let low = st .pre .1 .lower in
     let z : h .loop .i ≡ 0 = omega (arith, c .if1 .taken) in
     let packets =
-    walks-ends (a .parent .now) low (changed (a .fewer) 1) (a .class) (a .packets .now) (h .loop .i) (g .changed .result)
-    (h .loop .packets) (h .loop .inv .1) z (g .changed .ensures) t same
+    walks-ends (treeIn (a .shape .now)) low (changed (a .fewer) 1) (a .class) (a .packets .now) (h .loop .i) (g .changed .result)
+    (h .loop .packets) (h .loop .inv .1) z (g .changed .ensures)
     in
     let bytes =
-    walks-ends (a .parent .now) low (changed (a .fewer) (k .cost .result .0)) (a .class) (a .bytes .now) (h .loop .i) (f .changed2 .result)
-    (h .loop .bytes) (h .loop .inv .2) z (f .changed2 .ensures) t same
+    walks-ends (treeIn (a .shape .now)) low (changed (a .fewer) (k .cost .result .0)) (a .class) (a .bytes .now) (h .loop .i) (f .changed2 .result)
+    (h .loop .bytes) (h .loop .inv .2) z (f .changed2 .ensures)
     in
-    let costs = ap (λ (x : ℕ). changedUp t (changed (a .fewer) x) (a .class) (a .bytes .now)) (k .cost .ensures) in
+    let costs = ap (λ (x : ℕ). changedUp (treeIn (a .shape .now)) (changed (a .fewer) x) (a .class) (a .bytes .now)) (k .cost .ensures) in
     λ n. record { packets = packets n; bytes = (bytes ∙ costs) n; charged = charged }
 
-element-copy-out-wide : tie.Need-element-copy-out-wide Inv-loop μ-loop
-element-copy-out-wide c = search needs
-
-wide-requires : tie.Need-wide-requires Inv-loop μ-loop
-wide-requires c κs = search needs
+parent-requires : tie.Need-parent-requires Inv-loop μ-loop
+parent-requires c κs = c .before .before .before .before .before .loop .inv .0
 
 loop-less : tie.Need-loop-less Inv-loop μ-loop
 loop-less c =
-    let h = c .before .before .before .before .before .before .before in
+    let h = c .before .before .before .before .before .before in
     omega (
       arith,
-      c .wide .ensures .0,
-      h .before .before .pre .1 .lower (h .loop .i) (omega (arith, c .before .before .if1 .left))
+      c .parent .ensures,
+      h .before .before .pre .1 .lower (h .loop .i) (omega (arith, c .before .if1 .left))
           (h .loop .inv .0),
     )
 
 loop-again : tie.Need-loop-again Inv-loop μ-loop
 loop-again c =
-    let f = c .before .before .before in
+    let f = c .before .before in
     let g = f .before .before in
     let h = g .before .before in
     let k = h .before in
     let st = k .before in
     let a = st .args in
     let low = st .pre .1 .lower in
-    let l : 1 ≤ h .loop .i = omega (arith, c .before .before .if1 .left) in
-    let up = c .wide .ensures .0 in (
+    let l : 1 ≤ h .loop .i = omega (arith, c .before .if1 .left) in
+    let up = c .parent .ensures in (
       omega (arith, up, low (h .loop .i) l (h .loop .inv .0), h .loop .inv .0),
-      walks-on (a .parent .now) low (changed (a .fewer) 1) (a .class) (a .packets .now) (h .loop .i) (c .wide .result) (g .changed .result)
+      walks-on (treeIn (a .shape .now)) low (changed (a .fewer) 1) (a .class) (a .packets .now) (h .loop .i) (c .parent .result) (g .changed .result)
           (h .loop .packets) (h .loop .inv .1) l (h .loop .inv .0) up (g .changed .ensures),
-      walks-on (a .parent .now) low (changed (a .fewer) (k .cost .result .0)) (a .class) (a .bytes .now) (h .loop .i) (c .wide .result)
+      walks-on (treeIn (a .shape .now)) low (changed (a .fewer) (k .cost .result .0)) (a .class) (a .bytes .now) (h .loop .i) (c .parent .result)
           (f .changed2 .result) (h .loop .bytes) (h .loop .inv .2) l (h .loop .inv .0) up (f .changed2 .ensures),
     )
 
@@ -180,7 +169,6 @@ recount-spec =
     mul-bytes
     element-write-bytes
     returns
-    element-copy-out-wide
-    wide-requires
+    parent-requires
     loop-less
     loop-again)

@@ -8,7 +8,12 @@ use borrow.Author.Tests.{not-true, not-false}
 use Rattle.checks.specs.declared.Verdict.{Verdict}
 use Rattle.checks.specs.declared.Verdict.the-variants.{Passed, Refused}
 use Rattle.checks.specs.Check.{firstBroken}
+use Rattle.sets.specs.Set.{has}
+use Rattle.units.specs.Cost.{costOf}
+use Rattle.tree.specs.declared.Tree.{Tree}
 use Rattle.tree.specs.Class.{longestOf, isLeaf}
+use Rattle.shape.specs.Shape.{treeIn}
+use Rattle.state.specs.WayUp.{recounted}
 use Rattle.state.specs.declared.Link.{Link}
 use Rattle.state.specs.declared.Packet.{Packet}
 use Rattle.state.specs.Queue.{withTotals, laidLast, queued}
@@ -37,11 +42,14 @@ returns : tie.Need-returns
 returns c =
     let i = c .before in
     let a = i .before .args in
-    λ l leaves parents longest takes.
+    λ l same takes.
     let now = lentWaiting l (a .start .now) (a .held .now) (a .lengths .now) (a .tags .now) (a .marks .now)
     (lentTotals (a .packets .now) (a .bytes .now) (a .charged)) in
     rw (not-true (a .sound) (i .if1 .taken))
     (refuses false now (a .class) (a .packet) _ (c .refused .result) (c .refused .ensures) (sym (unsound-number (meaning now) _ _)) refl)
+
+leaves-requires : tie.Need-leaves-requires
+leaves-requires c κs = search needs
 
 holds-requires : tie.Need-holds-requires
 holds-requires c κs = search needs
@@ -54,24 +62,26 @@ unfolding isLeaf
 returns-2 c =
     let e = c .before in
     let h = e .before in
-    let a = h .before .before .args in
-    λ l leaves parents longest takes.
+    let v = h .before in
+    let a = v .before .before .args in
+    λ l same takes.
     let now = lentWaiting l (a .start .now) (a .held .now) (a .lengths .now) (a .tags .now) (a .marks .now)
     (lentTotals (a .packets .now) (a .bytes .now) (a .charged)) in
     let off : isLeaf (l .tree) (a .class) ≡ false =
-    rw leaves (sym (h .holds .ensures .0) ∙ not-true (h .holds .result) (e .if2 .taken)) in
-    rw (not-false (a .sound) (h .before .if1 .left))
+    ap (λ (t : Tree). has (t .leaves) (a .class)) same ∙ ap (λ (s : ℕ). has s (a .class)) (sym (v .leaves .ensures))
+    ∙ sym (h .holds .ensures .0) ∙ not-true (h .holds .result) (e .if2 .taken) in
+    rw (not-false (a .sound) (v .before .if1 .left))
     (refuses true now (a .class) (a .packet) _ (c .refused2 .result) (c .refused2 .ensures)
     (sym (no-leaf-number (meaning now) (a .class) (a .packet) off)) refl)
 
-mul-judge : tie.Need-mul-judge
-mul-judge c = let h = c .before in omega (arith, h .holds .ensures .1 (not-false (h .holds .result) (c .if2 .left)))
+longest-requires : tie.Need-longest-requires
+longest-requires c κs =
+    let h = c .before in
+    let st = c .before .before .before .before in
+    (st .pre (not-false (st .args .sound) (c .before .before .before .if1 .left)) .0, h .holds .ensures .1 (not-false (h .holds .result) (c .if2 .left)))
 
 element-copy-out-judge : tie.Need-element-copy-out-judge
-element-copy-out-judge c = let h = c .before in omega (arith, h .holds .ensures .1 (not-false (h .holds .result) (c .if2 .left)))
-
-element-copy-out-judge-2 : tie.Need-element-copy-out-judge-2
-element-copy-out-judge-2 c =
+element-copy-out-judge c =
     let h = c .before .before in omega (arith, h .holds .ensures .1 (not-false (h .holds .result) (c .before .if2 .left)))
 
 judge-requires : tie.Need-judge-requires
@@ -79,7 +89,7 @@ judge-requires c κs = search needs
 
 -- where the judging began; the class is a leaf, one of the 64 class numbers
 abbrev begun : tie.After-judge → tie.Start
-begun j = j .before .before .before .before .before .before
+begun j = j .before .before .before .before .before .before .before
 
 inside : (j : tie.After-judge) → begun j .args .class < 64
 inside j =
@@ -94,19 +104,25 @@ here j l = let a = begun j .args in
     (lentTotals (a .packets .now) (a .bytes .now) (a .charged))
 
 -- the verdict is that of the checks on a link that is sound
-said : (j : tie.After-judge) (l : Link) → l .tree .leaves ≡ begun j .args .leaves → l .tree .longest ≡ begun j .args .longest .now
+said : (j : tie.After-judge) (l : Link) → l .tree ≡ treeIn (begun j .args .shape .now)
     → j .judge .result ≡ firstBroken (arrivalChecks true (meaning (here j l)) (begun j .args .class) (begun j .args .packet))
 unfolding isLeaf
-said j l leaves longest =
+said j l same =
     let a = begun j .args in
-    let i = j .before .before .before in
+    let n = j .before .before in
+    let i = n .before in
     let h = i .before in
-    let leaf : isLeaf (l .tree) (a .class) ≡ true = rw leaves (sym (h .holds .ensures .0) ∙ not-false (h .holds .result) (i .if2 .left)) in
-    let most : longestOf (l .tree) (a .class) ≡ getD (a .longest .now) (a .class) 0 = rw longest refl in
+    let leaf : isLeaf (l .tree) (a .class) ≡ true =
+    ap (λ (t : Tree). has (t .leaves) (a .class)) same ∙ ap (λ (s : ℕ). has s (a .class)) (sym (h .before .leaves .ensures))
+    ∙ sym (h .holds .ensures .0) ∙ not-false (h .holds .result) (i .if2 .left)
+    in
+    let most : longestOf (l .tree) (a .class) ≡ n .longest .result =
+    ap (λ (t : Tree). longestOf t (a .class)) same ∙ sym (n .longest .ensures)
+    in
     j .judge .ensures .verdict (meaning (here j l)) (a .packet) leaf refl most (meaning-held (here j l) (a .class) (inside j))
 
 sounds : (j : tie.After-judge) → begun j .args .sound ≡ true
-sounds j = not-false (begun j .args .sound) (j .before .before .before .before .before .if1 .left)
+sounds j = not-false (begun j .args .sound) (j .before .before .before .before .before .before .if1 .left)
 
 enum-told : tie.Need-enum-told
 enum-told c = search needs
@@ -125,13 +141,13 @@ recount-requires c κs =
     let p = c .before .before in
     let e = p .before .before .before .before .before .before in
     let j = e .before .before in
-    (inside j, begun j .pre (sounds j))
+    (inside j, begun j .pre (sounds j) .1)
 
-mul-t36 : tie.Need-mul-t36
-mul-t36 c = omega (arith, inside (c .before .before .before .before .before .before .before .before .before .before .before))
+mul-t32 : tie.Need-mul-t32
+mul-t32 c = omega (arith, inside (c .before .before .before .before .before .before .before .before .before .before .before))
 
-element-copy-out-t39 : tie.Need-element-copy-out-t39
-element-copy-out-t39 c = omega (arith, inside (c .before .before .before .before .before .before .before .before .before .before .before))
+element-copy-out-t35 : tie.Need-element-copy-out-t35
+element-copy-out-t35 c = omega (arith, inside (c .before .before .before .before .before .before .before .before .before .before .before))
 
 returns-3 : tie.Need-returns-3
 returns-3 c =
@@ -141,12 +157,13 @@ returns-3 c =
     let e = m .before in
     let j = e .before .before in
     let a = begun j .args in
-    λ l leaves parents longest takes.
+    λ l same takes.
     let passed = e .enum-told .given .1 in
-    let passes = sym (said j l leaves longest) ∙ passed in
+    let passes = sym (said j l same) ∙ passed in
     let waits = queued l (a .start .now) (a .held .now) (a .lengths .now) (a .tags .now) (a .marks .now) in
     let laid = p .put .ensures l ∙ ap (laidLast waits (a .class)) (m .marked-with .ensures) in
-    let link = ap₂ withTotals laid (n .recount .ensures (l .tree) (a .charged) parents) in
+    let link = ap₂ withTotals laid (n .recount .ensures (a .charged) ∙ ap (λ (t : Tree). recounted false t (a .class) (costOf (a .packet .length))
+    (lentTotals (a .packets .now) (a .bytes .now) (a .charged))) (sym same)) in
     let on = takes (sounds j) in
     let bytes =
     ap (λ (x : Link). getD (x .totals .bytes) (a .class) 0) link
@@ -166,10 +183,10 @@ returns-4 c =
     let e = c .before in
     let j = e .before .before in
     let a = begun j .args in
-    λ l leaves parents longest takes.
+    λ l same takes.
     rw (sounds j)
     (refuses true (here j l) (a .class) (a .packet) (j .judge .result) (c .refused3 .result) (c .refused3 .ensures)
-    (said j l leaves longest) (e .enum-told2 .given .1))
+    (said j l same) (e .enum-told2 .given .1))
 
 pub arrive-spec : {M : Type 1} → statement M
 arrive-spec =
@@ -177,19 +194,19 @@ arrive-spec =
     (tie.spec
     refused-requires
     returns
+    leaves-requires
     holds-requires
     refused-requires-2
     returns-2
-    mul-judge
+    longest-requires
     element-copy-out-judge
-    element-copy-out-judge-2
     judge-requires
     enum-told
     marked-with-requires
     put-requires
     recount-requires
-    mul-t36
-    element-copy-out-t39
+    mul-t32
+    element-copy-out-t35
     returns-3
     enum-told-2
     refused-requires-3

@@ -1,5 +1,6 @@
 -- `leaf::goes` meets its contract.
 use native.Mathlib.Omega.{arith}
+use Rattle.shape.specs.Shape.{treeIn}
 use Rattle.steps.specs.Fields.{lentLink, lentTotals}
 use Rattle.steps.proofs.Goings.{goes-first, goes-takes, goes-pays, goes-climbs, goes-off, goes-more, goes-last}
 use borrow.Author.Needs.{needs}
@@ -7,7 +8,7 @@ use Rattle.steps.proofs.leaf.goes.Statement.{statement}
 use Rattle.steps.proofs.leaf.goes.Tie as tie
 
 first-requires : tie.Need-first-requires
-first-requires c κs = goes-first (c .before .pre .3)
+first-requires c κs = goes-first (c .before .pre .0 .2)
 
 cost-requires : tie.Need-cost-requires
 cost-requires c κs = search needs
@@ -17,10 +18,10 @@ pay-requires c κs =
     let k = c .before .before in
     let f = k .before in
     let st = f .before .before in
-    goes-pays (st .pre .3) (f .first .ensures) (k .cost .ensures)
+    goes-pays (st .pre .0 .2) (f .first .ensures) (k .cost .ensures)
 
 recount-requires : tie.Need-recount-requires
-recount-requires c κs = let st = c .before .before .before .before .before .before .before .before in goes-climbs (st .pre .3)
+recount-requires c κs = let st = c .before .before .before .before .before .before .before .before in goes-climbs (st .pre .0 .2)
 
 grown-requires : tie.Need-grown-requires
 grown-requires c κs = search needs
@@ -35,7 +36,7 @@ take-requires : tie.Need-take-requires
 take-requires c κs =
     let n = c .before .before .before .before .before in
     let st = n .before .before .before .before .before .before .before .before .before in
-    goes-takes (st .pre .3)
+    goes-takes (st .pre .0 .2)
 
 returns : tie.Need-returns
 returns c =
@@ -47,8 +48,8 @@ returns c =
     let k = y .before .before .before in
     let f = k .before in
     let a = f .before .before .args in
-    λ t size place s. (
-      f .first .ensures (lentLink t size (a .active) place (a .balance .now) (a .residual .now) (a .start .now) (a .held .now)
+    λ size place s. (
+      f .first .ensures (lentLink (treeIn (a .shape .now)) size (a .active) place (a .balance .now) (a .residual .now) (a .start .now) (a .held .now)
           (a .lengths .now) (a .tags .now) (a .marks .now) (lentTotals (a .packets .now) (a .bytes .now) (a .charged))) (a .held .now),
       goes-more s (f .first .ensures) (k .cost .ensures) _ _ (y .pay .ensures) (λ l. m .take .ensures l (a .lengths .now) (a .tags .now)
           (a .marks .now))
@@ -62,7 +63,7 @@ turn-off-requires c κs =
     let k = y .before .before .before in
     let f = k .before in
     let st = f .before .before in
-    goes-off (st .pre .3) (f .first .ensures) (k .cost .ensures) _ _ (y .pay .ensures)
+    goes-off (st .pre .0 .2) (f .first .ensures) (k .cost .ensures) _ _ (y .pay .ensures) (st .pre .1)
 
 returns-2 : tie.Need-returns-2
 returns-2 c =
@@ -75,8 +76,8 @@ returns-2 c =
     let k = y .before .before .before in
     let f = k .before in
     let a = f .before .before .args in
-    λ t size place s. (
-      f .first .ensures (lentLink t size (a .active) place (a .balance .now) (a .residual .now) (a .start .now) (a .held .now)
+    λ size place s. (
+      f .first .ensures (lentLink (treeIn (a .shape .now)) size (a .active) place (a .balance .now) (a .residual .now) (a .start .now) (a .held .now)
           (a .lengths .now) (a .tags .now) (a .marks .now) (lentTotals (a .packets .now) (a .bytes .now) (a .charged))) (a .held .now),
       goes-last s (f .first .ensures) (k .cost .ensures) _ _ (y .pay .ensures) (λ l. m .take .ensures l (a .lengths .now) (a .tags .now)
           (a .marks .now))

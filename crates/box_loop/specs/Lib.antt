@@ -1,2 +1,0 @@
--- The parts of the box's loop.
-pub mod Loop

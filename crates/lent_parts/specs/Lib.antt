@@ -1,0 +1,2 @@
+-- The turns of the loop over a lent record.
+pub mod Turns

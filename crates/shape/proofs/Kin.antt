@@ -1,0 +1,104 @@
+-- The sets of children, class by class. Demand 2.
+use mathlib.Core.Bool.{Bool, true, false, _&&_}
+use mathlib.Core.List.{List}
+use mathlib.Core.Path.{_≡_, refl, sym, ap, _∙_}
+use Prim.Native.Nat.{ℕ, zero, suc, _+_, _^_, _≤_, _<_}
+use native.Mathlib.Decide.{decLe, decLt, ℕ-discrete}
+use native.Mathlib.Omega.{arith}
+use lib.Dec.{eqb}
+use lib.ListN.{length, length-set, length-replicate, getD, set, replicate}
+use lib.Seq.{getD-set-same, getD-set-other}
+use borrow.Author.Tests.{eq-eqb, ne-eqb}
+use Rattle.checks.proofs.Laws.{not-true-and-false}
+use Rattle.sets.specs.Set.{has, with}
+use Rattle.sets.proofs.Laws.{has-with-same, has-with-other, with-fits, has-empty}
+use Rattle.tree.specs.declared.Tree.{Tree}
+use Rattle.tree.specs.Class.{parentOf, isClass, isChild}
+use Rattle.tree.proofs.Classes.{class-in, class-range}
+use Rattle.shape.specs.Shape.{Families}
+
+-- the children among the classes before n are in their parents' sets, and no others
+pub record FamiliesTo (t : Tree) (n : ℕ) (out : List ℕ) : Type 0 where
+  pub long : length out ≡ 64
+  pub fits : (p : ℕ) → p < 64 → getD out p 0 < 2 ^ 64
+  pub child : (p i : ℕ) → p < 64 → i < n → 1 ≤ i → has (getD out p 0) i ≡ isChild t p i
+  pub none : (p i : ℕ) → p < 64 → n ≤ i → has (getD out p 0) i ≡ false
+  pub root : (p : ℕ) → p < 64 → has (getD out p 0) 0 ≡ false
+
+-- of a list of zeros each is 0
+zeros : (n i : ℕ) → _≡_ {A = ℕ} (getD (replicate n 0) i 0) 0
+zeros zero i = refl
+zeros (suc n) zero = refl
+zeros (suc n) (suc i) = zeros n i
+
+pub families-none : (t : Tree) → FamiliesTo t 1 (replicate 64 0)
+families-none t = record {
+  long = length-replicate {A = ℕ} 64 0;
+  fits = λ p u. omega (arith, zeros 64 p);
+  child = λ p i u l m. absurd (omega (arith, l, m));
+  none = λ p i u l. empty p i;
+  root = λ p u. empty p 0;
+}
+  where
+    empty : (p i : ℕ) → has (getD (replicate 64 0) p 0) i ≡ false
+    empty p i = ap (λ (s : ℕ). has s i) (zeros 64 p) ∙ has-empty i
+
+-- one class more
+module _
+    (t : Tree) (n : ℕ) (out : List ℕ) (is : FamiliesTo t n out) (low : 1 ≤ n) (high : n < 64)
+    (q : ℕ) (e : q ≡ parentOf t n) (v : q < 64) (x : ℕ) (y : x ≡ with (getD out q 0) n) where
+  own : getD (set out q x) q 0 ≡ with (getD out q 0) n
+  own = getD-set-same out q x 0 (omega (arith, is .long, v)) ∙ y
+
+  -- what was in a set before and is not the class at hand is in it still
+  kept : (p i : ℕ) → (i ≡ n → ⊥) → has (getD (set out q x) p 0) i ≡ has (getD out p 0) i
+  kept p i ne = go (ℕ-discrete p q)
+    where
+      go : Dec (p ≡ q) → has (getD (set out q x) p 0) i ≡ has (getD out p 0) i
+      go (yes z) = rw z (ap (λ (s : ℕ). has s i) own ∙ has-with-other (getD out q 0) n i ne)
+      go (no z) = ap (λ (s : ℕ). has s i) (getD-set-other out q p x 0 z)
+
+  here : (p : ℕ) → p < 64 → has (getD (set out q x) p 0) n ≡ isChild t p n
+  unfolding isChild
+  here p u = go (ℕ-discrete p q)
+    where
+      go : Dec (p ≡ q) → has (getD (set out q x) p 0) n ≡ eqb (parentOf t n) p
+      go (yes z) =
+          rw z (ap (λ (s : ℕ). has s n) own ∙ has-with-same (getD out q 0) n ∙ sym (eq-eqb (parentOf t n) q (sym e)))
+      go (no z) =
+          ap (λ (s : ℕ). has s n) (getD-set-other out q p x 0 z) ∙ is .none p n u (omega arith)
+          ∙ sym (ne-eqb (parentOf t n) p (λ w. z (sym w ∙ sym e)))
+
+  pub families-on : FamiliesTo t (n + 1) (set out q x)
+  families-on = record {
+    long = length-set out q x ∙ is .long;
+    fits = λ p u. fit p u (ℕ-discrete p q);
+    child = λ p i u l m. at p i u l m (ℕ-discrete i n);
+    none = λ p i u l. kept p i (λ z. omega (arith, z, l)) ∙ is .none p i u (omega (arith, l));
+    root = λ p u. kept p 0 (λ z. omega (arith, z, low)) ∙ is .root p u;
+  }
+    where
+      fit : (p : ℕ) → p < 64 → Dec (p ≡ q) → getD (set out q x) p 0 < 2 ^ 64
+      fit p u (yes z) = rw (z, own) (with-fits (getD out q 0) n (is .fits q v) high)
+      fit p u (no z) = rw (getD-set-other out q p x 0 z) (is .fits p u)
+
+      at : (p i : ℕ) → p < 64 → i < n + 1 → 1 ≤ i → Dec (i ≡ n) → has (getD (set out q x) p 0) i ≡ isChild t p i
+      at p i u l m (yes z) = rw z (here p u)
+      at p i u l m (no z) = kept p i z ∙ is .child p i u (omega (arith, l, z)) m
+
+pub families-all : (t : Tree) (n : ℕ) (out : List ℕ) → n ≡ t .count + 1 → FamiliesTo t n out → Families t out
+families-all t n out all is = record { fits = is .fits; child = λ p i u v. at p i u (isClass t i) refl }
+  where
+    past : (p i : ℕ) → p < 64 → isClass t i ≡ false → Dec (1 ≤ i) → has (getD out p 0) i ≡ false
+    past p i u e (yes l) = is .none p i u (beyond (decLt (t .count) i))
+      where
+        beyond : Dec (t .count < i) → n ≤ i
+        beyond (yes m) = omega (arith, m, all)
+        beyond (no m) = absurd (not-true-and-false (class-in t i l (omega (arith, m))) e)
+    past p i u e (no l) = let z : i ≡ 0 = omega (arith, l) in rw z (is .root p u)
+
+    at : (p i : ℕ) → p < 64 → (b : Bool) → isClass t i ≡ b → has (getD out p 0) i ≡ (isClass t i && isChild t p i)
+    at p i u true e =
+        let r = class-range t i e in
+        is .child p i u (omega (arith, r, all)) (r .0) ∙ sym (ap (λ (b : Bool). b && isChild t p i) e)
+    at p i u false e = past p i u e (decLe 1 i) ∙ sym (ap (λ (b : Bool). b && isChild t p i) e)

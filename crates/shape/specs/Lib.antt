@@ -1,0 +1,2 @@
+-- A tree as numbers that can be lent.
+pub mod Shape
