@@ -1,11 +1,10 @@
--- The lists of a tree and of a link that the code holds have the lengths of their arrays. Demands 1 and 2.
+-- The lists of a link that the code holds have the lengths of its arrays. Demands 1 and 2.
 use mathlib.Core.List.{List}
 use mathlib.Core.Path.{_≡_, sym, _∙_}
 use lib.ListN.{length, length-map}
 use mir.Val.{Val}
 use denote.Laws.{Is}
 use denote.Struct.Laws as LL
-use Rattle.shape.proofs.Read.{tree-weights}
 use Rattle.state.specs.declared.Link.{Link}
 use Rattle.state.specs.Queue.{Shaped}
 use Rattle.state.proofs.Totals as N
@@ -28,7 +27,3 @@ shaped l values is =
       packets = sym (length-map (l .totals .packets) _) ∙ q .0 .1 .0 .1;
       bytes = sym (length-map (l .totals .bytes) _) ∙ q .1 .0 .1 .0 .1;
     }
-
--- the tree of a link has as many weights as class numbers
-pub link-weights : (l : Link) (values : List Val) → Is L.the-row l values → length (l .tree .weight) ≡ 64
-link-weights l values is = tree-weights (l .tree) _ (LL.owed L.the-type L′.the-laws l values is .0)
