@@ -131,11 +131,13 @@ fn entry(
     bytes: &mut [u64; 64],
     rest: &[u8],
 ) -> Did
-    requires { ⌜ Enterable (linkAt (treeIn (now shape)) (did .stand) (now balance) (now residual) (now start) (now held) (now lengths) (now tags)
+    requires { ⌜ Enterable (linkAt (treeIn (now shape)) (did .stand) (now balance) (now residual) (now start) (now held) (now lengths) (now
+        tags)
         (now marks) (now packets) (now bytes))
         × (did .place + length (now rest) < 2 ^ 64) × (did .claims + length (now rest) < 2 ^ 64)
         × Families (treeIn (now shape)) (now children) × Kept (treeIn (now shape)) (did .stand .known) (now kept) ⌝ }
-    ensures { λ r. ⌜ Enters (linkAt (treeIn (now (shape .entry))) (did .stand) (now (balance .entry)) (now (residual .entry)) (now (start .entry))
+    ensures { λ r. ⌜ Enters (linkAt (treeIn (now (shape .entry))) (did .stand) (now (balance .entry)) (now (residual .entry)) (now (start
+        .entry))
         (now (held .entry)) (now (lengths .entry)) (now (tags .entry)) (now (marks .entry)) (now (packets .entry)) (now (bytes .entry)))
         (did .place) (did .claims) (entryAt (now (rest .entry))) r
         (linkAt (treeIn (now (shape .entry))) (r .stand) (now (balance .exit)) (now (residual .exit)) (now (start .exit)) (now (held .exit))

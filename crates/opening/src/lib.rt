@@ -80,9 +80,11 @@ fn open_accounts(
     balance: &mut [u64; 64],
     residual: &mut [u64; 64],
 )
-    requires { ⌜ CanOpen (treeIn (now shape)) active (zipAccounts (now balance) (now residual)) × Summed (treeIn (now shape)) active (now sums) ⌝ }
+    requires { ⌜ CanOpen (treeIn (now shape)) active (zipAccounts (now balance) (now residual)) × Summed (treeIn (now shape)) active (now
+        sums) ⌝ }
     ensures { λ _. ⌜ zipAccounts (now (balance .exit)) (now (residual .exit))
-        ≡ openedAccounts (kindIs surplus) (treeIn (now (shape .entry))) active (zipAccounts (now (balance .entry)) (now (residual .entry))) ⌝ }
+        ≡ openedAccounts (kindIs surplus) (treeIn (now (shape .entry))) active (zipAccounts (now (balance .entry)) (now (residual .entry)))
+        ⌝ }
 {
     let leaves = shape::leaves(shape);
     let mut quotas = [0u64; 64];
@@ -131,7 +133,8 @@ fn is_surplus(
     balance: &[u64; 64],
     residual: &[u64; 64],
 ) -> bool
-    requires { ⌜ CanOpen (treeIn (now shape)) active (zipAccounts (now balance) (now residual)) × Summed (treeIn (now shape)) active (now sums) ⌝ }
+    requires { ⌜ CanOpen (treeIn (now shape)) active (zipAccounts (now balance) (now residual)) × Summed (treeIn (now shape)) active (now
+        sums) ⌝ }
     ensures { λ r. ⌜ kindIs r ≡ kindOf (treeIn (now (shape .entry))) active (zipAccounts (now (balance .entry)) (now (residual .entry))) ⌝ }
 {
     let last = shape::count(shape);
@@ -198,7 +201,8 @@ pub fn begin_round(
 ) -> Begun
     requires { ⌜ CanResize (treeIn (now shape)) active (size .0) (zipAccounts (now balance) (now residual))
         × Summed (treeIn (now shape)) active (now sums) ⌝ }
-    ensures { λ r. ⌜ BeginsWith (treeIn (now (shape .entry))) active (size .0) (zipAccounts (now (balance .entry)) (now (residual .entry))) r
+    ensures { λ r. ⌜ BeginsWith (treeIn (now (shape .entry))) active (size .0) (zipAccounts (now (balance .entry)) (now (residual .entry)))
+        r
         (zipAccounts (now (balance .exit)) (now (residual .exit))) ⌝ }
 {
     let surplus = is_surplus(shape, active, sums, balance, residual);
@@ -221,7 +225,8 @@ pub fn open_round(
 ) -> Bytes
     requires { ⌜ CanResize (treeIn (now shape)) active (size .0) (zipAccounts (now balance) (now residual))
         × Summed (treeIn (now shape)) active (now sums) ⌝ }
-    ensures { λ r. ⌜ OpensWith (treeIn (now (shape .entry))) active (size .0) (zipAccounts (now (balance .entry)) (now (residual .entry))) (r .0)
+    ensures { λ r. ⌜ OpensWith (treeIn (now (shape .entry))) active (size .0) (zipAccounts (now (balance .entry)) (now (residual .entry)))
+        (r .0)
         (zipAccounts (now (balance .exit)) (now (residual .exit))) ⌝ }
 {
     let begun = begin_round(shape, active, sums, size, balance, residual);

@@ -61,7 +61,8 @@ fn arrives(
         → (sound ≡ true → TakesOn (lentWaiting l (now (start .entry)) (now (held .entry)) (now (lengths .entry)) (now (tags .entry))
         (now (marks .entry)) (lentTotals (now (packets .entry)) (now (bytes .entry)) charged)))
         → ArrivesAs sound (lentWaiting l (now (start .entry)) (now (held .entry)) (now (lengths .entry)) (now (tags .entry))
-        (now (marks .entry)) (lentTotals (now (packets .entry)) (now (bytes .entry)) charged)) (arrivedWith class len tag) at (now (out .entry)) r
+        (now (marks .entry)) (lentTotals (now (packets .entry)) (now (bytes .entry)) charged)) (arrivedWith class len tag) at (now (out
+        .entry)) r
         (now (out .exit))
         (lentWaiting l (now (start .entry)) (now (held .exit)) (now (lengths .exit)) (now (tags .exit)) (now (marks .exit))
         (lentTotals (now (packets .exit)) (now (bytes .exit)) charged))) ⌝ }
@@ -122,9 +123,11 @@ fn departs(
     requires { ⌜ Told sound (linkAt (treeIn (now shape)) stand (now balance) (now residual) (now start) (now held) (now lengths) (now tags)
         (now marks) (now packets) (now bytes))
         × (sound ≡ true → Families (treeIn (now shape)) (now children) × Kept (treeIn (now shape)) (stand .known) (now kept)) ⌝ }
-    ensures { λ r. ⌜ DepartsAs sound (linkAt (treeIn (now (shape .entry))) stand (now (balance .entry)) (now (residual .entry)) (now (start .entry))
+    ensures { λ r. ⌜ DepartsAs sound (linkAt (treeIn (now (shape .entry))) stand (now (balance .entry)) (now (residual .entry)) (now (start
+        .entry))
         (now (held .entry)) (now (lengths .entry)) (now (tags .entry)) (now (marks .entry)) (now (packets .entry)) (now (bytes .entry)))
-        r (linkAt (treeIn (now (shape .entry))) (r .stand) (now (balance .exit)) (now (residual .exit)) (now (start .exit)) (now (held .exit))
+        r (linkAt (treeIn (now (shape .entry))) (r .stand) (now (balance .exit)) (now (residual .exit)) (now (start .exit)) (now (held
+        .exit))
         (now (lengths .entry)) (now (tags .entry)) (now (marks .entry)) (now (packets .exit)) (now (bytes .exit))) ⌝ }
     ensures { λ r. ⌜ (sound ≡ true → Kept (treeIn (now (shape .entry))) (r .stand .known) (now (kept .exit))) ⌝ }
 {
@@ -200,11 +203,13 @@ fn event(
     input: &[u8],
     out: &mut [u8],
 ) -> Did
-    requires { ⌜ Told (did .sound) (linkAt (treeIn (now shape)) (did .stand) (now balance) (now residual) (now start) (now held) (now lengths) (now tags)
+    requires { ⌜ Told (did .sound) (linkAt (treeIn (now shape)) (did .stand) (now balance) (now residual) (now start) (now held) (now
+        lengths) (now tags)
         (now marks) (now packets) (now bytes))
         × (did .sound ≡ true → Families (treeIn (now shape)) (now children) × Kept (treeIn (now shape)) (did .stand .known) (now kept))
         × (did .laid + lineRoom ≤ length (now out)) ⌝ }
-    ensures { λ r. ⌜ Happens (linkAt (treeIn (now (shape .entry))) (did .stand) (now (balance .entry)) (now (residual .entry)) (now (start .entry))
+    ensures { λ r. ⌜ Happens (linkAt (treeIn (now (shape .entry))) (did .stand) (now (balance .entry)) (now (residual .entry)) (now (start
+        .entry))
         (now (held .entry)) (now (lengths .entry)) (now (tags .entry)) (now (marks .entry)) (now (packets .entry)) (now (bytes .entry)))
         (now (input .entry)) (did .place) (did .laid) (now (out .entry)) r (now (out .exit))
         (linkAt (treeIn (now (shape .entry))) (r .stand) (now (balance .exit)) (now (residual .exit)) (now (start .exit)) (now (held .exit))

@@ -162,12 +162,14 @@ laid-whole t out n all is ps ws gs r rule = λ j. record {
     before : (k : ℕ) → k < 192
         → getD (set (set (set out 192 (t .count)) 193 (t .leaves)) 194 r) k 0 ≡ getD out k 0
     before k u =
-        getD-set-other (set (set out 192 (t .count)) 193 (t .leaves)) 194 k r 0 (λ e. omega (arith, e, u)) ∙ getD-set-other (set out 192 (t .count)) 193 k (t .leaves) 0 (λ e. omega (arith, e, u))
+        getD-set-other (set (set out 192 (t .count)) 193 (t .leaves)) 194 k r 0 (λ e. omega (arith, e, u)) ∙ getD-set-other (set out 192 (t
+        .count)) 193 k (t .leaves) 0 (λ e. omega (arith, e, u))
         ∙ getD-set-other out 192 k (t .count) 0 (λ e. omega (arith, e, u))
 
     count : getD (set (set (set out 192 (t .count)) 193 (t .leaves)) 194 r) 192 0 ≡ t .count
     count =
-        getD-set-other (set (set out 192 (t .count)) 193 (t .leaves)) 194 192 r 0 (λ e. omega (arith, e)) ∙ getD-set-other (set out 192 (t .count)) 193 192 (t .leaves) 0 (λ e. omega (arith, e))
+        getD-set-other (set (set out 192 (t .count)) 193 (t .leaves)) 194 192 r 0 (λ e. omega (arith, e)) ∙ getD-set-other (set out 192 (t
+        .count)) 193 192 (t .leaves) 0 (λ e. omega (arith, e))
         ∙ getD-set-same out 192 (t .count) 0 (omega (arith, is .long))
 
     leaves : getD (set (set (set out 192 (t .count)) 193 (t .leaves)) 194 r) 193 0 ≡ t .leaves

@@ -39,7 +39,11 @@ use Rattle.steps.specs.Rounds.{InFields, Kept, Unseen, Opens, closedLink
 
 -- no set is known, and no weight sums are kept
 pub none-kept : (t : Tree) (kept : List ℕ) → length kept ≡ 64 → PlanRules t → Kept t 0 kept
-none-kept t kept wide rules = record { wide = wide; raised = raised-none t rules; sums = λ on. absurd (not-true-and-false on (has-empty 0)) }
+none-kept t kept wide rules = record {
+  wide = wide;
+  raised = raised-none t rules;
+  sums = λ on. absurd (not-true-and-false on (has-empty 0));
+}
 
 -- the active set of a round is known, and its weight sums are kept
 pub round-kept : (t : Tree) (held kept : List ℕ) (active known : ℕ) → PlanRules t → active ≡ upward t (holdsSome t held) → known ≡ active

@@ -64,8 +64,11 @@ loop-again c =
     let h = g .before in
     let st = h .before .before in
     let l : 1 ≤ h .loop .i = omega (arith, g .loop-test .taken) in
-    let step = marks-step (treeAt st) (st .pre .0) (has (st .args .waiting)) (h .loop .active) (h .loop .i) l in
-    (omega arith, rw (c .with-if .ensures, b .before .parent .ensures) (step (h .loop .inv .0) (h .loop .inv .1) (b .has .result) (b .has .ensures)))
+    let step = marks-step (treeAt st) (st .pre .0) (has (st .args .waiting)) (h .loop .active) (h .loop .i) l in (
+      omega arith,
+      rw (c .with-if .ensures, b .before .parent .ensures) (step (h .loop .inv .0) (h .loop .inv .1) (b .has .result) (b .has
+          .ensures)),
+    )
 
 returns : tie.Need-returns Inv-loop μ-loop
 returns c =

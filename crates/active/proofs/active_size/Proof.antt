@@ -1,4 +1,5 @@
--- `active::active_size` meets its contract: class by class upward, each active one adds its weight, and a leaf what its longest packet costs.
+-- `active::active_size` meets its contract: class by class upward, each active one adds its weight, and a leaf what its longest packet
+-- costs.
 use mathlib.Core.Bool.{Bool, cond}
 use mathlib.Core.Path.{_≡_, refl, ap, ap₂, _∙_}
 use Prim.Native.Nat.{ℕ, _+_, _-_, _*_, _≤_, _<_}
@@ -32,7 +33,8 @@ module _ (t : Tree) (active : ℕ) where
   unfolding ifActive
   weighs-more i l = sum-step _ i l
 
-  costs-more : (i : ℕ) → 1 ≤ i → costs (i + 1 - 1) ≡ costs (i - 1) + cond (has active i) (cond (has (t .leaves) i) (costOf (longestOf t i)) 0) 0
+  costs-more : (i : ℕ) → 1 ≤ i → costs (i + 1 - 1) ≡ costs (i - 1) + cond (has active i) (cond (has (t .leaves) i) (costOf (longestOf t i))
+      0) 0
   unfolding ifActive longestCost isLeaf
   costs-more i l = sum-step _ i l
 

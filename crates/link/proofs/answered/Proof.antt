@@ -15,7 +15,8 @@ since-requires : tie.Need-since-requires
 since-requires c κs = search needs
 
 returns-2 : tie.Need-returns-2
-returns-2 c = rw (not-false (c .before .before .before .before .before .args .went .some) (c .before .before .before .if1 .left)) (rw (c .since .ensures) refl)
+returns-2 c = rw (not-false (c .before .before .before .before .before .args .went .some) (c .before .before .before .if1 .left)) (rw (c
+    .since .ensures) refl)
 
 pub answered-spec : {M : Type 1} → statement M
 answered-spec = tie.close (tie.spec refused-requires returns since-requires returns-2)

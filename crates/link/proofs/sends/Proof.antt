@@ -28,29 +28,40 @@ residuals-requires c κs = search needs
 send-requires : tie.Need-send-requires
 send-requires c κs =
     let s = c .before .before .before .before .before .before .before .before .before .before .before .before .before .before .before in
-    let st = c .before .before .before .before .before .before .before .before .before .before .before .before .before .before .before .before in
+    let st = c .before .before .before .before .before .before .before .before .before .before .before .before .before .before .before
+    .before in
     let b = c .before .before .before .before .before .before .before .before .before .before .before .before in
     let r = c .before .before .before .before .before .before .before .before .before .before .before in
-    let fields = values-fields _ (s .shape-of .ensures) (many st) (st .pre) _ _ (b .balances .ensures) (r .residuals .ensures) in
-    (fields, c .before .before .before .before .before .before .before .before .before .before .before .before .before .families .ensures, none-kept _ _ refl (fields .sound .state .fits .tree))
+    let fields = values-fields _ (s .shape-of .ensures) (many st) (st .pre) _ _ (b .balances .ensures) (r .residuals .ensures) in (
+      fields,
+      c .before .before .before .before .before .before .before .before .before .before .before .before .before .families .ensures,
+      none-kept _ _ refl (fields .sound .state .fits .tree),
+    )
 
 zipped-requires : tie.Need-zipped-requires
 zipped-requires c κs =
-    let s = c .before .before .before .before .before .before .before .before .before .before .before .before .before .before .before .before .before .before in
-    let st = c .before .before .before .before .before .before .before .before .before .before .before .before .before .before .before .before .before .before .before in
+    let s = c .before .before .before .before .before .before .before .before .before .before .before .before .before .before .before
+    .before .before .before in
+    let st = c .before .before .before .before .before .before .before .before .before .before .before .before .before .before .before
+    .before .before .before .before in
     let b = c .before .before .before .before .before .before .before .before .before .before .before .before .before .before .before in
     let r = c .before .before .before .before .before .before .before .before .before .before .before .before .before .before in
-    values-wide _ (s .shape-of .ensures) (many st) (st .pre) _ _ (b .balances .ensures) (r .residuals .ensures) _ (c .before .before .send .ensures .0)
+    values-wide _ (s .shape-of .ensures) (many st) (st .pre) _ _ (b .balances .ensures) (r .residuals .ensures) _ (c .before .before .send
+    .ensures .0)
 
 answered-requires : tie.Need-answered-requires
 answered-requires c κs = search needs
 
 returns : tie.Need-returns
 returns c =
-    let s = c .before .before .before .before .before .before .before .before .before .before .before .before .before .before .before .before .before .before .before .before .before .before in
-    let st = c .before .before .before .before .before .before .before .before .before .before .before .before .before .before .before .before .before .before .before .before .before .before .before in
-    let b = c .before .before .before .before .before .before .before .before .before .before .before .before .before .before .before .before .before .before .before in
-    let r = c .before .before .before .before .before .before .before .before .before .before .before .before .before .before .before .before .before .before in
+    let s = c .before .before .before .before .before .before .before .before .before .before .before .before .before .before .before
+    .before .before .before .before .before .before .before in
+    let st = c .before .before .before .before .before .before .before .before .before .before .before .before .before .before .before
+    .before .before .before .before .before .before .before .before in
+    let b = c .before .before .before .before .before .before .before .before .before .before .before .before .before .before .before
+    .before .before .before .before in
+    let r = c .before .before .before .before .before .before .before .before .before .before .before .before .before .before .before
+    .before .before .before in
     let w = c .before .before .before .before .before .before in
     rw (c .answered .ensures)
     (departs-answers _ (w .send .result) _ refl

@@ -63,7 +63,8 @@ shared : (c : tie.After-resize)
     (c .before .before .before .before .before .before .before .args .active)
     (zipAccounts (c .before .before .before .before .before .before .before .args .balance .now)
     (c .before .before .before .before .before .before .before .args .residual .now)))
-    (treeIn (c .before .before .before .before .before .before .before .args .shape .now)) (c .before .before .before .before .before .before .before
+    (treeIn (c .before .before .before .before .before .before .before .args .shape .now)) (c .before .before .before .before .before
+    .before .before
     .args .active)
     (c .before .before .before .before .before .before .before .args .size .0))
     (zipAccounts (c .before .before .before .before .before .before .before .args .balance .now)
@@ -84,7 +85,8 @@ returns c =
     let a = s .before .before .before .args in
     record {
       kind-is = s .is-surplus .ensures;
-      size-is = n .size-after .ensures ∙ ap (λ (x : Kind). sizeIn x (treeIn (a .shape .now)) (a .active) (a .size .0)) (s .is-surplus .ensures);
+      size-is = n .size-after .ensures ∙ ap (λ (x : Kind). sizeIn x (treeIn (a .shape .now)) (a .active) (a .size .0)) (s .is-surplus
+          .ensures);
       accounts-are = shared c;
     }
 

@@ -98,10 +98,15 @@ element-copy-out-t17 : tie.Need-element-copy-out-t17 Inv-loop μ-loop
 element-copy-out-t17 c = low (c .before .before)
 
 account-of-requires : tie.Need-account-of-requires Inv-loop μ-loop
-account-of-requires c κs = (low (c .before .before .before), c .before .before .before .before .before .before .before .before .before .pre .0 .many)
+account-of-requires c κs = (
+  low (c .before .before .before),
+  c .before .before .before .before .before .before .before .before .before .pre
+      .0 .many,
+)
 
 class-surplus-requires : tie.Need-class-surplus-requires Inv-loop μ-loop
-class-surplus-requires c κs = rw (c .account-of .ensures) (c .before .before .before .before .before .before .before .before .before .before .pre .0 .small (c .before .before .before .before .before .loop .i) (low (c .before .before .before .before)))
+class-surplus-requires c κs = rw (c .account-of .ensures) (c .before .before .before .before .before .before .before .before .before
+    .before .pre .0 .small (c .before .before .before .before .before .loop .i) (low (c .before .before .before .before)))
 
 returns : tie.Need-returns Inv-loop μ-loop
 unfolding kindOf
@@ -131,7 +136,13 @@ returns-2 c =
     let st = start-of h in
     let t = treeAt st in
     let f = hasSurplus t (st .args .active) (zipAccounts (st .args .balance .now) (st .args .residual .now)) in
-    sym (ap (λ (b : Bool). cond b surplus main) (some-never f (t .count) (λ k l m. h .loop .inv .2 k l (omega (arith, m, c .loop-test .left, h .before .before .before .before .count .ensures)))))
+    sym (ap (λ (b : Bool). cond b surplus main) (some-never f (t .count) (λ k l m. h .loop .inv .2 k l (omega (
+      arith,
+      m,
+      c .loop-test
+          .left,
+      h .before .before .before .before .count .ensures,
+    )))))
 
 pub is-surplus-spec : {M : Type 1} → statement M
 is-surplus-spec =

@@ -98,7 +98,11 @@ parent-requires : tie.Need-parent-requires Inv-loop μ-loop
 parent-requires c κs = omega (arith, c .loop-test .taken)
 
 weight-requires : tie.Need-weight-requires Inv-loop μ-loop
-weight-requires c κs = (c .before .before .before .before .before .before .before .before .before .before .before .before .before .pre .0 .rules, omega (arith, c .before .loop-test .taken))
+weight-requires c κs = (
+  c .before .before .before .before .before .before .before .before .before .before .before .before .before .pre .0
+      .rules,
+  omega (arith, c .before .loop-test .taken),
+)
 
 mul-due : tie.Need-mul-due Inv-loop μ-loop
 mul-due c = omega (arith, up (c .before .before), c .before .parent .ensures)
@@ -107,7 +111,12 @@ array-read-due : tie.Need-array-read-due Inv-loop μ-loop
 array-read-due c = omega (arith, up (c .before .before), c .before .parent .ensures)
 
 due-requires : tie.Need-due-requires Inv-loop μ-loop
-due-requires c κs = omega (arith, light (c .before .before), due-is (c .before .before) _ _ (c .weight .ensures) (c .before .parent .ensures))
+due-requires c κs = omega (
+  arith,
+  light (c .before .before),
+  due-is (c .before .before) _ _ (c .weight .ensures) (c .before .parent
+      .ensures),
+)
 
 has-requires : tie.Need-has-requires Inv-loop μ-loop
 has-requires c κs = omega (arith, c .before .before .before .loop-test .taken)
@@ -145,10 +154,18 @@ array-write-quotas-2 : tie.Need-array-write-quotas-2 Inv-loop μ-loop
 array-write-quotas-2 c = omega (arith, c .before .before .before .before .before .before .before .before .before .before .loop-test .taken)
 
 keep-requires-2 : tie.Need-keep-requires-2 Inv-loop μ-loop
-keep-requires-2 c κs = omega (arith, c .before .before .before .before .before .before .before .before .before .before .before .before .before .loop-test .taken)
+keep-requires-2 c κs = omega (
+  arith,
+  c .before .before .before .before .before .before .before .before .before .before .before .before
+      .before .loop-test .taken,
+)
 
 add-i : tie.Need-add-i Inv-loop μ-loop
-add-i c = omega (arith, c .before .before .before .before .before .before .before .before .before .before .before .before .before .before .loop-test .taken)
+add-i c = omega (
+  arith,
+  c .before .before .before .before .before .before .before .before .before .before .before .before .before .before
+      .loop-test .taken,
+)
 
 loop-less : tie.Need-loop-less Inv-loop μ-loop
 loop-less c = search needs
@@ -164,7 +181,9 @@ loop-again c =
     let g = q .before in
     let h = g .before in
     let st = start-of h in
-    let leaf = f .has2 .ensures ∙ ap (λ (s : ℕ). has s (h .loop .i)) (c .before .before .before .before .before .before .before .before .before .before .before .before .before .before .before .before .before .before .before .before .before .before .before .before .before .leaves .ensures) in
+    let leaf = f .has2 .ensures ∙ ap (λ (s : ℕ). has s (h .loop .i)) (c .before .before .before .before .before .before .before .before
+    .before .before .before .before .before .before .before .before .before .before .before .before .before .before .before .before
+    .before .leaves .ensures) in
     let due = d .due .ensures ∙ due-is g _ _ (d .before .weight .ensures) (q .parent .ensures) in (
       omega arith,
       omega (arith, g .loop-test .taken),

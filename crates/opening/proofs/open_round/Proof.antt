@@ -14,8 +14,10 @@ begin-round-requires c κs = c .before .before .pre
 open-accounts-requires : tie.Need-open-accounts-requires
 open-accounts-requires c κs =
     let b = c .before .before .before in
-    let st = b .before .before .before in
-    (subst (CanOpen (treeIn (st .args .shape .now)) (st .args .active)) (sym (b .begin-round .ensures .accounts-are)) (st .pre .0 .after), st .pre .1)
+    let st = b .before .before .before in (
+      subst (CanOpen (treeIn (st .args .shape .now)) (st .args .active)) (sym (b .begin-round .ensures .accounts-are)) (st .pre .0 .after),
+      st .pre .1,
+    )
 
 returns : tie.Need-returns
 returns c =
@@ -29,7 +31,8 @@ returns c =
       accounts-are =
           c .open-accounts .ensures
           ∙ ap (openedAccounts (kindIs (b .begin-round .result .surplus)) (treeIn (a .shape .now)) (a .active)) (begun .accounts-are)
-          ∙ ap (λ (x : Kind). openedAccounts x (treeIn (a .shape .now)) (a .active) (resized k (a .size .0) (sizeIn k (treeIn (a .shape .now)) (a .active) (a .size .0))
+          ∙ ap (λ (x : Kind). openedAccounts x (treeIn (a .shape .now)) (a .active) (resized k (a .size .0) (sizeIn k (treeIn (a .shape
+          .now)) (a .active) (a .size .0))
           xs))
           (begun .kind-is);
     }

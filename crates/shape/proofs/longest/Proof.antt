@@ -16,7 +16,12 @@ element-copy-out-result : tie.Need-element-copy-out-result
 element-copy-out-result c = search needs
 
 cast-result : tie.Need-cast-result
-cast-result c = omega (arith, longest-in (c .before .args .shape .now) (c .before .args .class) (c .before .pre .1), longest-fits _ (c .before .pre .0) (c .before .args .class) (c .before .pre .1))
+cast-result c = omega (
+  arith,
+  longest-in (c .before .args .shape .now) (c .before .args .class) (c .before .pre .1),
+  longest-fits _ (c
+      .before .pre .0) (c .before .args .class) (c .before .pre .1),
+)
 
 returns : tie.Need-returns
 returns c = sym (longest-in (c .before .args .shape .now) (c .before .args .class) (c .before .pre .1))

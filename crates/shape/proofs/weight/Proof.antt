@@ -16,7 +16,12 @@ element-copy-out-t7 : tie.Need-element-copy-out-t7
 element-copy-out-t7 c = search needs
 
 cast-t8 : tie.Need-cast-t8
-cast-t8 c = omega (arith, weight-in (c .before .args .shape .now) (c .before .args .class) (c .before .pre .1), weight-fits _ (c .before .pre .0) (c .before .args .class) (c .before .pre .1))
+cast-t8 c = omega (
+  arith,
+  weight-in (c .before .args .shape .now) (c .before .args .class) (c .before .pre .1),
+  weight-fits _ (c .before
+      .pre .0) (c .before .args .class) (c .before .pre .1),
+)
 
 returns : tie.Need-returns
 returns c = sym (weight-in (c .before .args .shape .now) (c .before .args .class) (c .before .pre .1))

@@ -29,7 +29,8 @@ returns : tie.Need-returns
 returns c =
     let n = c .before in (
       λ tags marks totals s.
-          now-finds _ _ s _ _ (n .next-leaf .ensures _ (fields-searched _ _ (s .fields) _ (searched (c .before .before .before)))) (c .if1 .taken),
+          now-finds _ _ s _ _ (n .next-leaf .ensures _ (fields-searched _ _ (s .fields) _ (searched (c .before .before .before)))) (c .if1
+          .taken),
       c .before .before .before .before .before .before .pre .1,
     )
 

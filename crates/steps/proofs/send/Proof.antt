@@ -45,7 +45,8 @@ returns-2 c =
     let g = c .before in
     let n = c .before .before .before .before .before .before .before .before in
     let i = c .before .before .before .before .before .before .before .before .before .before .before .before .before .before in
-    let st = c .before .before .before .before .before .before .before .before .before .before .before .before .before .before .before .before in
+    let st = c .before .before .before .before .before .before .before .before .before .before .before .before .before .before .before
+    .before in
     let going = going-on (st .args .stand) _ _ (st .pre .0) (i .if1 .left) in
     let found = n .next-sender .ensures .0 _ _ _ going in
     let gone = g .goes .ensures _ _ (then-goes _ _ (n .next-sender .result) _ _ found) in

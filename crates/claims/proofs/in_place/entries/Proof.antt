@@ -51,10 +51,12 @@ handed s k = take-all (length s - k) (drop k s) (omega (arith, length-drop k s))
 
 -- where the link was handed in, and the tree as its numbers
 abbrev first : tie.After-goes-on Inv-loop μ-loop → tie.Start Inv-loop μ-loop
-first o = o .before .before .before .before .before .before .before .before .before .before .before .before .before .before .before .before .before .before
+first o = o .before .before .before .before .before .before .before .before .before .before .before .before .before .before .before .before
+    .before .before
 
 abbrev treeAt : tie.After-goes-on Inv-loop μ-loop → Tree
-treeAt o = treeIn (o .before .before .before .before .before .before .before .before .before .before .before .before .before .before .before .shape-of .result)
+treeAt o = treeIn (o .before .before .before .before .before .before .before .before .before .before .before .before .before .before
+    .before .shape-of .result)
 
 lawful : (s : tie.After-shape-of Inv-loop μ-loop) → PlanRules (treeIn (s .shape-of .result))
 lawful s = subst PlanRules (sym (s .shape-of .ensures)) (s .before .before .before .pre .0 .state .fits .tree)
@@ -63,7 +65,8 @@ lawful s = subst PlanRules (sym (s .shape-of .ensures)) (s .before .before .befo
 abbrev apartAt : tie.After-goes-on Inv-loop μ-loop → Stand → Link
 apartAt o stand =
     let l = first o .args .link in
-    linkAt (treeAt o) stand (o .before .before .before .before .before .before .before .before .before .before .before .balances .result) (o .before .before .before .before .before .before .before .before .before .before .residuals .result)
+    linkAt (treeAt o) stand (o .before .before .before .before .before .before .before .before .before .before .before .balances .result)
+    (o .before .before .before .before .before .before .before .before .before .before .residuals .result)
     (l .start) (l .held) (l .lengths) (l .tags) (l .marks) (l .totals .packets) (l .totals .bytes)
 
 abbrev apart : tie.After-goes-on Inv-loop μ-loop → Did → Link
@@ -73,8 +76,10 @@ whole : (o : tie.After-goes-on Inv-loop μ-loop) → apart o (o .goes-on .result
 whole o =
     let st = first o in
     ap (apart o) (o .goes-on .ensures)
-    ∙ apart-is (st .args .link) (treeAt o) _ _ (o .before .before .before .before .before .before .before .before .before .before .before .before .before .before .before .shape-of .ensures)
-    (shaped (st .args .link) _ (st .good .0)) (o .before .before .before .before .before .before .before .before .before .before .before .balances .ensures)
+    ∙ apart-is (st .args .link) (treeAt o) _ _ (o .before .before .before .before .before .before .before .before .before .before .before
+    .before .before .before .before .shape-of .ensures)
+    (shaped (st .args .link) _ (st .good .0)) (o .before .before .before .before .before .before .before .before .before .before .before
+    .balances .ensures)
     (o .before .before .before .before .before .before .before .before .before .before .residuals .ensures)
 
 starts : (c : tie.After-goes-on Inv-loop μ-loop)
@@ -140,7 +145,8 @@ loop-holds c =
     let a = st .args in (
       loop-starts (a .last) (a .link) (a .place) (a .claims) (now (a .part)) _ (starts c) (st .pre .0),
       subst Shaped (sym (whole c)) (shaped (a .link) _ (st .good .0)),
-      subst (λ (d : Did). Kept (treeAt c) (d .stand .known) _) (sym (c .goes-on .ensures)) (none-kept _ _ refl (lawful (c .before .before .before .before .before .before .before .before .before .before .before .before .before .before .before))),
+      subst (λ (d : Did). Kept (treeAt c) (d .stand .known) _) (sym (c .goes-on .ensures)) (none-kept _ _ refl (lawful (c .before .before
+          .before .before .before .before .before .before .before .before .before .before .before .before .before))),
     )
 
 sub-takes-one : tie.Need-sub-takes-one Inv-loop μ-loop
@@ -156,17 +162,20 @@ sub-at : tie.Need-sub-at Inv-loop μ-loop
 sub-at c = c .before .before .before .before .loop .inv .0 .forward
 
 sub-entry : tie.Need-sub-entry Inv-loop μ-loop
-sub-entry c = let i = c .before .before .before .before .before .before .before .before .before .before .before .before .before .before .before .before .loop .inv .0 in omega (arith, i .forward, i .within)
+sub-entry c = let i = c .before .before .before .before .before .before .before .before .before .before .before .before .before .before
+    .before .before .loop .inv .0 in omega (arith, i .forward, i .within)
 
 part-entry-start : tie.Need-part-entry-start Inv-loop μ-loop
-part-entry-start c = let i = c .before .before .before .before .before .before .before .before .before .before .before .before .before .before .before .before .loop .inv .0 in omega (arith, i .forward, i .within)
+part-entry-start c = let i = c .before .before .before .before .before .before .before .before .before .before .before .before .before
+    .before .before .before .loop .inv .0 in omega (arith, i .forward, i .within)
 
 part-entry-end : tie.Need-part-entry-end Inv-loop μ-loop
 part-entry-end c = search needs
 
 entry-requires : tie.Need-entry-requires Inv-loop μ-loop
 entry-requires c κs =
-    let h = c .before .before .before .before .before .before .before .before .before .before .before .before .before .before .before .before .before in
+    let h = c .before .before .before .before .before .before .before .before .before .before .before .before .before .before .before
+    .before .before in
     let st = begun h in
     let s = now (st .args .part) in
     let i = h .loop .inv .0 in
@@ -175,7 +184,9 @@ entry-requires c κs =
       record { sound = i .sound; shape = h .loop .inv .1 },
       rw follow (omega (arith, i .forward, i .within, st .pre .1, many)),
       rw follow (omega (arith, i .forward, i .within, i .counted, st .pre .2, many)),
-      c .before .before .before .before .before .before .before .before .before .before .before .before .before .before .before .before .before .before .before .before .before .before .before .before .before .before .before .before .before .before .before .families .ensures,
+      c .before .before .before .before .before .before .before .before .before .before .before .before .before .before .before .before
+          .before .before .before .before .before .before .before .before .before .before .before .before .before .before .before .families
+          .ensures,
       h .loop .inv .2,
     )
 
@@ -212,7 +223,8 @@ returns c =
     let Done : Link → Type 0 = λ after. PartDone (a .last) (a .link) (a .place) (a .claims) (now (a .part))
     (checkedBy (h .loop .s) after) in
     rw (c .before .before .zipped .ensures)
-    (subst (λ (t : Tree). Done (linkNow h t)) (c .before .before .before .before .before .before .before .before .before .before .before .before .before .before .before .before .before .before .before .before .before .before .before .before .shape-of .ensures)
+    (subst (λ (t : Tree). Done (linkNow h t)) (c .before .before .before .before .before .before .before .before .before .before .before
+    .before .before .before .before .before .before .before .before .before .before .before .before .before .shape-of .ensures)
     (loop-ends (a .last) (a .link) (a .place) (a .claims) (now (a .part)) _ (sofar h) (starts (h .before)) (h .loop .inv .0)
     (sym (test-same (a .last) (a .place) (now (a .part)) (sofar h)) ∙ sym (x .before .takes-one .ensures) ∙ x .if1 .left)))
 

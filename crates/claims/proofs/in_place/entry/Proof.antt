@@ -60,14 +60,16 @@ enum-known-read-2 c = search needs
 
 send-requires : tie.Need-send-requires
 send-requires c κs =
-    let pre = c .before .before .before .before .before .before .before .before .before .before .before .before .before .before .before .before .pre in
+    let pre = c .before .before .before .before .before .before .before .before .before .before .before .before .before .before .before
+    .before .pre in
     (record { sound = pre .0 .sound; wide = pre .0 .shape .accounts }, pre .3, pre .4)
 
 compared-requires : tie.Need-compared-requires
 compared-requires c κs =
     let v = c .before .before .before .before .before .before .before .before .before .before .before .before in
     let g = c .before .before .before .before .before .before .before .before .before .before .before .before .before .before in
-    let st = c .before .before .before .before .before .before .before .before .before .before .before .before .before .before .before .before .before in
+    let st = c .before .before .before .before .before .before .before .before .before .before .before .before .before .before .before
+    .before .before in
     let w = within-by (now (st .args .rest)) (Claims (v .read2 .given .0 .0)) (sym (g .read-entry .ensures) ∙ v .read2 .given .1) in
     (omega (arith, w, st .pre .1), omega (arith, w, st .pre .2))
 
@@ -107,12 +109,14 @@ returns-2 c =
     let k = c .before in
     let v = c .before .before .before .before .before .before .before .before .before .before .before in
     let g = c .before .before .before .before .before .before .before .before .before .before .before .before .before in
-    let st = c .before .before .before .before .before .before .before .before .before .before .before .before .before .before .before .before in
+    let st = c .before .before .before .before .before .before .before .before .before .before .before .before .before .before .before
+    .before in
     let d = st .args .did in
     let on = st .pre .0 in
     rw (c .goes-on .ensures) (
       arrival-in-place (whole st) (d .place) (d .claims) (now (st .args .rest)) (on .sound) (on .shape) (v .read .given .0 .0)
-          (k .arrive .result) _ _ (d .stand) (sym (g .read-entry .ensures) ∙ v .read .given .1) (c .before .before .before .before .before .before .before .before .before .wide .ensures)
+          (k .arrive .result) _ _ (d .stand) (sym (g .read-entry .ensures) ∙ v .read .given .1) (c .before .before .before .before .before
+          .before .before .before .before .wide .ensures)
           (k .arrive .ensures (whole st) refl (λ is. record { sound = on .sound; wide = on .shape .bytes })),
       st .pre .4,
     )
@@ -122,7 +126,8 @@ returns-3 c =
     let w = c .before in
     let v = c .before .before .before .before .before .before .before .before .before .before .before .before .before in
     let g = c .before .before .before .before .before .before .before .before .before .before .before .before .before .before .before in
-    let st = c .before .before .before .before .before .before .before .before .before .before .before .before .before .before .before .before .before .before in
+    let st = c .before .before .before .before .before .before .before .before .before .before .before .before .before .before .before
+    .before .before .before in
     let d = st .args .did in
     let on = st .pre .0 in
     rw (c .compared .ensures) (

@@ -49,7 +49,8 @@ returns-2 c =
     let lay = c .before .before in
     let n = c .before .before .before .before in
     let v = c .before .before .before .before .before .before .before in
-    let a = c .before .before .before .before .before .before .before .before .before .before .before .before .before .before .before .args in
+    let a = c .before .before .before .before .before .before .before .before .before .before .before .before .before .before .before .args
+    in
     λ l same takes.
     arrives-in-place (a .sound) _ (arrivedWith (a .class) (a .len) (a .tag)) (v .arrive .result) (n .arrival-line .result) (a .at) _ _ _ _
     (v .arrive .ensures l same takes) (n .arrival-line .ensures) (lay .lay-at .ensures)

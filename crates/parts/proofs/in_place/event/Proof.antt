@@ -59,7 +59,8 @@ enum-known-read c = search needs
 
 arrives-requires : tie.Need-arrives-requires
 arrives-requires c κs =
-    let st = c .before .before .before .before .before .before .before .before .before .before .before .before .before .before .before .before in
+    let st = c .before .before .before .before .before .before .before .before .before .before .before .before .before .before .before
+    .before in
     (λ on. let sound = st .pre .0 .exactly .sound on in (sound .state .fits .tree, sound-climbs (whole st) sound), st .pre .2)
 
 outcome-requires-2 : tie.Need-outcome-requires-2
@@ -69,10 +70,12 @@ enum-told-2 : tie.Need-enum-told-2
 enum-told-2 c = search needs
 
 departs-requires : tie.Need-departs-requires
-departs-requires c κs = let st = c .before .before .before .before .before .before .before .before .before .before .before .before .before .before .before .before .before in (st .pre .0, st .pre .1)
+departs-requires c κs = let st = c .before .before .before .before .before .before .before .before .before .before .before .before .before
+    .before .before .before .before in (st .pre .0, st .pre .1)
 
 lay-went-requires : tie.Need-lay-went-requires
-lay-went-requires c κs = c .before .before .before .before .before .before .before .before .before .before .before .before .before .before .before .before .before .before .before .pre .2
+lay-went-requires c κs = c .before .before .before .before .before .before .before .before .before .before .before .before .before .before
+    .before .before .before .before .before .pre .2
 
 outcome-requires-3 : tie.Need-outcome-requires-3
 outcome-requires-3 c κs = search needs
@@ -114,8 +117,10 @@ returns-2 c =
     let lay = c .before .before .before in
     let v = c .before .before .before .before .before .before .before .before .before .before .before .before .before in
     let u = c .before .before .before .before .before .before .before .before .before .before .before .before .before .before .before in
-    let g = c .before .before .before .before .before .before .before .before .before .before .before .before .before .before .before .before in
-    let st = c .before .before .before .before .before .before .before .before .before .before .before .before .before .before .before .before .before .before .before .before in
+    let g = c .before .before .before .before .before .before .before .before .before .before .before .before .before .before .before
+    .before in
+    let st = c .before .before .before .before .before .before .before .before .before .before .before .before .before .before .before
+    .before .before .before .before .before in
     let a = st .args in
     let d = a .did in
     let told = st .pre .0 in
@@ -134,10 +139,14 @@ returns-3 : tie.Need-returns-3
 returns-3 c =
     let lay = c .before .before .before in
     let w = c .before .before .before .before .before in
-    let v = c .before .before .before .before .before .before .before .before .before .before .before .before .before .before .before .before in
-    let u = c .before .before .before .before .before .before .before .before .before .before .before .before .before .before .before .before .before .before in
-    let g = c .before .before .before .before .before .before .before .before .before .before .before .before .before .before .before .before .before .before .before in
-    let st = c .before .before .before .before .before .before .before .before .before .before .before .before .before .before .before .before .before .before .before .before .before .before .before in
+    let v = c .before .before .before .before .before .before .before .before .before .before .before .before .before .before .before
+    .before in
+    let u = c .before .before .before .before .before .before .before .before .before .before .before .before .before .before .before
+    .before .before .before in
+    let g = c .before .before .before .before .before .before .before .before .before .before .before .before .before .before .before
+    .before .before .before .before in
+    let st = c .before .before .before .before .before .before .before .before .before .before .before .before .before .before .before
+    .before .before .before .before .before .before .before .before in
     let a = st .args in
     let d = a .did in
     let told = st .pre .0 in

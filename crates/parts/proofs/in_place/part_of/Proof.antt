@@ -45,16 +45,20 @@ abbrev μ-loop : tie.MeasureT-loop
 
 -- where the link was handed in, the tree as its numbers, and where the part begins
 abbrev first : tie.After-outcome Inv-loop μ-loop → tie.Start Inv-loop μ-loop
-first o = o .before .before .before .before .before .before .before .before .before .before .before .before .before .before .before .before .before .before .before .before .before .before .before
+first o = o .before .before .before .before .before .before .before .before .before .before .before .before .before .before .before .before
+    .before .before .before .before .before .before .before
 
 abbrev treeAt : tie.After-outcome Inv-loop μ-loop → Tree
-treeAt o = treeIn (o .before .before .before .before .before .before .before .before .before .before .before .before .before .before .before .before .before .before .before .shape-of .result)
+treeAt o = treeIn (o .before .before .before .before .before .before .before .before .before .before .before .before .before .before
+    .before .before .before .before .before .shape-of .result)
 
 abbrev beginsAt : tie.After-outcome Inv-loop μ-loop → Stand → Link
 beginsAt o stand =
     let l = first o .args .link in
-    linkAt (treeAt o) stand (o .before .before .before .before .before .before .before .before .before .before .before .before .before .before .before .balances .result)
-    (o .before .before .before .before .before .before .before .before .before .before .before .before .before .before .residuals .result) (l .start) (l .held) (l .lengths) (l .tags) (l .marks) (l .totals .packets)
+    linkAt (treeAt o) stand (o .before .before .before .before .before .before .before .before .before .before .before .before .before
+    .before .before .balances .result)
+    (o .before .before .before .before .before .before .before .before .before .before .before .before .before .before .residuals .result)
+    (l .start) (l .held) (l .lengths) (l .tags) (l .marks) (l .totals .packets)
     (l .totals .bytes)
 
 abbrev begins : tie.After-outcome Inv-loop μ-loop → Link
@@ -75,8 +79,10 @@ standAt o =
 taken-apart : (o : tie.After-outcome Inv-loop μ-loop) → beginsAt o (standAt o) ≡ first o .args .link
 taken-apart o =
     let st = first o in
-    apart-is (st .args .link) (treeAt o) _ _ (o .before .before .before .before .before .before .before .before .before .before .before .before .before .before .before .before .before .before .before .shape-of .ensures)
-    (shaped (st .args .link) _ (st .good .1 .0)) (o .before .before .before .before .before .before .before .before .before .before .before .before .before .before .before .balances .ensures)
+    apart-is (st .args .link) (treeAt o) _ _ (o .before .before .before .before .before .before .before .before .before .before .before
+    .before .before .before .before .before .before .before .before .shape-of .ensures)
+    (shaped (st .args .link) _ (st .good .1 .0)) (o .before .before .before .before .before .before .before .before .before .before .before
+    .before .before .before .before .balances .ensures)
     (o .before .before .before .before .before .before .before .before .before .before .before .before .before .before .residuals .ensures)
 
 apart : (o : tie.After-outcome Inv-loop μ-loop) → begins o ≡ first o .args .link
@@ -125,7 +131,11 @@ residuals-requires : tie.Need-residuals-requires Inv-loop μ-loop
 residuals-requires c κs = search needs
 
 sums-now-requires : tie.Need-sums-now-requires Inv-loop μ-loop
-sums-now-requires c κs = (lawful (c .before .before .before .before .before .before .before .before .before .before .before .before .before .before .before .before), refl)
+sums-now-requires c κs = (
+  lawful (c .before .before .before .before .before .before .before .before .before .before .before .before .before
+      .before .before .before),
+  refl,
+)
 
 outcome-requires : tie.Need-outcome-requires Inv-loop μ-loop
 outcome-requires c κs = search needs
@@ -150,16 +160,25 @@ event-requires c κs =
     let h = c .before .before .before .before .before .before .before .before .before .before .before .before .before .before .before in
     let same = h .loop .inv .2 in (
       record { exactly = rw same (as-sound h); shape = h .loop .inv .1 },
-      λ on. (c .before .before .before .before .before .before .before .before .before .before .before .before .before .before .before .before .before .before .before .before .before .before .before .before .before .before .before .before .before .before .before .before .before .children-of .ensures (sym same ∙ on), h .loop .inv .3 (sym same ∙ on)),
+      λ on. (
+        c .before .before .before .before .before .before .before .before .before .before .before .before .before .before .before
+            .before .before .before .before .before .before .before .before .before .before .before .before .before .before .before .before
+            .before .before .children-of .ensures (sym same ∙ on),
+        h .loop .inv .3 (sym same ∙ on),
+      ),
       room t,
     )
 
 loop-less : tie.Need-loop-less Inv-loop μ-loop
 loop-less c =
     let e = c .before .before in
-    let t = c .before .before .before .before .before .before .before .before .before .before .before .before .before .before .before .before in
-    let h = c .before .before .before .before .before .before .before .before .before .before .before .before .before .before .before .before .before .before in
-    let a = c .before .before .before .before .before .before .before .before .before .before .before .before .before .before .before .before .before .before .before .before .before .before .before .before .before .before .before .before .before .before .before .before .before .before .before .before .before .before .before .before .before .before .args in
+    let t = c .before .before .before .before .before .before .before .before .before .before .before .before .before .before .before
+    .before in
+    let h = c .before .before .before .before .before .before .before .before .before .before .before .before .before .before .before
+    .before .before .before in
+    let a = c .before .before .before .before .before .before .before .before .before .before .before .before .before .before .before
+    .before .before .before .before .before .before .before .before .before .before .before .before .before .before .before .before
+    .before .before .before .before .before .before .before .before .before .before .before .args in
     let did = e .event .result in
     let was = h .loop .did in
     steps-less (now (a .input)) (did .more) (did .place) (was .more) (was .place) (both-true (was .more) _ (taken t) .0)
@@ -168,9 +187,13 @@ loop-less c =
 loop-again : tie.Need-loop-again Inv-loop μ-loop
 loop-again c =
     let e = c .before .before in
-    let t = c .before .before .before .before .before .before .before .before .before .before .before .before .before .before .before .before in
-    let h = c .before .before .before .before .before .before .before .before .before .before .before .before .before .before .before .before .before .before in
-    let a = c .before .before .before .before .before .before .before .before .before .before .before .before .before .before .before .before .before .before .before .before .before .before .before .before .before .before .before .before .before .before .before .before .before .before .before .before .before .before .before .before .before .before .args in
+    let t = c .before .before .before .before .before .before .before .before .before .before .before .before .before .before .before
+    .before in
+    let h = c .before .before .before .before .before .before .before .before .before .before .before .before .before .before .before
+    .before .before .before in
+    let a = c .before .before .before .before .before .before .before .before .before .before .before .before .before .before .before
+    .before .before .before .before .before .before .before .before .before .before .before .before .before .before .before .before
+    .before .before .before .before .before .before .before .before .before .before .before .args in
     let happens = e .event .ensures .0 in
     let told = e .event .ensures .1 in
     let same = h .loop .inv .2 in (
@@ -198,7 +221,9 @@ returns c =
     Taken l (now (a .input)) (a .place) (now (a .out))
     (record { laid = v .did .laid; more = v .did .more; link = after; place = v .did .place }) (v .out) in
     rw (c .before .before .zipped .ensures)
-    (subst (λ (x : Tree). TakenBy (a .link) (linkNow h x)) (c .before .before .before .before .before .before .before .before .before .before .before .before .before .before .before .before .before .before .before .before .before .before .before .before .before .before .before .shape-of .ensures)
+    (subst (λ (x : Tree). TakenBy (a .link) (linkNow h x)) (c .before .before .before .before .before .before .before .before .before
+    .before .before .before .before .before .before .before .before .before .before .before .before .before .before .before .before
+    .before .before .shape-of .ensures)
     (subst (λ (l : Link). TakenBy l (linkNow h (treeAt o))) (apart o)
     (laying-ends _ (now (a .input)) (a .place) (now (a .out)) _ (v .out) (v .inv .0) (sym (i .before .takes-one .ensures) ∙ i .if1 .left))))
 

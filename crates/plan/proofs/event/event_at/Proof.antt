@@ -50,8 +50,14 @@ returns-4 : tie.Need-returns-4
 returns-4 c =
     let k = c .before .before .before .before .before .before in
     let here = c .before .before .before .before .before .before .before .before .if1 .left in
-    let on = sym (c .before .before .before .before .before .stands-in .ensures) ∙ not-false _ (c .before .before .before .before .if2 .left) in (
-      sym (lies-send _ _ here _ (k .record-kind .ensures) on (omega (arith, c .before .before .if3 .left, c .before .before .before .record-length .ensures))
+    let on = sym (c .before .before .before .before .before .stands-in .ensures) ∙ not-false _ (c .before .before .before .before .if2
+    .left) in (
+      sym (lies-send _ _ here _ (k .record-kind .ensures) on (omega (
+        arith,
+        c .before .before .if3 .left,
+        c .before .before .before
+            .record-length .ensures,
+      ))
           (sym (c .before .gives-arrival .ensures) ∙ not-true _ (c .if4 .taken))),
       omega (arith, here),
     )
@@ -63,13 +69,21 @@ arrival-at-requires : tie.Need-arrival-at-requires
 arrival-at-requires c κs =
     let k = c .before .before .before .before .before .before in
     let seven = arrival-seven _ _ (k .record-kind .ensures) (sym (c .before .gives-arrival .ensures) ∙ not-false _ (c .if4 .left)) in
-    omega (arith, c .before .before .if3 .left, c .before .before .before .record-length .ensures, seven, c .before .before .before .before .before .before .before .before .if1 .left)
+    omega (
+      arith,
+      c .before .before .if3 .left,
+      c .before .before .before .record-length .ensures,
+      seven,
+      c .before .before .before .before
+          .before .before .before .before .if1 .left,
+    )
 
 returns-5 : tie.Need-returns-5
 returns-5 c =
     let k = c .before .before .before .before .before .before .before in
     let here = c .before .before .before .before .before .before .before .before .before .if1 .left in
-    let on = sym (c .before .before .before .before .before .before .stands-in .ensures) ∙ not-false _ (c .before .before .before .before .before .if2 .left) in (
+    let on = sym (c .before .before .before .before .before .before .stands-in .ensures) ∙ not-false _ (c .before .before .before .before
+    .before .if2 .left) in (
       ap Arrive (c .arrival-at .ensures)
           ∙ sym (lies-arrival _ _ here _ (k .record-kind .ensures) on
           (omega (arith, c .before .before .before .if3 .left, c .before .before .before .before .record-length .ensures))

@@ -62,7 +62,8 @@ loop-holds c =
     let k = st .pre .1 in (
       st .pre .0,
       walks-starts (treeIn (a .shape .now)) (k .lower) (changed (a .fewer) 1) (a .class) (a .packets .now) (st .pre .0) (k .few),
-      walks-starts (treeIn (a .shape .now)) (k .lower) (changed (a .fewer) (c .cost .result .0)) (a .class) (a .bytes .now) (st .pre .0) (k .light),
+      walks-starts (treeIn (a .shape .now)) (k .lower) (changed (a .fewer) (c .cost .result .0)) (a .class) (a .bytes .now) (st .pre .0) (k
+          .light),
     )
 
 mul-changed : tie.Need-mul-changed Inv-loop μ-loop
@@ -113,7 +114,8 @@ returns c = λ charged.
     (h .loop .packets) (h .loop .inv .1) z (g .changed .ensures)
     in
     let bytes =
-    walks-ends (treeIn (a .shape .now)) low (changed (a .fewer) (k .cost .result .0)) (a .class) (a .bytes .now) (h .loop .i) (f .changed2 .result)
+    walks-ends (treeIn (a .shape .now)) low (changed (a .fewer) (k .cost .result .0)) (a .class) (a .bytes .now) (h .loop .i) (f .changed2
+    .result)
     (h .loop .bytes) (h .loop .inv .2) z (f .changed2 .ensures)
     in
     let costs = ap (λ (x : ℕ). changedUp (treeIn (a .shape .now)) (changed (a .fewer) x) (a .class) (a .bytes .now)) (k .cost .ensures) in
@@ -144,9 +146,11 @@ loop-again c =
     let l : 1 ≤ h .loop .i = omega (arith, c .before .if1 .left) in
     let up = c .parent .ensures in (
       omega (arith, up, low (h .loop .i) l (h .loop .inv .0), h .loop .inv .0),
-      walks-on (treeIn (a .shape .now)) low (changed (a .fewer) 1) (a .class) (a .packets .now) (h .loop .i) (c .parent .result) (g .changed .result)
+      walks-on (treeIn (a .shape .now)) low (changed (a .fewer) 1) (a .class) (a .packets .now) (h .loop .i) (c .parent .result) (g
+          .changed .result)
           (h .loop .packets) (h .loop .inv .1) l (h .loop .inv .0) up (g .changed .ensures),
-      walks-on (treeIn (a .shape .now)) low (changed (a .fewer) (k .cost .result .0)) (a .class) (a .bytes .now) (h .loop .i) (c .parent .result)
+      walks-on (treeIn (a .shape .now)) low (changed (a .fewer) (k .cost .result .0)) (a .class) (a .bytes .now) (h .loop .i) (c .parent
+          .result)
           (f .changed2 .result) (h .loop .bytes) (h .loop .inv .2) l (h .loop .inv .0) up (f .changed2 .ensures),
     )
 

@@ -77,8 +77,11 @@ returns-2 c =
 longest-requires : tie.Need-longest-requires
 longest-requires c κs =
     let h = c .before in
-    let st = c .before .before .before .before in
-    (st .pre (not-false (st .args .sound) (c .before .before .before .if1 .left)) .0, h .holds .ensures .1 (not-false (h .holds .result) (c .if2 .left)))
+    let st = c .before .before .before .before in (
+      st .pre (not-false (st .args .sound) (c .before .before .before .if1 .left)) .0,
+      h .holds .ensures .1 (not-false (h .holds .result) (c
+          .if2 .left)),
+    )
 
 element-copy-out-judge : tie.Need-element-copy-out-judge
 element-copy-out-judge c =
@@ -162,7 +165,8 @@ returns-3 c =
     let passes = sym (said j l same) ∙ passed in
     let waits = queued l (a .start .now) (a .held .now) (a .lengths .now) (a .tags .now) (a .marks .now) in
     let laid = p .put .ensures l ∙ ap (laidLast waits (a .class)) (m .marked-with .ensures) in
-    let link = ap₂ withTotals laid (n .recount .ensures (a .charged) ∙ ap (λ (t : Tree). recounted false t (a .class) (costOf (a .packet .length))
+    let link = ap₂ withTotals laid (n .recount .ensures (a .charged) ∙ ap (λ (t : Tree). recounted false t (a .class) (costOf (a .packet
+    .length))
     (lentTotals (a .packets .now) (a .bytes .now) (a .charged))) (sym same)) in
     let on = takes (sounds j) in
     let bytes =

@@ -49,7 +49,8 @@ returns c =
     let f = k .before in
     let a = f .before .before .args in
     λ size place s. (
-      f .first .ensures (lentLink (treeIn (a .shape .now)) size (a .active) place (a .balance .now) (a .residual .now) (a .start .now) (a .held .now)
+      f .first .ensures (lentLink (treeIn (a .shape .now)) size (a .active) place (a .balance .now) (a .residual .now) (a .start .now) (a
+          .held .now)
           (a .lengths .now) (a .tags .now) (a .marks .now) (lentTotals (a .packets .now) (a .bytes .now) (a .charged))) (a .held .now),
       goes-more s (f .first .ensures) (k .cost .ensures) _ _ (y .pay .ensures) (λ l. m .take .ensures l (a .lengths .now) (a .tags .now)
           (a .marks .now))
@@ -77,7 +78,8 @@ returns-2 c =
     let f = k .before in
     let a = f .before .before .args in
     λ size place s. (
-      f .first .ensures (lentLink (treeIn (a .shape .now)) size (a .active) place (a .balance .now) (a .residual .now) (a .start .now) (a .held .now)
+      f .first .ensures (lentLink (treeIn (a .shape .now)) size (a .active) place (a .balance .now) (a .residual .now) (a .start .now) (a
+          .held .now)
           (a .lengths .now) (a .tags .now) (a .marks .now) (lentTotals (a .packets .now) (a .bytes .now) (a .charged))) (a .held .now),
       goes-last s (f .first .ensures) (k .cost .ensures) _ _ (y .pay .ensures) (λ l. m .take .ensures l (a .lengths .now) (a .tags .now)
           (a .marks .now))
