@@ -381,6 +381,32 @@ pub fn openings(input: &[u8], times: usize) -> u64 {
     link.root()
 }
 
+// The answers of a recording's calls, each as eight numbers (R339), into a buffer, from its start again where it is full; how many calls.
+#[inline(never)]
+pub fn answers(input: &[u8], out: &mut [[u64; 8]]) -> usize {
+    let Some((mut link, mut at)) = Plain::read(input) else { return 0 };
+    let (mut many, mut k) = (0, 0);
+    while let Some((event, next)) = event_at(input, at) {
+        at = next;
+        if k == out.len() {
+            k = 0;
+        }
+        out[k] = match event {
+            Event::Arrival { class, length, tag } => match link.arrive(class, length, tag) {
+                Ok(bytes) => [16, 0, 0, class as u64, length as u64, tag as u64, bytes, 0],
+                Err(number) => [16, number as u64, class as u64, class as u64, length as u64, tag as u64, 0, 0],
+            },
+            Event::Send => match link.send() {
+                Some(s) => [17, 0, 0, s.class as u64, s.length as u64, s.tag as u64, s.waited, s.rounds as u64],
+                None => [17, 15, 0, 0, 0, 0, 0, 0],
+            },
+        };
+        k += 1;
+        many += 1;
+    }
+    many
+}
+
 // A line is laid where there is room for so many bytes; the longest has fewer.
 const LINE: usize = 112;
 

@@ -1,6 +1,8 @@
 # The module that rt hands to the kit's compiler, for another machine; sourced after lib/proof.sh by bin/native and bin/page.
 #     keeping_kit                    $work/kit, the kit but for its compiler, which keeps in $work/seen each module that it is handed
 #     module_for TARGET MODULE TEXT  such a module as text, with TARGET's layout and name in place of x86-64's; $clang is the kit's compiler
+#     joined_to NAME                 the libraries whose objects stand in NAME's archive too: those that crates/NAME/joined names
+#     join_to NAME FOLDER ARCHIVE    puts their objects, out of their archives in FOLDER, into NAME's
 
 keeping_kit() {
     local machine folder part bin
@@ -31,4 +33,19 @@ module_for() { # TARGET MODULE TEXT
     "$clang" --target=x86_64-unknown-linux-gnu -x ir "$2" -S -emit-llvm -O0 -Xclang -disable-llvm-passes -o "$text"
     sed -i -E "s|^target datalayout = .*|$layout|; s|^target triple = .*|target triple = \"$target\"|" "$text"
     sed -i -E 's/"(target-cpu|target-features|tune-cpu|probe-stack)"="[^"]*"//g' "$text"
+}
+
+joined_to() { if [ -f "$root/crates/$1/joined" ]; then cat "$root/crates/$1/joined"; fi; } # NAME
+
+# A library that is compiled by itself is its own module: the compiler sees only what it has.
+join_to() { # NAME FOLDER ARCHIVE
+    local other object ar=$kit/on/$(uname -m)/toolchain/bin/llvm-ar
+    work_folder
+    for other in $(joined_to "$1"); do
+        rm -rf "$work/joined"
+        mkdir "$work/joined"
+        (cd "$work/joined" && "$ar" x "$2/lib$other.a")
+        for object in "$work/joined"/*; do mv "$object" "$work/joined/$other-${object##*/}"; done
+        "$ar" rs "$3" "$work/joined"/* 2>/dev/null
+    done
 }

@@ -19,8 +19,9 @@ ghost use Rattle.calls.specs.Panel.{TellsTotals, TellsClass};
 ghost use Rattle.checks.specs.declared.Verdict.the-variants.{Refused};
 ghost use Rattle.state.specs.State.{linkOf};
 ghost use Rattle.calls.specs.Send.{refusedSend, Sends};
-ghost use Rattle.sound.specs.Sound.{SoundLink};
-ghost use Rattle.steps.specs.Rounds.{wentAnswers};
+ghost use Rattle.shape.specs.Shape.{treeIn, Families};
+ghost use Rattle.sound.specs.Steps.{linkIn};
+ghost use Rattle.steps.specs.Rounds.{InFields, wentAnswers};
 ghost use Rattle.link.specs.Fields.{ArrivesIn, changedTo, GoesIn, SendsIn, classIn};
 use checks::Verdict;
 use state::Account;
@@ -92,21 +93,27 @@ pub fn arrive_in<'a>(
         (linkOf tree size active place accounts start (r .held) (now (lengths .exit)) (now (tags .exit)) (now (marks .exit)) (r .totals))
         ⌝ }
 {
-    let sound = sound::is_sound_of(
-        tree,
-        size,
-        active,
-        place,
-        accounts,
-        start,
-        held,
-        lengths,
-        totals,
-    );
     let shape = shape::shape_of(tree);
+    let balance = balances(accounts);
+    let residual = residuals(accounts);
+    let mut children = [0u64; 64];
     let mut after = held;
     let mut packets = totals.packets;
     let mut bytes = totals.bytes;
+    let sound = sound::is_sound_at(
+        &shape,
+        size,
+        active,
+        place,
+        &balance,
+        &residual,
+        &start,
+        &held,
+        lengths,
+        &packets,
+        &bytes,
+        &mut children,
+    );
     let answer = steps::arrive(
         sound,
         class,
@@ -200,7 +207,7 @@ fn stays(
 }
 
 // What a refused send answers: its number, and all other numbers 0.
-fn refused(number: u8) -> Departure
+pub fn refused(number: u8) -> Departure
     ensures { λ r. ⌜ r ≡ refusedSend (Refused number 0) ⌝ }
 {
     let verdict = Verdict::Refused(number, 0);
@@ -215,7 +222,7 @@ fn refused(number: u8) -> Departure
 }
 
 // What a send answers on a sound link: the packet that goes, or that none waits.
-fn answered(went: Went) -> Departure
+pub fn answered(went: Went) -> Departure
     ensures { λ r. ⌜ r ≡ wentAnswers went ⌝ }
 {
     if !went.some {
@@ -234,56 +241,57 @@ fn answered(went: Went) -> Departure
     }
 }
 
-// A send over the fields of a sound link: they are lent to the steps and put together again. No weight sums are kept.
+// A send over the numbers of a sound link, which are lent to the steps, and its fields put together again. No weight sums are kept.
 fn sends(
-    tree: Tree,
+    shape: &[u64; 195],
+    children: &[u64; 64],
     size: Bytes,
     active: u64,
     place: usize,
-    accounts: [Account; Link::CLASSES],
+    balance: &mut [u64; 64],
+    residual: &mut [u64; 64],
     start: [u8; Link::CLASSES],
     held: [u8; Link::CLASSES],
-    totals: Totals,
     lengths: &[u16; 2048],
     tags: &[u32; 2048],
     marks: &[u64; 2048],
+    packets: &mut [u64; 64],
+    bytes: &mut [u64; 64],
+    charged: u64,
 ) -> Changed
-    requires { ⌜ SoundLink (linkOf tree size active place accounts start held (now lengths) (now tags) (now marks) totals) ⌝ }
-    ensures { λ r. ⌜ GoesIn
-        (linkOf tree size active place accounts start held (now (lengths .entry)) (now (tags .entry)) (now (marks .entry)) totals) r ⌝ }
+    requires { ⌜ InFields (linkIn (now shape) size active place (now balance) (now residual) start held (now lengths) (now tags)
+        (now marks) (now packets) (now bytes) charged) × Families (treeIn (now shape)) (now children) ⌝ }
+    ensures { λ r. ⌜ GoesIn (linkIn (now (shape .entry)) size active place (now (balance .entry)) (now (residual .entry)) start held
+        (now (lengths .entry)) (now (tags .entry)) (now (marks .entry)) (now (packets .entry)) (now (bytes .entry)) charged) r ⌝ }
 {
-    let shape = shape::shape_of(tree);
-    let children = shape::families(&shape);
     let mut kept = [0u32; 64];
-    let mut balance = balances(accounts);
-    let mut residual = residuals(accounts);
     let mut first = start;
     let mut many = held;
-    let mut packets = totals.packets;
-    let mut bytes = totals.bytes;
     let stand = Stand {
         known: 0,
         size,
         active,
         place,
-        charged: totals.charged,
+        charged,
     };
     let went = steps::send(
-        &shape,
-        &children,
+        shape,
+        children,
         &mut kept,
         stand,
-        &mut balance,
-        &mut residual,
+        balance,
+        residual,
         &mut first,
         &mut many,
         lengths,
         tags,
         marks,
-        &mut packets,
-        &mut bytes,
+        packets,
+        bytes,
     );
-    let after = zipped(&balance, &residual);
+    let after = zipped(balance, residual);
+    let packets_after = *packets;
+    let bytes_after = *bytes;
     let then = went.stand;
     let size_after = then.size;
     Changed {
@@ -295,8 +303,8 @@ fn sends(
         held: many,
         size: size_after,
         totals: Totals {
-            packets,
-            bytes,
+            packets: packets_after,
+            bytes: bytes_after,
             charged: then.charged,
         },
     }
@@ -319,31 +327,44 @@ pub fn send_of<'a>(
     ensures { λ r. ⌜ SendsIn
         (linkOf tree size active place accounts start held (now (lengths .entry)) (now (tags .entry)) (now (marks .entry)) totals) r ⌝ }
 {
-    if !sound::is_sound_of(
-        tree,
+    let shape = shape::shape_of(tree);
+    let mut balance = balances(accounts);
+    let mut residual = residuals(accounts);
+    let mut packets = totals.packets;
+    let mut bytes = totals.bytes;
+    let mut children = [0u64; 64];
+    if !sound::is_sound_at(
+        &shape,
         size,
         active,
         place,
-        accounts,
-        start,
-        held,
+        &balance,
+        &residual,
+        &start,
+        &held,
         lengths,
-        totals,
+        &packets,
+        &bytes,
+        &mut children,
     ) {
         return stays(size, active, place, accounts, start, held, totals);
     }
     sends(
-        tree,
+        &shape,
+        &children,
         size,
         active,
         place,
-        accounts,
+        &mut balance,
+        &mut residual,
         start,
         held,
-        totals,
         lengths,
         tags,
         marks,
+        &mut packets,
+        &mut bytes,
+        totals.charged,
     )
 }
 

@@ -1,10 +1,11 @@
 -- An opening over lent accounts, class by class.
 use mathlib.Core.Bool.{Bool, true, false, cond, not, _&&_}
-use mathlib.Core.List.{List, append-nil}
-use mathlib.Core.Path.{_≡_, refl, sym, ap, _∙_}
-use Prim.Native.Nat.{ℕ, _+_, _-_, _*_, _/_, _^_, _≤_, _<_}
+use mathlib.Core.List.{List, append-nil, _++_}
+use mathlib.Core.Path.{_≡_, refl, sym, ap, subst, _∙_}
+use Prim.Native.Nat.{ℕ, zero, suc, _+_, _-_, _*_, _/_, _^_, _≤_, _<_}
 use native.Mathlib.Nat.{div-zero}
 use native.Mathlib.Omega.{arith}
+use lib.Seq.{getD-at, set-getD}
 use lib.ListN.{length, getD, set, drop, replicate, length-append, length-drop, drop-of-length-le}
 use borrow.Author.Tests.{ne-eqb}
 use Rattle.checks.proofs.Laws.{not-true-and-false}
@@ -98,6 +99,17 @@ module _ (kind : Kind) (t : Tree) (active : ℕ) (accounts : List Account) (can 
         ap (λ (xs : List ℕ). getD xs (parentOf t i) 0) (o .shares)
         ∙ table-front (quota kind t active accounts) 0 64 i (parentOf t i) (parent-below t i (can .rules) l u)
 
+    -- its own is not yet shared out
+    pub opening-unset : getD q i 0 ≡ 0
+    opening-unset = ap (λ (xs : List ℕ). getD xs i 0) (o .shares) ∙ go (64 - i) (omega (arith, u))
+      where
+        f : ℕ → ℕ
+        f = quota kind t active accounts
+
+        go : (m : ℕ) → 1 ≤ m → getD (table f i ++ replicate m 0) i 0 ≡ 0
+        go zero some = absurd (omega (arith, some))
+        go (suc n) some = getD-at (table f i) 0 (replicate n 0) 0 i (table-length f i)
+
     at-hand : accountOf (zipAccounts b r) i ≡ accountOf accounts i
     at-hand =
         ap (λ (xs : List Account). accountOf xs i) (o .opened)
@@ -127,6 +139,16 @@ module _ (kind : Kind) (t : Tree) (active : ℕ) (accounts : List Account) (can 
               y ∙ rw (is, o .opened) (table-over (openedAccount kind t active accounts) noAccount accounts i (omega (arith, can .many)));
         }
 
+-- the quota of a leaf that has opened
+pub leaf-shares-none : (on leaf : Bool) (sum due : ℕ) (a : Account) (s : Shared) → s ≡ classShared on leaf sum due a → leaf ≡ true
+    → s .quota ≡ 0
+leaf-shares-none on leaf sum due a s is e =
+    ap (λ (x : Shared). x .quota) is ∙ ap (λ (b : Bool). classShared on b sum due a .quota) e ∙ go on
+  where
+    go : (b : Bool) → classShared b true sum due a .quota ≡ 0
+    go true = refl
+    go false = refl
+
 -- it starts with the root
 pub opening-starts : (surplus : Bool) (t : Tree) (active : ℕ) (accounts : List Account) → CanOpen t active accounts
     → (b r : List ℕ) {s : Shared} {x : Account} (sums : List ℕ)
@@ -147,14 +169,48 @@ opening-starts surplus t active accounts can b r {s} {x} sums w h k y =
       opened = y ∙ rw is (rw (table-none f) at (table-over f noAccount accounts 0 (omega (arith, can .many))));
     }
 
--- and ends with all
-pub opening-ends : (kind : Kind) (t : Tree) (active : ℕ) (accounts : List Account) → CanOpen t active accounts → (i : ℕ) → i ≡ 64
-    → {q : List ℕ} (b r : List ℕ)
-    → OpenedUpTo kind t active accounts i q b r → zipAccounts b r ≡ openedAccounts kind t active accounts
-unfolding openedAccounts
-opening-ends kind t active accounts can i e b r o =
-    let end : length accounts ≤ 64 = omega (arith, can .many) in
-    o .opened ∙ rw (e, drop-of-length-le accounts end) (append-nil (table (openedAccount kind t active accounts) 64))
+-- past the last class nothing is active, and nothing changes
+as-it-was : (kind : Kind) (t : Tree) (active : ℕ) (accounts : List Account) (i : ℕ) → 1 ≤ i → has active i ≡ false
+    → openedAccount kind t active accounts i ≡ accountOf accounts i
+unfolding openedAccount
+as-it-was kind t active accounts i l off = rw (ne-eqb i 0 (λ z. omega (arith, z, l)), off) refl
+
+module _ (kind : Kind) (t : Tree) (active : ℕ) (accounts : List Account) (can : CanOpen t active accounts) {q : List ℕ} (b r : List ℕ)
+  where
+    opening-past : (i : ℕ) → 1 ≤ i → i < 64 → t .count < i → OpenedUpTo kind t active accounts i q b r
+        → OpenedUpTo kind t active accounts (i + 1) q b r
+    opening-past i l u past o =
+        let off = can .past i past in
+        let f = openedAccount kind t active accounts in
+        let g = quota kind t active accounts in
+        let xs = table f i ++ drop i accounts in
+        let many : i < length accounts = omega (arith, u, can .many) in
+        record {
+          shares =
+              sym (set-getD q i 0)
+              ∙ ap (λ (x : ℕ). set q i x) (opening-unset kind t active accounts can i l u b r o
+              ∙ sym (quota-inactive kind t active accounts can i l u off))
+              ∙ ap (λ (ys : List ℕ). set ys i (g i)) (o .shares) ∙ table-fill g 0 64 i u;
+          opened =
+              o .opened ∙ sym (set-getD xs i noAccount)
+              ∙ ap (λ (a : Account). set xs i a) (table-behind f noAccount accounts i many ∙ sym (as-it-was kind t active accounts i l off))
+              ∙ table-over f noAccount accounts i many;
+        }
+
+    opening-rest : (n i : ℕ) → i + n ≡ 64 → 1 ≤ i → t .count < i → OpenedUpTo kind t active accounts i q b r
+        → OpenedUpTo kind t active accounts 64 q b r
+    opening-rest zero i e l past o = subst (λ (k : ℕ). OpenedUpTo kind t active accounts k q b r) (omega (arith, e)) o
+    opening-rest (suc n) i e l past o =
+        opening-rest n (i + 1) (omega (arith, e)) (omega arith) (omega (arith, past)) (opening-past i l (omega (arith, e)) past o)
+
+    -- and so it ends with all
+    pub opening-ends : (i : ℕ) → 1 ≤ i → i ≤ 64 → t .count < i → OpenedUpTo kind t active accounts i q b r
+        → zipAccounts b r ≡ openedAccounts kind t active accounts
+    unfolding openedAccounts
+    opening-ends i l u past o =
+        let end : length accounts ≤ 64 = omega (arith, can .many) in
+        opening-rest (64 - i) i (omega (arith, u)) l past o .opened
+        ∙ rw (drop-of-length-le accounts end) (append-nil (table (openedAccount kind t active accounts) 64))
 
 -- the surplus of a class, when it is told whether it is a leaf and whether it is active
 pub surplus-by : (t : Tree) (active : ℕ) (accounts : List Account) (i : ℕ) (u : i < 64) {leaf on : Bool} {a : Account} (sums : List ℕ)

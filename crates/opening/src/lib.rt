@@ -1,9 +1,9 @@
 // A round opens: main or surplus, and what each account then shares out; the tree (`shape`), the weight sums and the accounts
 // (`state::lent_accounts`) are lent arrays. Named for specs/Opens. Serves demand 2.
 ghost use mathlib.Core.Path.{_≡_};
-ghost use mathlib.Core.Bool.{false, not, _&&_};
-ghost use lib.ListN.{length};
-ghost use Prim.Native.Nat.{_+_, _*_, _≤_};
+ghost use mathlib.Core.Bool.{true, false, not, _&&_};
+ghost use lib.ListN.{length, getD, set};
+ghost use Prim.Native.Nat.{_+_, _*_, _≤_, _<_};
 ghost use Rattle.state.specs.Account.{accountOf, fundsOf, zipAccounts};
 ghost use Rattle.rules.specs.Steps.{CanOpen, CanResize};
 ghost use Rattle.tree.specs.Rules.{PlanRules};
@@ -15,7 +15,6 @@ ghost use Rattle.opening.specs.Opens.{sharedOut, rootShared, classShared
 ghost use Rattle.units.specs.Unit.{surplusOf};
 use active::active_size;
 use state::Account;
-use state::Link;
 use state::lent_accounts::account_of;
 use state::lent_accounts::keep;
 use units::Bytes;
@@ -71,6 +70,16 @@ fn open_class(on: bool, leaf: bool, sum: Weight, due: Bytes, a: Account) -> Shar
     share_out(sum, a, due)
 }
 
+// The quota of a class is kept; a leaf's is 0, as it stands there already.
+fn keep_quota(i: usize, leaf: bool, quota: u64, quotas: &mut [u64; 64])
+    requires { ⌜ (i < 64) × (leaf ≡ true → getD (now quotas) i 0 ≡ quota) ⌝ }
+    ensures { λ _. ⌜ now (quotas .exit) ≡ set (now (quotas .entry)) i quota ⌝ }
+{
+    if !leaf {
+        quotas[i] = quota;
+    }
+}
+
 // The accounts when a round opens: top down, one pass.
 fn open_accounts(
     shape: &[u64; 195],
@@ -86,6 +95,7 @@ fn open_accounts(
         ≡ openedAccounts (kindIs surplus) (treeIn (now (shape .entry))) active (zipAccounts (now (balance .entry)) (now (residual .entry)))
         ⌝ }
 {
+    let last = shape::count(shape);
     let leaves = shape::leaves(shape);
     let mut quotas = [0u64; 64];
     let root = open_root(surplus, Weight(sums[0]), account_of(0, balance, residual));
@@ -93,18 +103,19 @@ fn open_accounts(
     let first = root.account;
     keep(0, first, balance, residual);
     let mut i: usize = 1;
-    while i < Link::CLASSES {
+    while i <= last {
         let p = shape::parent(shape, i);
         let w = shape::weight(shape, i);
         let due = units::due(w, quotas[p]);
+        let leaf = sets::has(leaves, i);
         let one = open_class(
             sets::has(active, i),
-            sets::has(leaves, i),
+            leaf,
             Weight(sums[i]),
             due,
             account_of(i, balance, residual),
         );
-        quotas[i] = one.quota;
+        keep_quota(i, leaf, one.quota, &mut quotas);
         let account = one.account;
         keep(i, account, balance, residual);
         i += 1;
@@ -125,7 +136,7 @@ fn class_surplus(on: bool, leaf: bool, sum: Weight, a: Account) -> bool
     units::surplus(a.funds(), sum)
 }
 
-// Whether the round that opens is a surplus round: some class has one, from the first active inner class on.
+// Whether the round that opens is a surplus round: some class has one, of the active inner classes one after the other.
 fn is_surplus(
     shape: &[u64; 195],
     active: u64,
@@ -150,7 +161,7 @@ fn is_surplus(
         ) {
             return true;
         }
-        i += 1;
+        i = sets::next(inner, i + 1);
     }
     false
 }

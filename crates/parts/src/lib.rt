@@ -24,7 +24,7 @@ pub fn takes_one(more: bool, laid: usize, room: usize) -> bool
     requires { ⌜ laid ≤ room ⌝ }
     ensures { λ r. ⌜ r ≡ (more && leb (laid + lineRoom) room) ⌝ }
 {
-    more && lines::ROOM <= room - laid
+    answers::takes_one(more, laid, room, lines::ROOM)
 }
 
 // A part of a run: events from a place on, laid into a lent buffer as long as the run goes on and there is room for one more line.

@@ -33,7 +33,7 @@ pub enum Silence {
 }
 
 // What a balance lacks of what a packet is charged.
-fn shortfall(balance: Bytes, first: u16) -> Bytes
+pub fn shortfall(balance: Bytes, first: u16) -> Bytes
     requires { ⌜ balance .0 < costOf first ⌝ }
     ensures { λ r. ⌜ balance .0 + r .0 ≡ costOf first ⌝ }
 {

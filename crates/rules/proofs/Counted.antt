@@ -8,19 +8,20 @@ use lib.Dec.{leb}
 use lib.ListN.{length, getD}
 use borrow.Author.Tests.{le-leb, lt-leb, leb-false}
 use Rattle.checks.proofs.Laws.{not-true-and-false}
-use Rattle.tree.specs.Class.{isLeaf}
+use Rattle.tree.specs.Class.{parentOf, isLeaf}
+use Rattle.tree.specs.Rules.{PlanRules}
 use Rattle.tree.specs.Below.{leavesSum}
 use Rattle.tree.specs.Sum.{sumTo}
-use Rattle.tree.proofs.Leaves.{leaf-known, leaf-least, root-some, root-none, root-all, sum-most}
+use Rattle.tree.proofs.Leaves.{leaf-known, leaf-least, leaf-sum, root-some, root-none, root-all, sum-most, sum-rises}
 use Rattle.tree.proofs.Rules.{few-classes, leaf-number, longest-range, parent-below}
 use Rattle.tree.proofs.Sums.{some-found}
-use Rattle.units.specs.Cost.{mostCost}
+use Rattle.units.specs.Cost.{costOf, mostCost}
 use Rattle.units.proofs.Laws.{cost-ceiling}
 use Rattle.state.specs.Queue.{noPacket, bytesIn}
 use Rattle.state.specs.declared.Link.{Link}
-use Rattle.state.specs.State.{State, meaning, queueAt}
+use Rattle.state.specs.State.{State, meaning, queueAt, TotalsRight}
 use Rattle.state.specs.WayUp.{Climbs}
-use Rattle.state.proofs.Bytes.{bytes-most}
+use Rattle.state.proofs.Bytes.{bytes-rest, bytes-most}
 use Rattle.sound.specs.Sound.{Sound, SoundLink}
 use Rattle.rules.specs.Active.{waits, someWaits}
 use Rattle.rules.proofs.Meanings.{waits-leaf}
@@ -97,10 +98,51 @@ totals-ceiling s i sound u =
         in
         omega (arith, most, sound .holds j v .few f)
 
--- so there is room to count one more on the way up
+-- so there is room to count one more on the way up, and no class counts more than its parent
 pub sound-climbs : (l : Link) → SoundLink l → Climbs (l .tree) (l .totals .packets) (l .totals .bytes)
 sound-climbs l sound = record {
-  lower = λ k low u. parent-below (l .tree) k (sound .state .fits .tree) low u;
-  few = λ k u. omega (arith, totals-ceiling (meaning l) k (sound .state) u .0);
-  light = λ k u. omega (arith, totals-ceiling (meaning l) k (sound .state) u .1);
+  lower = λ k low u. lower k low u;
+  few = record {
+    small = λ k u. omega (arith, totals-ceiling s k (sound .state) u .0);
+    rises = λ k low u.
+        omega (
+          arith,
+          right k u .packets,
+          right (parentOf (l .tree) k) (omega (arith, lower k low u, u)) .packets,
+          sum-rises (l .tree) rules (λ j. length (queueAt s j)) k low,
+        );
+  };
+  light = record {
+    small = λ k u. omega (arith, totals-ceiling s k (sound .state) u .1);
+    rises = λ k low u.
+        omega (
+          arith,
+          right k u .bytes,
+          right (parentOf (l .tree) k) (omega (arith, lower k low u, u)) .bytes,
+          sum-rises (l .tree) rules (λ j. bytesIn (queueAt s j)) k low,
+        );
+  };
 }
+  where
+    s : State
+    s = meaning l
+
+    rules : PlanRules (l .tree)
+    rules = sound .state .fits .tree
+
+    right : (k : ℕ) → k < 64 → TotalsRight s k
+    right k u = sound .state .totals k u
+
+    lower : (k : ℕ) → 1 ≤ k → k < 64 → parentOf (l .tree) k < k
+    lower k low u = parent-below (l .tree) k rules low u
+
+-- a leaf counts its first packet
+pub leaf-counts : (l : Link) (i : ℕ) → SoundLink l → isLeaf (l .tree) i ≡ true → 1 ≤ length (queueAt (meaning l) i)
+    → (1 ≤ getD (l .totals .packets) i 0) × (costOf (getD (queueAt (meaning l) i) 0 noPacket .length) ≤ getD (l .totals .bytes) i 0)
+leaf-counts l i sound leaf some =
+    let s = meaning l in
+    let rules = sound .state .fits .tree in
+    let right = sound .state .totals i (leaf-number (l .tree) i rules leaf) in (
+      omega (arith, right .packets, leaf-sum (l .tree) rules (λ j. length (queueAt s j)) i leaf, some),
+      omega (arith, right .bytes, leaf-sum (l .tree) rules (λ j. bytesIn (queueAt s j)) i leaf, bytes-rest (queueAt s i) some),
+    )

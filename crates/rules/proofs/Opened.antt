@@ -184,6 +184,7 @@ module _ (s : State) (size : ℕ) (sound : Sound s) (wide : Wide s) where
     many = resized-length s size ∙ wide .accounts;
     small = λ i u. small i u (ℕ-discrete i 0);
     upward = taken-up s (sound .fits .tree);
+    past = taken-past s (sound .fits .tree);
   }
     where
       small : (i : ℕ) → i < 64 → Dec (i ≡ 0) → fundsOf (accountOf (resizedAccounts size s) i) ≤ mostSize
@@ -368,6 +369,7 @@ can-resize s sound wide covers =
                   size-ceiling (s .tree) (sound .fits .tree),
                 );
             upward = taken-up s (sound .fits .tree);
+            past = taken-past s (sound .fits .tree);
           };
       right = sound .fits .size;
       covers = λ e. rw e at (covers e);

@@ -1,5 +1,5 @@
 -- What the steps of an opening and of a send ask; no rule of its own.
-use mathlib.Core.Bool.{Bool, true, _&&_}
+use mathlib.Core.Bool.{Bool, true, false, _&&_}
 use mathlib.Core.List.{List}
 use mathlib.Core.Path.{_≡_}
 use Prim.Native.Nat.{ℕ, _+_, _-_, _≤_, _<_}
@@ -21,12 +21,14 @@ use Rattle.rules.specs.Sending.{nextLeaf, Turn, sends, traceOf}
 use Rattle.rules.specs.Within.{Within}
 use Rattle.rules.specs.After.{linkIn}
 
--- accounts on which a round can open: a plan's tree, no class holds more than the ceiling of Q, the parent of an active class is active
+-- accounts on which a round can open: a plan's tree, no class holds more than the ceiling of Q, the parent of an active class is active, and
+-- no number past the last class is
 pub record CanOpen (t : Tree) (active : ℕ) (accounts : List Account) : Type 0 where
   pub rules : PlanRules t
   pub many : length accounts ≡ 64
   pub small : (i : ℕ) → i < 64 → fundsOf (accountOf accounts i) ≤ mostSize
   pub upward : (i : ℕ) → isClass t i ≡ true → has active i ≡ true → has active (parentOf t i) ≡ true
+  pub past : (i : ℕ) → t .count < i → has active i ≡ false
 
 -- accounts on which a round can open with a size in force: the root can take the difference, and then they can open
 pub record CanResize (t : Tree) (active size : ℕ) (accounts : List Account) : Type 0 where

@@ -11,12 +11,13 @@ use lib.Seq.{ext-getD, getD-set-same, getD-set-other}
 use mir.Val.{Val}
 use denote.Laws.{Is}
 use denote.Struct.Laws as LL
+use Rattle.sets.specs.Set.{has}
 use Rattle.units.specs.declared.Weight.{Weight}
 use Rattle.tree.specs.declared.Tree.{Tree}
 use Rattle.tree.specs.Class.{noWeight, parentOf, weightOf, longestOf, isClass, isLeaf}
 use Rattle.tree.specs.Rules.{PlanRules}
 use Rattle.tree.specs.Sum.{table}
-use Rattle.tree.proofs.Rules.{rules-light, longest-range}
+use Rattle.tree.proofs.Rules.{parent-lower, rules-light, longest-range}
 use Rattle.tree.proofs.Tables.{table-length, table-at, table-same}
 use Rattle.tree.proofs.Tree as T
 use Rattle.tree.proofs.Tree.Laws as T′
@@ -42,6 +43,10 @@ module _ (s : List ℕ) where
   unfolding treeIn
   leaves-in = refl
 
+  pub leaf-in : (i : ℕ) → isLeaf (treeIn s) i ≡ has (getD s 193 0) i
+  unfolding treeIn isLeaf
+  leaf-in i = refl
+
   pub follows-in : treeIn s .follows ≡ eqb (getD s 194 0) 1
   unfolding treeIn
   follows-in = refl
@@ -58,8 +63,15 @@ module _ (s : List ℕ) where
   unfolding treeIn
   longest-in i u = table-at (λ k. getD s (128 + k) 0) 0 64 i u
 
--- under the plan rules every weight and every longest packet fits its number
+-- under the plan rules every parent, every weight and every longest packet fits its number
 module _ (t : Tree) (rules : PlanRules t) (i : ℕ) (u : i < 64) where
+  pub parent-fits : parentOf t i < 2 ^ 8
+  parent-fits = go (isClass t i) refl
+    where
+      go : (b : Bool) → isClass t i ≡ b → parentOf t i < 2 ^ 8
+      go true is = omega (arith, u, parent-lower t i rules is)
+      go false is = omega (arith, rules .unset .at i u .past is .parent)
+
   pub weight-fits : weightOf t i < 2 ^ 32
   weight-fits = go (isClass t i) refl
     where
@@ -67,13 +79,16 @@ module _ (t : Tree) (rules : PlanRules t) (i : ℕ) (u : i < 64) where
       go true is = omega (arith, rules-light t rules .light i is)
       go false is = omega (arith, rules .unset .at i u .past is .weight)
 
-  pub longest-fits : longestOf t i < 2 ^ 16
-  longest-fits = go (isClass t i) refl (isLeaf t i) refl
+  pub longest-most : longestOf t i ≤ 9_216
+  longest-most = go (isClass t i) refl (isLeaf t i) refl
     where
-      go : (b : Bool) → isClass t i ≡ b → (c : Bool) → isLeaf t i ≡ c → longestOf t i < 2 ^ 16
+      go : (b : Bool) → isClass t i ≡ b → (c : Bool) → isLeaf t i ≡ c → longestOf t i ≤ 9_216
       go is e false leaf = omega (arith, rules .unset .at i u .longest leaf)
       go true is true leaf = omega (arith, longest-range t i (rules .each .longests i is) leaf)
       go false is true leaf = omega (arith, rules .unset .at i u .longest (rules .unset .at i u .past is .leaf))
+
+  pub longest-fits : longestOf t i < 2 ^ 16
+  longest-fits = omega (arith, longest-most)
 
 -- ---- laid class by class
 
@@ -200,3 +215,26 @@ laid-whole t out n all is ps ws gs r rule = λ j. record {
         table-same _ (λ k. getD (t .longest) k 0) 64
         (λ k u. before (128 + k) (omega (arith, u)) ∙ is .longests k (omega (arith, u, all)))
         ∙ list-table 0 (t .longest) 64 gs
+
+-- ---- and read back
+
+-- three tables of its numbers and the last three are the tree
+pub tree-back : (s : List ℕ) (parent : List ℕ) (weight : List Weight) (longest : List ℕ) → parent ≡ table (λ i. getD s i 0) 64
+    → weight ≡ table (λ i. record { 0 = getD s (64 + i) 0 }) 64 → longest ≡ table (λ i. getD s (128 + i) 0) 64
+    → record {
+      count = getD s 192 0;
+      leaves = getD s 193 0;
+      parent = parent;
+      weight = weight;
+      longest = longest;
+      follows = eqb (getD s 194 0) 1;
+    } ≡ treeIn s
+unfolding treeIn
+tree-back s parent weight longest p w g = λ j. record {
+  count = getD s 192 0;
+  leaves = getD s 193 0;
+  parent = p j;
+  weight = w j;
+  longest = g j;
+  follows = eqb (getD s 194 0) 1;
+}

@@ -1,5 +1,10 @@
 // A tree as one array of numbers that is lent to the steps of a link: made once, and read by the names of the tree. Named for specs/Shape.
 // Serves demand 2: what is read is the tree's.
+mod back;
+mod size;
+
+pub use back::tree_of;
+pub use size::plan_size;
 ghost use mathlib.Core.Path.{_≡_};
 ghost use Prim.Native.Nat.{_<_};
 ghost use Rattle.tree.specs.Class.{parentOf, weightOf, longestOf};

@@ -131,20 +131,7 @@ module _ (t : Tree) (active : ℕ) (rules : PlanRules t) where
           }
 
 -- the set of the active classes' parents, from the highest class down
-pub parents-none : (t : Tree) (active : ℕ) → parentsDown t active 0 ≡ 0
-unfolding parentsDown
-parents-none t active = refl
-
-pub parents-step : (t : Tree) (active n : ℕ) → 1 ≤ n → n ≤ 64
-    → cond (has active (n - 1)) (with (parentsDown t active (64 - n)) (parentOf t (n - 1))) (parentsDown t active (64 - n))
-    ≡ parentsDown t active (64 - (n - 1))
-unfolding parentsDown
-parents-step t active n l u =
-    let e : 64 - (n - 1) ≡ suc (64 - n) = omega arith in
-    let e′ : 63 - (64 - n) ≡ n - 1 = omega arith in
-    rw (e, e′) refl
-
--- it has the parent of each active class, and no other
+-- the set of the active classes' parents, from the highest class down, has the parent of each active class, and no other
 pub parents-in : (t : Tree) (active n k : ℕ) → 64 ≤ k + n → k < 64 → has active k ≡ true
     → has (parentsDown t active n) (parentOf t k) ≡ true
 unfolding parentsDown

@@ -33,7 +33,7 @@ use Rattle.sound.proofs.Totals.{total-part}
 
 module _ (l : Link) (rules : PlanRules (l .tree)) where
   -- the parents of the active classes after class i
-  after : ℕ → ℕ
+  abbrev after : ℕ → ℕ
   after i = parentsAfter (l .tree) (l .active) i
 
   -- no number past the last class is active
@@ -42,7 +42,7 @@ module _ (l : Link) (rules : PlanRules (l .tree)) where
 
   -- class i is among them exactly when a child of it is active
   after-child : NoneActive → (i : ℕ) → i < 64 → has (after i) i ≡ true → ActiveChild (l .tree) (l .active) i
-  unfolding after NoneActive
+  unfolding NoneActive
   after-child none i u h =
       let w = parents-only (l .tree) (l .active) (63 - i) i h in
       go (w .0) (omega (arith, w .1)) (w .3) (w .4) (decLe (w .0) (l .tree .count))
@@ -52,8 +52,7 @@ module _ (l : Link) (rules : PlanRules (l .tree)) where
       go k low a p (yes m) = record { child′ = k; class = class-in (l .tree) k low m; parent = p; is-active = a }
       go k low a p (no m) = absurd (not-true-and-false a (none k (omega arith)))
 
-  child-after : (i : ℕ) → ActiveChild (l .tree) (l .active) i → has (after i) i ≡ true
-  unfolding after
+  pub child-after : (i : ℕ) → ActiveChild (l .tree) (l .active) i → has (after i) i ≡ true
   child-after i c =
       let k = c .child′ in
       let range = class-range (l .tree) k (c .class) in
@@ -89,8 +88,7 @@ module _ (l : Link) (rules : PlanRules (l .tree)) where
           absurd (not-true-and-false (by .from-child i ab (after-child none i few p)) a)
 
   -- a number past the last class is no parent and no leaf, nor is the root a leaf
-  past-parent : (i : ℕ) → i < 64 → l .tree .count < i → has (after i) i ≡ false
-  unfolding after
+  pub past-parent : (i : ℕ) → i < 64 → l .tree .count < i → has (after i) i ≡ false
   past-parent i u h = go (has (after i) i) refl
     where
       go : (b : Bool) → has (after i) i ≡ b → has (after i) i ≡ false
@@ -103,7 +101,7 @@ module _ (l : Link) (rules : PlanRules (l .tree)) where
             w .4,
           ))
 
-  past-leaf : (i : ℕ) → i < 64 → l .tree .count < i → isLeaf (l .tree) i ≡ false
+  pub past-leaf : (i : ℕ) → i < 64 → l .tree .count < i → isLeaf (l .tree) i ≡ false
   past-leaf i u h = rules .unset .at i u .past (class-past (l .tree) i h) .leaf
 
   leaf-low : (i : ℕ) → isLeaf (l .tree) i ≡ true → 1 ≤ i
@@ -122,7 +120,7 @@ module _ (l : Link) (rules : PlanRules (l .tree)) where
 
   pub right-to-sound : SizeRight (l .tree) (l .size .0) → PlaceRight (meaning l) → l .active < 2 ^ 64 → ClassesRight l
       → SoundLink l
-  unfolding viewOf after NoneActive
+  unfolding viewOf NoneActive
   right-to-sound size place word right =
       let view : (i : ℕ) → i < 64 → ViewRight (viewOf l i) = λ i u. right .at i u .view in
       let by = child-to-leaf (l .tree) (l .active) rules (by-child (λ i h. none i h (decLt i 64)) (λ i u f. view i u .other f .above)) in
@@ -176,7 +174,7 @@ module _ (l : Link) (rules : PlanRules (l .tree)) where
   -- ---- from soundness to the numbers
 
   pub sound-to-right : SoundLink l → ClassesRight l
-  unfolding viewOf after NoneActive
+  unfolding viewOf NoneActive
   sound-to-right s = record { at = λ i u. at i u; adds = s .state .adds .adds }
     where
       st : Sound (meaning l)

@@ -2,8 +2,8 @@
 use mathlib.Core.Bool.{Bool, true, false, cond}
 use mathlib.Core.List.{List}
 use mathlib.Core.Path.{_≡_}
-use Prim.Native.Nat.{ℕ, zero, suc, _+_, _-_, _%_, _≤_, _<_}
-use lib.Dec.{ltb}
+use Prim.Native.Nat.{ℕ, zero, suc, _+_, _-_, _%_, _≤_, _<_, max}
+use lib.Dec.{ltb, eqb}
 use lib.ListN.{getD}
 use Rattle.sets.specs.Set.{has, with}
 use Rattle.units.specs.declared.Bytes.{Bytes}
@@ -13,8 +13,10 @@ use Rattle.tree.specs.Class.{parentOf, longestOf, isLeaf, ofChild}
 use Rattle.tree.specs.Sum.{sumTo}
 use Rattle.state.specs.declared.Account.{Account}
 use Rattle.state.specs.declared.Link.{Link}
-use Rattle.state.specs.Account.{accountOf}
+use Rattle.shape.specs.Shape.{treeIn}
+use Rattle.state.specs.Account.{accountOf, zipAccounts}
 use Rattle.state.specs.Queue.{startOf, heldOf, slot}
+use Rattle.state.specs.State.{linkOf}
 use Rattle.sound.specs.declared.View.{View}
 use Rattle.sound.specs.Sound.{total}
 
@@ -57,52 +59,6 @@ viewOf l i = record {
   cost = addedAfter (l .tree) (bytesOf l) i i;
 }
 
--- the numbers of a class, which is in no set yet and has no totals
-abbrev pub viewBy : ℕ → ℕ → Bytes → ℕ → ℕ → Account → List ℕ → View
-viewBy i place size start held account lengths = record {
-  class = i;
-  place = place;
-  size = size;
-  leaf = false;
-  active = false;
-  child = false;
-  start = start;
-  held = held;
-  first = getD lengths (slot i (start % 32)) 0;
-  account = account;
-  packets = 0;
-  bytes = 0;
-  waiting = 0;
-  cost = 0;
-}
-
--- with its flags, its totals and what its children's add to
-abbrev pub viewWith : View → Bool → Bool → Bool → ℕ → ℕ → ℕ → ℕ → View
-viewWith v leaf active child packets bytes waiting cost = record {
-  class = v .class;
-  place = v .place;
-  size = v .size;
-  leaf = leaf;
-  active = active;
-  child = child;
-  start = v .start;
-  held = v .held;
-  first = v .first;
-  account = v .account;
-  packets = packets;
-  bytes = bytes;
-  waiting = waiting;
-  cost = cost;
-}
-
-abbrev pub inSets : View → ℕ → ℕ → ℕ → View
-inSets v leaves active parents =
-    let i = v .class in
-    viewWith v (has leaves i) (has active i) (has parents i) (v .packets) (v .bytes) (v .waiting) (v .cost)
-
-abbrev pub withTotals : View → ℕ → ℕ → ℕ → ℕ → View
-withTotals v packets bytes waiting cost = viewWith v (v .leaf) (v .active) (v .child) packets bytes waiting cost
-
 -- the clauses of soundness at a leaf, in its numbers
 pub record LeafRight (v : View) : Type 0 where
   pub few : v .held ≤ 32
@@ -139,14 +95,23 @@ unfoldable pub lengthsCost : List ℕ → ℕ → ℕ → ℕ → ℕ
 lengthsCost lengths class start zero = 0
 lengthsCost lengths class start (suc n) = lengthsCost lengths class start n + costOf (getD lengths (slot class ((start + n) % 32)) 0)
 
--- the packet at a place is within its range, where one waits there: the place's turn is one of those held
-pub record PlaceInRange (length turn held longest : ℕ) : Type 0 where
-  pub low : turn < held → 1 ≤ length
-  pub high : turn < held → length ≤ longest
+-- what is seen of a packet at a place: its length less 1, which wraps where it is 0; and 0 where none waits, for the turn of its place is
+-- past those held
+unfoldable pub seenOf : ℕ → ℕ → ℕ → ℕ
+seenOf length turn held = cond (ltb turn held) (cond (eqb length 0) 65_535 (length - 1)) 0
 
--- and what it costs, where one waits there
-unfoldable pub placeCost : ℕ → ℕ → ℕ → ℕ
-placeCost length turn held = cond (ltb turn held) (costOf length) 0
+-- of place k of a class
+abbrev pub seenAt : List ℕ → ℕ → ℕ → ℕ → ℕ → ℕ
+seenAt lengths class start held k = seenOf (getD lengths (slot class k) 0) ((k + 32 - start) % 32) held
+
+-- the most of the numbers x at the places before n, and at those 8, 16 and 24 on
+unfoldable pub mostTo : (ℕ → ℕ) → ℕ → ℕ
+mostTo x zero = 0
+mostTo x (suc n) = max (mostTo x n) (max (max (x n) (x (n + 8))) (max (x (n + 16)) (x (n + 24))))
+
+-- what is above 59 of those at place k and at the three places 8, 16 and 24 on: it wraps
+abbrev pub fourOver : (ℕ → ℕ) → ℕ → ℕ
+fourOver x k = ((x k - 59) + (x (k + 8) - 59) + (x (k + 16) - 59) + (x (k + 24) - 59)) % 65_536
 
 -- the waiting packets of a leaf are within its range, and cost together what its total says
 pub record QueueRight (v : View) (lengths : List ℕ) (longest : ℕ) : Type 0 where
@@ -163,3 +128,9 @@ pub record ClassRight (v : View) (lengths : List ℕ) (longest : ℕ) : Type 0 w
 pub record ClassesRight (l : Link) : Type 0 where
   pub at : (i : ℕ) → i < 64 → ClassRight (viewOf l i) (l .lengths) (longestOf (l .tree) i)
   pub adds : total (l .accounts) ≡ l .size .0
+
+-- the link that lent numbers make up
+abbrev pub linkIn : List ℕ → Bytes → ℕ → ℕ → List ℕ → List ℕ → List ℕ → List ℕ → List ℕ → List ℕ → List ℕ → List ℕ → List ℕ → ℕ → Link
+linkIn shape size active place balance residual start held lengths tags marks packets bytes charged =
+    linkOf (treeIn shape) size active place (zipAccounts balance residual) start held lengths tags marks
+    (record { packets = packets; bytes = bytes; charged = charged })

@@ -1,19 +1,28 @@
 // Whether a link record, any record of numbers whatever, is sound (R101 to R115), decided with no overflow and no fault.
 // Serves demand 1: refusal 11 rests on it.
+mod queue;
 
+ghost use mathlib.Core.Bool.{true};
 ghost use mathlib.Core.Path.{_≡_};
 ghost use mathlib.Core.List.{List};
+ghost use lib.ListN.{length};
 ghost use Prim.Native.Nat.{ℕ, _≤_, _<_};
 ghost use Rattle.tree.specs.Size.{mostSize};
 ghost use Rattle.checks.specs.Check.{Exactly};
 ghost use Rattle.tree.specs.Rules.{PlanRules};
+ghost use Rattle.shape.specs.Shape.{treeIn, Families};
+ghost use Rattle.state.specs.Account.{zipAccounts};
 ghost use Rattle.state.specs.State.{linkOf};
 ghost use Rattle.sound.specs.Sound.{SoundLink};
-ghost use Rattle.sound.specs.Steps.{LeafRight, OtherRight, ViewRight, PlaceInRange, placeCost, QueueRight, ClassRight};
-ghost use Rattle.sound.specs.Steps.{viewBy, inSets, withTotals, ClassesRight, SizeWithin};
+ghost use Rattle.sound.specs.Steps.{LeafRight, OtherRight, ViewRight, ClassRight};
+ghost use Rattle.sound.specs.Steps.{linkIn, ClassesRight, SizeWithin};
+use queue::queue_right;
 use state::Account;
 use state::Link;
 use state::Totals;
+use state::lent_accounts::account_of;
+use state::lent_accounts::balances;
+use state::lent_accounts::residuals;
 use state::queue::slot;
 use tree::Tree;
 use tree::wide;
@@ -113,60 +122,9 @@ fn view_is_right(v: View) -> bool
     other_right(v)
 }
 
-// 1 where a packet that waits is outside its range, and 0 where it is within or none waits: the turn of its place is past those held.
-fn outside(length: u16, turn: u8, held: u8, longest: u16) -> u8
-    ensures { λ r. ⌜ (r ≤ 1) × (r ≡ 0 → PlaceInRange length turn held longest) × (PlaceInRange length turn held longest → r ≡ 0) ⌝ }
-{
-    if held <= turn {
-        return 0;
-    }
-    if length < 1 {
-        return 1;
-    }
-    if longest < length {
-        return 1;
-    }
-    0
-}
-
-// What the packet at a place costs, where one waits there, and else 0.
-fn charge(length: u16, turn: u8, held: u8) -> u32
-    ensures { λ r. ⌜ (r ≡ placeCost length turn held) × (r ≤ 65_559) ⌝ }
-{
-    let cost = units::cost(length).0;
-    if held <= turn {
-        return 0;
-    }
-    cost as u32
-}
-
-// The waiting packets of a leaf are within its range, and cost together what its total says: place by place, without an early end.
-fn queue_right(v: View, lengths: &[u16; 2048], longest: u16) -> bool
-    requires { ⌜ (v .class < 64) × (v .start ≤ 31) × (v .held ≤ 32) ⌝ }
-    ensures { λ r. ⌜ Exactly r (QueueRight v (now (lengths .entry)) longest) ⌝ }
-{
-    if v.held == 0 {
-        return v.bytes == 0;
-    }
-    let mut wrong: u8 = 0;
-    let mut sum: u32 = 0;
-    let mut k: u8 = 0;
-    while k < 32 {
-        let length = lengths[slot(v.class, wide(k))];
-        let turn = (k + 32 - v.start) % 32;
-        wrong += outside(length, turn, v.held, longest);
-        sum += charge(length, turn, v.held);
-        k += 1;
-    }
-    if wrong != 0 {
-        return false;
-    }
-    v.bytes == sum as u64
-}
-
 // A class right, in its numbers and its packets.
 fn class_right(v: View, lengths: &[u16; 2048], longest: u16) -> bool
-    requires { ⌜ v .class < 64 ⌝ }
+    requires { ⌜ (v .class < 64) × (longest ≤ 9_216) ⌝ }
     ensures { λ r. ⌜ Exactly r (ClassRight v (now (lengths .entry)) longest) ⌝ }
 {
     if !view_is_right(v) {
@@ -178,95 +136,57 @@ fn class_right(v: View, lengths: &[u16; 2048], longest: u16) -> bool
     queue_right(v, lengths, longest)
 }
 
-// The numbers of a class, which is in no set yet and has no totals.
-fn numbers_of(
-    class: usize,
-    place: usize,
-    size: Bytes,
-    start: u8,
-    held: u8,
-    account: Account,
-    lengths: &[u16; 2048],
-) -> View
-    requires { ⌜ class < 64 ⌝ }
-    ensures { λ r. ⌜ r ≡ viewBy class place size start held account (now (lengths .entry)) ⌝ }
-{
-    let first = lengths[slot(class, wide(start) % Link::PLACES)];
-    View {
-        class,
-        place,
-        size,
-        leaf: false,
-        active: false,
-        child: false,
-        start,
-        held,
-        first,
-        account,
-        packets: 0,
-        bytes: 0,
-        waiting: 0,
-        cost: 0,
-    }
-}
-
-// The class in the sets that it is in: leaves, active classes, parents of active ones.
-fn in_sets(v: View, leaves: u64, active: u64, parents: u64) -> View
-    requires { ⌜ v .class < 64 ⌝ }
-    ensures { λ r. ⌜ r ≡ inSets v leaves active parents ⌝ }
-{
-    let mut w = v;
-    w.leaf = sets::has(leaves, v.class);
-    w.active = sets::has(active, v.class);
-    w.child = sets::has(parents, v.class);
-    w
-}
-
-// The class with its totals, and what its children's add to.
-fn with_totals(v: View, packets: u64, bytes: u64, waiting: u64, cost: u64) -> View
-    ensures { λ r. ⌜ r ≡ withTotals v packets bytes waiting cost ⌝ }
-{
-    let mut w = v;
-    w.packets = packets;
-    w.bytes = bytes;
-    w.waiting = waiting;
-    w.cost = cost;
-    w
-}
-
-// Every class right, from the highest down, and all B and R add to the size. Each class adds its totals to what its parent's are to be,
-// and each active one puts its parent into a set.
+// Every class right, from the highest down, and all B and R add to the size. Each class adds its totals to what its parent's are to be.
 fn classes_right(
-    tree: Tree,
+    shape: &[u64; 195],
     size: Bytes,
     active: u64,
     place: usize,
-    accounts: [Account; Link::CLASSES],
-    start: [u8; Link::CLASSES],
-    held: [u8; Link::CLASSES],
+    balance: &[u64; 64],
+    residual: &[u64; 64],
+    start: &[u8; 64],
+    held: &[u8; 64],
     lengths: &[u16; 2048],
-    totals: Totals,
+    packets: &[u64; 64],
+    bytes: &[u64; 64],
+    children: &[u64; 64],
 ) -> bool
-    requires { ⌜ PlanRules tree × (size .0 ≤ mostSize) ⌝ }
-    ensures { λ r. ⌜ ((tags marks : List ℕ)
-        → Exactly r (ClassesRight (linkOf tree size active place accounts start held (now (lengths .entry)) tags marks totals))) ⌝ }
+    requires { ⌜ PlanRules (treeIn (now shape)) × Families (treeIn (now shape)) (now children)
+        × (length (zipAccounts (now balance) (now residual)) ≡ 64) × (size .0 ≤ mostSize) ⌝ }
+    ensures { λ r. ⌜ ((tags marks : List ℕ) (charged : ℕ)
+        → Exactly r (ClassesRight (linkIn (now (shape .entry)) size active place (now (balance .entry)) (now (residual .entry))
+        (now (start .entry)) (now (held .entry)) (now (lengths .entry)) tags marks (now (packets .entry)) (now (bytes .entry))
+        charged))) ⌝ }
 {
+    let leaves = shape::leaves(shape);
     let mut waiting = [0u64; Link::CLASSES];
     let mut cost = [0u64; Link::CLASSES];
     let mut sum = Bytes(0);
-    let mut parents: u64 = 0;
     let mut n = Link::CLASSES;
     while 0 < n {
         let i = n - 1;
-        let mut v = numbers_of(i, place, size, start[i], held[i], accounts[i], lengths);
-        v = in_sets(v, tree.leaves, active, parents);
-        v = with_totals(v, totals.packets[i], totals.bytes[i], waiting[i], cost[i]);
-        if !class_right(v, lengths, tree.longest[i]) {
+        let account = account_of(i, balance, residual);
+        let v = View {
+            class: i,
+            place,
+            size,
+            leaf: sets::has(leaves, i),
+            active: sets::has(active, i),
+            child: sets::both(children[i], active) != 0,
+            start: start[i],
+            held: held[i],
+            first: lengths[slot(i, wide(start[i]) % Link::PLACES)],
+            account,
+            packets: packets[i],
+            bytes: bytes[i],
+            waiting: waiting[i],
+            cost: cost[i],
+        };
+        if !class_right(v, lengths, shape::longest(shape, i)) {
             return false;
         }
         sum = sum.plus(v.account.funds());
-        let up = wide(tree.parent[i]);
-        parents = sets::with_if(parents, up, v.active);
+        let up = shape::parent(shape, i);
         waiting[up] += v.packets;
         cost[up] += v.bytes;
         n -= 1;
@@ -284,7 +204,75 @@ fn size_right(follows: bool, whole: Bytes, size: Bytes) -> bool
     size.0 == whole.0
 }
 
-// Whether the link that these fields make up is sound; its tags, its marks and its running total have no say.
+// An array of 64 numbers has 64: a function is told so of what it is given, but not of what it is lent.
+fn given_64(numbers: [u64; 64]) -> bool
+    ensures { λ r. ⌜ length numbers ≡ 64 ⌝ }
+{
+    true
+}
+
+fn lent_64(numbers: &[u64; 64]) -> bool
+    ensures { λ r. ⌜ length (now (numbers .entry)) ≡ 64 ⌝ }
+{
+    let all = *numbers;
+    given_64(all)
+}
+
+// Whether the link that these lent numbers make up is sound; its tags, its marks and its running total have no say. Where it is, the
+// sets of children of its class numbers are given too.
+pub fn is_sound_at(
+    shape: &[u64; 195],
+    size: Bytes,
+    active: u64,
+    place: usize,
+    balance: &[u64; 64],
+    residual: &[u64; 64],
+    start: &[u8; 64],
+    held: &[u8; 64],
+    lengths: &[u16; 2048],
+    packets: &[u64; 64],
+    bytes: &[u64; 64],
+    children: &mut [u64; 64],
+) -> bool
+    ensures { λ r. ⌜ ((tags marks : List ℕ) (charged : ℕ)
+        → Exactly r (SoundLink (linkOf (treeIn (now (shape .entry))) size active place
+        (zipAccounts (now (balance .entry)) (now (residual .entry))) (now (start .entry)) (now (held .entry)) (now (lengths .entry)) tags
+        marks (record { packets = now (packets .entry); bytes = now (bytes .entry); charged = charged })))) ⌝ }
+    ensures { λ r. ⌜ (r ≡ true → Families (treeIn (now (shape .entry))) (now (children .exit))) ⌝ }
+{
+    let balances = lent_64(balance);
+    let residuals = lent_64(residual);
+    let plan = shape::plan_size(shape, children);
+    if !plan.right {
+        return false;
+    }
+    let whole = plan.size;
+    if !size_right(shape::follows(shape), whole, size) {
+        return false;
+    }
+    if place < 1 {
+        return false;
+    }
+    if Link::CLASSES < place {
+        return false;
+    }
+    classes_right(
+        shape,
+        size,
+        active,
+        place,
+        balance,
+        residual,
+        start,
+        held,
+        lengths,
+        packets,
+        bytes,
+        children,
+    )
+}
+
+// Whether the link that these fields make up is sound; its tags and its marks have no say.
 pub fn is_sound_of(
     tree: Tree,
     size: Bytes,
@@ -299,30 +287,25 @@ pub fn is_sound_of(
     ensures { λ r. ⌜ ((tags marks : List ℕ)
         → Exactly r (SoundLink (linkOf tree size active place accounts start held (now (lengths .entry)) tags marks totals))) ⌝ }
 {
-    let plan = tree::plan_size(tree);
-    if !plan.right {
-        return false;
-    }
-    let whole = plan.size;
-    if !size_right(tree.follows, whole, size) {
-        return false;
-    }
-    if place < 1 {
-        return false;
-    }
-    if Link::CLASSES < place {
-        return false;
-    }
-    classes_right(
-        tree,
+    let shape = shape::shape_of(tree);
+    let balance = balances(accounts);
+    let residual = residuals(accounts);
+    let packets = totals.packets;
+    let bytes = totals.bytes;
+    let mut children = [0u64; 64];
+    is_sound_at(
+        &shape,
         size,
         active,
         place,
-        accounts,
-        start,
-        held,
+        &balance,
+        &residual,
+        &start,
+        &held,
         lengths,
-        totals,
+        &packets,
+        &bytes,
+        &mut children,
     )
 }
 

@@ -18,12 +18,12 @@ use Rattle.state.specs.Account.{balanceOf}
 use Rattle.state.specs.declared.Totals.{Totals}
 use Rattle.state.specs.Queue.{packetAt, queued, withTotals, liftedFirst}
 use Rattle.state.specs.Mark.{wrapped, chargedMore}
-use Rattle.state.specs.WayUp.{recounted, Climbs}
+use Rattle.state.specs.WayUp.{recounted, Climbs, CountsIt}
 use Rattle.state.specs.State.{meaning, linkInRound}
 use Rattle.rules.specs.Sending.{Books, firstOf, paidBy, booksAfter, sentState, turnsOff}
 use Rattle.rules.specs.Steps.{Fit}
 use Rattle.rules.specs.After.{sentLink}
-use Rattle.rules.proofs.Counted.{sound-climbs}
+use Rattle.rules.proofs.Counted.{sound-climbs, leaf-counts}
 use Rattle.rules.proofs.Fitting.{fit-paid}
 use Rattle.rules.proofs.Meanings.{start-low, sound-fit, link-sender, sender-holds, first-cost, paid-means, books-more, books-last}
 use Rattle.state.specs.Account.{zipAccounts}
@@ -52,9 +52,6 @@ module _
   pub goes-takes : (i < 64) × (getD start i 0 < 32) × (1 ≤ getD held i 0)
   goes-takes = (s .next .found, goes-first .1, sender-holds whole i (s .next))
 
-  pub goes-climbs : (i < 64) × Climbs t (totals .packets) (totals .bytes)
-  goes-climbs = (s .next .found, sound-climbs whole (s .next .sound))
-
   rules : PlanRules t
   rules = s .next .sound .state .fits .tree
 
@@ -70,6 +67,16 @@ module _
     pub goes-pays : Fit (zipAccounts balance residual) × (i < 64) × (cost ≤ balanceOf (zipAccounts balance residual) i)
     goes-pays =
         (sound-fit whole (s .wide) (s .next .sound), s .next .found, omega (arith, costs, link-sender whole i (s .next) .covers))
+
+    pub goes-climbs : (i < 64) × Climbs t (totals .packets) (totals .bytes)
+        × CountsIt true i (costOf (p .length)) (totals .packets) (totals .bytes)
+    goes-climbs =
+        let sender = link-sender whole i (s .next) in
+        let counts = leaf-counts whole i (s .next .sound) (sender .leaf) (sender .holds) in (
+          s .next .found,
+          sound-climbs whole (s .next .sound),
+          record { one = λ _. counts .0; all = λ _. omega (arith, counts .1, costs, k) },
+        )
 
     module _ (b r : List ℕ) (y : zipAccounts b r ≡ paidBy (zipAccounts balance residual) i cost) where
       pub goes-off : {children : List ℕ} → Families t children

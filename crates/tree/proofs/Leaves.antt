@@ -15,7 +15,7 @@ use Rattle.tree.specs.Class.{parentOf, isClass, isLeaf, isChild, ofChild
 use Rattle.tree.specs.Below.{atOrBelow, leafBelow, leavesSum, AddsBelow}
 use Rattle.tree.specs.Rules.{PlanRules}
 use Rattle.tree.specs.Sum.{sumTo}
-use Rattle.tree.proofs.Classes.{both-true, class-in, class-range, class-past, root-no-class}
+use Rattle.tree.proofs.Classes.{both-true, class-in, class-range, class-past, root-no-class, child-own}
 use Rattle.tree.proofs.Rules.{few-classes, leaf-number, parent-lower, parent-no-leaf, parent-below}
 use Rattle.tree.proofs.Below.{below-step, below-root, below-self, below-least, below-parent}
 use Rattle.tree.proofs.Sums.{sum-same, sum-zero, sum-one, sum-add, sum-swap, sum-change, sum-bound, sum-part, sum-longer}
@@ -309,6 +309,18 @@ module _ (t : Tree) (rules : PlanRules t) where
   leaves-same f g i same =
       sum-same (leafBelow t f i) (leafBelow t g i) (t .count)
       (λ j l u. ap (λ (n : ℕ). cond (isLeaf t j && atOrBelow t i j) n 0) (same j (omega (arith, u, few-classes t rules))))
+
+  -- what is at or below a class is at or below its parent too: sums rise on the way up
+  pub sum-rises : (f : ℕ → ℕ) (k : ℕ) → 1 ≤ k → leavesSum t f k ≤ leavesSum t f (parentOf t k)
+  unfolding childrenSum
+  sum-rises f k l = go (decLe k (t .count))
+    where
+      go : Dec (k ≤ t .count) → leavesSum t f k ≤ leavesSum t f (parentOf t k)
+      go (yes v) =
+          let p = parentOf t k in
+          let part = sum-part (ofChild t (leavesSum t f) p) (t .count) k l v in
+          omega (arith, sums-add t rules f p (parent-no-leaf t k rules (class-in t k l v)), child-own t (leavesSum t f) k, part)
+      go (no v) = let none = past-sum t rules f k (omega (arith, v)) in omega (arith, none)
 
   -- so the root's sum is at least 1 exactly when f is, at some leaf
   pub root-some : (f : ℕ → ℕ) (j : ℕ) → isLeaf t j ≡ true → f j ≤ leavesSum t f 0

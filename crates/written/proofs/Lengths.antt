@@ -2,7 +2,8 @@
 use mathlib.Core.Bool.{Bool, true, false, cond}
 use mathlib.Core.List.{[], _∷_, _++_}
 use mathlib.Core.Path.{_≡_, refl, sym, ap, ap₂, _∙_}
-use Prim.Native.Nat.{ℕ, zero, suc, _+_, _*_, _-_, _≤_}
+use Prim.Native.Nat.{ℕ, zero, suc, _+_, _*_, _-_, _≤_, _<_}
+use native.Mathlib.Decide.{decLt}
 use native.Mathlib.Numerals.{add-one}
 use native.Mathlib.Omega.{arith}
 use lib.ListN.{length, length-append}
@@ -70,6 +71,16 @@ classes-last t zero h = absurd (omega arith)
 classes-last t (suc n) h =
     let e : n ≡ suc n - 1 = omega arith in
     ap (λ (k : ℕ). classesBytes t k ++ classBytes t (suc n)) e
+
+-- fewer classes are not longer
+pub classes-grow : (t : Tree) (i n : ℕ) → i ≤ n → length (classesBytes t i) ≤ length (classesBytes t n)
+classes-grow t i zero h = let e : i ≡ 0 = omega (arith, h) in rw e (omega arith)
+classes-grow t i (suc n) h = go (decLt n i) (λ m. classes-grow t i n m)
+  where
+    go : Dec (n < i) → (i ≤ n → length (classesBytes t i) ≤ length (classesBytes t n))
+        → length (classesBytes t i) ≤ length (classesBytes t (suc n))
+    go (yes m) rest = let e : i ≡ suc n = omega (arith, h, m) in rw e (omega arith)
+    go (no m) rest = omega (arith, rest (omega (arith, m)), classes-length t n)
 
 pub classes-none : (t : Tree) → classesBytes t 0 ≡ []
 unfolding classesBytes

@@ -1,5 +1,5 @@
 // A plan written back: the bytes of any tree laid into a lent buffer (R258 to R263). The entry asks nothing (R196).
-// Classes are laid upward, by a call for those below each: the class number falls at each call.
+// Classes are laid upward, one after the other.
 ghost use mathlib.Core.Path.{_≡_};
 ghost use mathlib.Core.Bool.{cond};
 ghost use Prim.Native.Nat.{_+_, _≤_, _<_};
@@ -89,11 +89,13 @@ fn put_classes(tree: Tree, n: usize, at: usize, out: &mut [u8]) -> usize
     requires { ⌜ (n ≤ 63) × (at + length (classesBytes tree n) ≤ length (now out)) ⌝ }
     ensures { λ r. ⌜ LaidAt at (classesBytes tree n) (now (out .entry)) r (now (out .exit)) ⌝ }
 {
-    if n == 0 {
-        return at;
+    let mut next = at;
+    let mut i: usize = 1;
+    while i <= n {
+        next = put_class(tree, i, next, out);
+        i += 1;
     }
-    let next = put_classes(tree, n - 1, at, out);
-    put_class(tree, n, next, out)
+    next
 }
 
 // Lays the whole plan.

@@ -9,6 +9,9 @@ use Rattle.tree.specs.declared.Tree.{Tree}
 use Rattle.tree.specs.Rules.{PlanRules}
 use Rattle.state.specs.WayUp.{Climbs}
 use Rattle.state.specs.State.{linkOf}
+use Rattle.checks.specs.Check.{Exactly}
+use Rattle.sound.specs.Sound.{SoundLink}
+use Rattle.sound.proofs.Lent.{lent-exactly}
 use Rattle.rules.proofs.Counted.{sound-climbs}
 use borrow.Author.Needs.{needs}
 use Rattle.link.proofs.arrive_in.Statement.{statement}
@@ -20,40 +23,73 @@ counts st =
     let n = LL.owed N.the-type N′.the-laws (st .args .totals) _ (st .good .1 .1 .1 .1 .1 .1 .1 .0) in
     sym (length-map (st .args .totals .bytes) _) ∙ n .1 .0 .1 .0 .1
 
-is-sound-of-requires : tie.Need-is-sound-of-requires
-is-sound-of-requires c κs = search needs
+-- there are as many accounts as class numbers
+many : (st : tie.Start) → length (st .args .accounts) ≡ 64
+many st = st .good .1 .1 .1 .1 .0 .1 .0 .1
 
 -- the link that the fields make up
 abbrev whole : tie.Start → Link
 whole st =
     let a = st .args in
-    linkOf (a .tree) (a .size) (a .active) (a .place) (a .accounts) (a .t6) (a .held) (a .lengths .now) (a .tags .now) (a .marks .now)
+    linkOf (a .tree) (a .size) (a .active) (a .place) (a .accounts) (a .t6) (a .t7) (a .lengths .now) (a .tags .now) (a .marks .now)
     (a .totals)
 
 shape-of-requires : tie.Need-shape-of-requires
 shape-of-requires c κs = search needs
 
+balances-requires : tie.Need-balances-requires
+balances-requires c κs = search needs
+
+residuals-requires : tie.Need-residuals-requires
+residuals-requires c κs = search needs
+
+is-sound-at-requires : tie.Need-is-sound-at-requires
+is-sound-at-requires c κs = search needs
+
+-- where the link was taken apart, and where its fields were given
+abbrev apart : tie.After-is-sound-at → tie.After-residuals
+apart s = s .before .before .before .before .before .before .before .before .before .before .before .before
+
+abbrev start-of : tie.After-is-sound-at → tie.Start
+start-of s = apart s .before .before .before
+
+-- whether it is sound was decided of the numbers that it was taken apart into
+decided : (s : tie.After-is-sound-at) → Exactly (s .is-sound-at .result) (SoundLink (whole (start-of s)))
+decided s =
+    let r = apart s in
+    let b = r .before in
+    let h = b .before in
+    let l = whole (start-of s) in
+    lent-exactly l (h .shape-of .result) (b .balances .result) (r .residuals .result) (h .shape-of .ensures) (many (start-of s))
+    (b .balances .ensures) (r .residuals .ensures) (s .is-sound-at .result)
+    (s .is-sound-at .ensures .0 (l .tags) (l .marks) (l .totals .charged))
+
 arrive-requires : tie.Need-arrive-requires
 arrive-requires c κs =
-    let s = c .before .before .before .before .before .before .before .before .before .before .before in
-    let l = whole (s .before .before) in
-    let h = c .before .before .before .before .before .before .before .before .before .before in
+    let s = c .before .before .before .before .before .before .before .before in
+    let l = whole (start-of s) in
     λ on.
-    let sound = s .is-sound-of .ensures (l .tags) (l .marks) .sound on in
-    subst (λ (t : Tree). PlanRules t × Climbs t (l .totals .packets) (l .totals .bytes)) (sym (h .shape-of .ensures))
+    let sound = decided s .sound on in
+    subst (λ (t : Tree). PlanRules t × Climbs t (l .totals .packets) (l .totals .bytes)) (sym (apart s .before .before .shape-of .ensures))
     (sound .state .fits .tree, sound-climbs l sound)
 
 returns : tie.Need-returns
 returns c =
-    let s = c .before .before .before .before .before .before .before .before .before .before .before .before in
-    let l = whole (s .before .before) in
-    let h = c .before .before .before .before .before .before .before .before .before .before .before in
+    let s = c .before .before .before .before .before .before .before .before .before in
     record {
-      sound = s .is-sound-of .result;
-      exactly = s .is-sound-of .ensures (l .tags) (l .marks);
-      gives = c .arrive .ensures l (sym (h .shape-of .ensures))
-          (λ on. record { sound = s .is-sound-of .ensures (l .tags) (l .marks) .sound on; wide = counts (s .before .before) });
+      sound = s .is-sound-at .result;
+      exactly = decided s;
+      gives = c .arrive .ensures (whole (start-of s)) (sym (apart s .before .before .shape-of .ensures))
+          (λ on. record { sound = decided s .sound on; wide = counts (start-of s) });
     }
 
 pub arrive-in-spec : {M : Type 1} → statement M
-arrive-in-spec = tie.close (tie.spec is-sound-of-requires shape-of-requires arrive-requires returns)
+arrive-in-spec =
+    tie.close
+    (tie.spec
+    shape-of-requires
+    balances-requires
+    residuals-requires
+    is-sound-at-requires
+    arrive-requires
+    returns)

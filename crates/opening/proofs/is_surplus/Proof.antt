@@ -1,7 +1,8 @@
 -- `opening::is_surplus` meets its contract.
 use mathlib.Core.Bool.{Bool, false, cond, _&&_}
 use mathlib.Core.Path.{_≡_, sym, ap, _∙_}
-use Prim.Native.Nat.{ℕ, _-_, _^_, _≤_, _<_}
+use Prim.Native.Nat.{ℕ, _+_, _-_, _^_, _≤_, _<_}
+use native.Mathlib.Decide.{decLt}
 use native.Mathlib.Omega.{arith}
 use Rattle.sets.specs.Set.{has}
 use Rattle.tree.specs.declared.Tree.{Tree}
@@ -42,19 +43,27 @@ both-requires c κs = search needs
 next-requires : tie.Need-next-requires Inv-loop μ-loop
 next-requires c κs = omega arith
 
+-- a class that is not among the active inner ones has none
+passed-over : (b : tie.After-both Inv-loop μ-loop) → let st = b .before .before .before in (k : ℕ) → k < 64 → has (b .both .result) k ≡ false
+    → hasSurplus (treeAt st) (st .args .active) (zipAccounts (st .args .balance .now) (st .args .residual .now)) k ≡ false
+passed-over b k h none =
+    let v = b .before in
+    let st = b .before .before .before in
+    not-inner (treeAt st) (st .args .active) _ k h (st .pre .0 .rules .unset .word)
+    (ap (λ (s : ℕ). has (st .args .active) k && has (2 ^ 64 - 1 - s) k) (sym (v .leaves .ensures)) ∙ sym (b .both .ensures .both k) ∙ none)
+
+-- what holds before a number and from it on
+near-or-far : (f : ℕ → Bool) (n : ℕ) → ((k : ℕ) → 1 ≤ k → k < n → f k ≡ false) → (k : ℕ) → 1 ≤ k → (n ≤ k → f k ≡ false) → f k ≡ false
+near-or-far f n near k l far = go (decLt k n)
+  where
+    go : Dec (k < n) → f k ≡ false
+    go (yes h) = near k l h
+    go (no h) = far (omega (arith, h))
+
 loop-holds : tie.Need-loop-holds Inv-loop μ-loop
 loop-holds c =
-    let b = c .before in
-    let v = b .before in
-    let st = c .before .before .before .before in
-    let n = c .next .ensures in (
-      n .low,
-      n .high,
-      λ k l h.
-          not-inner (treeAt st) (st .args .active) _ k (omega (arith, h, n .high)) (st .pre .0 .rules .unset .word)
-          (ap (λ (s : ℕ). has (st .args .active) k && has (2 ^ 64 - 1 - s) k) (sym (v .leaves .ensures))
-          ∙ sym (b .both .ensures .both k) ∙ n .between k l h),
-    )
+    let n = c .next .ensures in
+    (n .low, n .high, λ k l h. passed-over (c .before) k (omega (arith, h, n .high)) (n .between k l h))
 
 -- the loop's class, and whether it has a surplus
 at-hand : (g : tie.In-loop Inv-loop μ-loop) → g .before .loop .i ≤ treeAt (start-of (g .before)) .count
@@ -117,17 +126,27 @@ returns c =
     let found = some-found (surplus-at g) count (h .loop .i) (h .loop .inv .0) (at-hand g) (said (c .before) ∙ c .if1 .taken) in
     sym (ap (λ (b : Bool). cond b surplus main) found)
 
-add-i : tie.Need-add-i Inv-loop μ-loop
-add-i c = omega (arith, low (test-of (c .before)))
+add-next : tie.Need-add-next Inv-loop μ-loop
+add-next c = omega (arith, low (test-of (c .before)))
+
+next-requires-2 : tie.Need-next-requires-2 Inv-loop μ-loop
+next-requires-2 c κs = omega (arith, low (test-of (c .before)))
 
 loop-less : tie.Need-loop-less Inv-loop μ-loop
-loop-less c = omega (arith, low (test-of (c .before)))
+loop-less c = omega (arith, low (test-of (c .before .before)), c .next2 .ensures .low)
 
 loop-again : tie.Need-loop-again Inv-loop μ-loop
 loop-again c =
-    let g = test-of (c .before) in
+    let s = c .before .before in
+    let g = test-of s in
     let h = g .before in
-    (omega arith, omega (arith, low g), none-more (surplus-at g) (h .loop .i) (h .loop .inv .2) (said (c .before) ∙ c .if1 .left))
+    let n = c .next2 .ensures in
+    let so-far = none-more (surplus-at g) (h .loop .i) (h .loop .inv .2) (said s ∙ c .before .if1 .left) in (
+      omega (arith, n .low),
+      n .high,
+      λ k l u. near-or-far (surplus-at g) (h .loop .i + 1) so-far k l
+          (λ far. passed-over (h .before .before) k (omega (arith, u, n .high)) (n .between k far u)),
+    )
 
 returns-2 : tie.Need-returns-2 Inv-loop μ-loop
 unfolding kindOf
@@ -162,7 +181,8 @@ is-surplus-spec =
     account-of-requires
     class-surplus-requires
     returns
-    add-i
+    add-next
+    next-requires-2
     loop-less
     loop-again
     returns-2)

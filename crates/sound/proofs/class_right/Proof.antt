@@ -24,7 +24,7 @@ queue-right-requires : tie.Need-queue-right-requires
 queue-right-requires c κs =
     let e = c .before .before in
     let right = numbers e in
-    (e .before .before .pre, right .start, right .leaf (not-false _ (c .if2 .left)) .few)
+    (e .before .before .pre .0, right .start, right .leaf (not-false _ (c .if2 .left)) .few, e .before .before .pre .1)
 
 returns-3 : tie.Need-returns-3
 returns-3 c = record {

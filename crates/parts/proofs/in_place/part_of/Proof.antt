@@ -19,10 +19,12 @@ use Rattle.lines.specs.Line.{lineRoom}
 use Rattle.steps.specs.Fields.{linkAt}
 use Rattle.steps.specs.Rounds.{Kept}
 use Rattle.steps.specs.declared.Stand.{Stand}
-use Rattle.parts.specs.declared.in_place.Did.{Did}
+use Rattle.answers.specs.declared.event.Heard.{Heard}
+use Rattle.answers.specs.Steps.{Told}
 use Rattle.steps.proofs.Wholes.{apart-is}
 use Rattle.parts.specs.Steps.{Taken}
 use Rattle.run.proofs.Lines.{stepsLeft, steps-less, next-on}
+use Rattle.parts.proofs.Happenings.{event-goes}
 use Rattle.parts.proofs.Parts.{Laying, laying-starts, laying-on, laying-ends}
 use borrow.Author.Needs.{needs}
 use borrow.Author.Tests.{leb-true}
@@ -30,34 +32,31 @@ use Rattle.parts.proofs.in_place.part_of.Statement.{statement}
 use Rattle.parts.proofs.in_place.part_of.Tie as tie
 
 abbrev Inv-loop : tie.InvT-loop
-Inv-loop sound input place out₀ tree shape children kept₀ balance₀ residual₀ start₀ held₀ lengths₀ tags₀ marks₀ packets₀ bytes₀ known did₀
-    out kept balance residual start held lengths tags marks packets bytes did =
+Inv-loop sound input place out₀ tree shape children kept₀ balance₀ residual₀ start₀ held₀ lengths₀ tags₀ marks₀ packets₀ bytes₀ known run₀ laid₀
+    out kept balance residual start held lengths tags marks packets bytes run laid =
     let t = treeIn shape in
-    let link = linkAt t (did .stand) balance residual start held lengths tags marks packets bytes in
-    Laying (linkAt t (did₀ .stand) balance₀ residual₀ start₀ held₀ lengths₀ tags₀ marks₀ packets₀ bytes₀) input place out₀
-    (record { laid = did .laid; more = did .more; link = link; place = did .place }) out
-    × Shaped link × (did .sound ≡ sound) × (sound ≡ true → Kept t (did .stand .known) kept)
+    let link = linkAt t (run .stand) balance residual start held lengths tags marks packets bytes in
+    Laying (linkAt t (run₀ .stand) balance₀ residual₀ start₀ held₀ lengths₀ tags₀ marks₀ packets₀ bytes₀) input place out₀
+    (record { laid = laid; more = run .more; link = link; place = run .place }) out
+    × Shaped link × (run .sound ≡ sound) × (sound ≡ true → Kept t (run .stand .known) kept)
 
 abbrev μ-loop : tie.MeasureT-loop
-μ-loop sound input place out₀ tree shape children kept₀ balance₀ residual₀ start₀ held₀ lengths₀ tags₀ marks₀ packets₀ bytes₀ known did₀
-    out kept balance residual start held lengths tags marks packets bytes did =
-    stepsLeft input (did .more) (did .place)
+μ-loop sound input place out₀ tree shape children kept₀ balance₀ residual₀ start₀ held₀ lengths₀ tags₀ marks₀ packets₀ bytes₀ known run₀ laid₀
+    out kept balance residual start held lengths tags marks packets bytes run laid =
+    stepsLeft input (run .more) (run .place)
 
 -- where the link was handed in, the tree as its numbers, and where the part begins
 abbrev first : tie.After-outcome Inv-loop μ-loop → tie.Start Inv-loop μ-loop
-first o = o .before .before .before .before .before .before .before .before .before .before .before .before .before .before .before .before
-    .before .before .before .before .before .before .before
+first o = o .before .before .before .before .before .before .before .before .before .before .before .before .before .before .before .before .before .before .before .before .before .before .before .before
 
 abbrev treeAt : tie.After-outcome Inv-loop μ-loop → Tree
-treeAt o = treeIn (o .before .before .before .before .before .before .before .before .before .before .before .before .before .before
-    .before .before .before .before .before .shape-of .result)
+treeAt o = treeIn (o .before .before .before .before .before .before .before .before .before .before .before .before .before .before .before .before .before .before .before .before .shape-of .result)
 
 abbrev beginsAt : tie.After-outcome Inv-loop μ-loop → Stand → Link
 beginsAt o stand =
     let l = first o .args .link in
-    linkAt (treeAt o) stand (o .before .before .before .before .before .before .before .before .before .before .before .before .before
-    .before .before .balances .result)
-    (o .before .before .before .before .before .before .before .before .before .before .before .before .before .before .residuals .result)
+    linkAt (treeAt o) stand (o .before .before .before .before .before .before .before .before .before .before .before .before .before .before .before .before .balances .result)
+    (o .before .before .before .before .before .before .before .before .before .before .before .before .before .before .before .residuals .result)
     (l .start) (l .held) (l .lengths) (l .tags) (l .marks) (l .totals .packets)
     (l .totals .bytes)
 
@@ -69,7 +68,7 @@ abbrev standAt : tie.After-outcome Inv-loop μ-loop → Stand
 standAt o =
     let l = first o .args .link in
     record {
-      known = o .before .before .sums-now .result;
+      known = o .before .before .before .sums-now .result;
       size = l .size;
       active = l .active;
       place = l .place;
@@ -79,14 +78,12 @@ standAt o =
 taken-apart : (o : tie.After-outcome Inv-loop μ-loop) → beginsAt o (standAt o) ≡ first o .args .link
 taken-apart o =
     let st = first o in
-    apart-is (st .args .link) (treeAt o) _ _ (o .before .before .before .before .before .before .before .before .before .before .before
-    .before .before .before .before .before .before .before .before .shape-of .ensures)
-    (shaped (st .args .link) _ (st .good .1 .0)) (o .before .before .before .before .before .before .before .before .before .before .before
-    .before .before .before .before .balances .ensures)
-    (o .before .before .before .before .before .before .before .before .before .before .before .before .before .before .residuals .ensures)
+    apart-is (st .args .link) (treeAt o) _ _ (o .before .before .before .before .before .before .before .before .before .before .before .before .before .before .before .before .before .before .before .before .shape-of .ensures)
+    (shaped (st .args .link) _ (st .good .1 .0)) (o .before .before .before .before .before .before .before .before .before .before .before .before .before .before .before .before .balances .ensures)
+    (o .before .before .before .before .before .before .before .before .before .before .before .before .before .before .before .residuals .ensures)
 
 apart : (o : tie.After-outcome Inv-loop μ-loop) → begins o ≡ first o .args .link
-apart o = ap (λ (d : Did). beginsAt o (d .stand)) (o .outcome .ensures) ∙ taken-apart o
+apart o = ap (λ (d : Heard). beginsAt o (d .stand)) (o .outcome .ensures) ∙ taken-apart o
 
 -- its tree obeys the rules where it is sound
 lawful : (s : tie.After-shape-of Inv-loop μ-loop)
@@ -99,7 +96,7 @@ lawful s on =
 abbrev linkNow : tie.At-loop Inv-loop μ-loop → Tree → Link
 linkNow h t =
     let v = h .loop in
-    linkAt t (v .did .stand) (v .balance) (v .residual) (v .start) (v .held) (v .lengths) (v .tags) (v .marks) (v .packets) (v .bytes)
+    linkAt t (v .run .stand) (v .balance) (v .residual) (v .start) (v .held) (v .lengths) (v .tags) (v .marks) (v .packets) (v .bytes)
 
 as-sound : (h : tie.At-loop Inv-loop μ-loop)
     → Exactly (first (h .before) .args .sound) (SoundLink (linkNow h (treeAt (h .before))))
@@ -108,15 +105,18 @@ as-sound h =
     h .loop .inv .0 .kept (st .args .sound)
     (subst (λ (l : Link). Exactly (st .args .sound) (SoundLink l)) (sym (apart (h .before))) (st .pre))
 
+told-at : (h : tie.At-loop Inv-loop μ-loop) → Told (h .loop .run .sound) (linkNow h (treeAt (h .before)))
+told-at h = record { exactly = rw (h .loop .inv .2) (as-sound h); shape = h .loop .inv .1 }
+
 -- an event more is taken where the run goes on and there is room for its line
 taken : (c : tie.Then1 Inv-loop μ-loop)
-    → let h = c .before .before .loop in (h .did .more && leb (h .did .laid + lineRoom) (length (h .out))) ≡ true
+    → let h = c .before .before .loop in (h .run .more && leb (h .laid + lineRoom) (length (h .out))) ≡ true
 taken c = sym (c .before .takes-one .ensures) ∙ c .if1 .taken
 
-room : (c : tie.Then1 Inv-loop μ-loop) → c .before .before .loop .did .laid + lineRoom ≤ length (c .before .before .loop .out)
+room : (c : tie.Then1 Inv-loop μ-loop) → c .before .before .loop .laid + lineRoom ≤ length (c .before .before .loop .out)
 room c =
     let h = c .before .before .loop in
-    leb-true (h .did .laid + lineRoom) (length (h .out)) (both-true (h .did .more) _ (taken c) .1)
+    leb-true (h .laid + lineRoom) (length (h .out)) (both-true (h .run .more) _ (taken c) .1)
 
 shape-of-requires : tie.Need-shape-of-requires Inv-loop μ-loop
 shape-of-requires c κs = search needs
@@ -132,10 +132,12 @@ residuals-requires c κs = search needs
 
 sums-now-requires : tie.Need-sums-now-requires Inv-loop μ-loop
 sums-now-requires c κs = (
-  lawful (c .before .before .before .before .before .before .before .before .before .before .before .before .before
-      .before .before .before),
+  lawful (c .before .before .before .before .before .before .before .before .before .before .before .before .before .before .before .before),
   refl,
 )
+
+last-reply-requires : tie.Need-last-reply-requires Inv-loop μ-loop
+last-reply-requires c κs = search needs
 
 outcome-requires : tie.Need-outcome-requires Inv-loop μ-loop
 outcome-requires c κs = search needs
@@ -148,7 +150,7 @@ loop-holds c =
       laying-starts _ (now (a .input)) (a .place) (now (a .out)),
       subst Shaped (sym (taken-apart c)) (shaped (a .link) _ (st .good .1 .0)),
       refl,
-      c .before .before .sums-now .ensures,
+      c .before .before .before .sums-now .ensures,
     )
 
 takes-one-requires : tie.Need-takes-one-requires Inv-loop μ-loop
@@ -156,52 +158,49 @@ takes-one-requires c κs = let y = c .loop .inv .0 in omega (arith, y .within, y
 
 event-requires : tie.Need-event-requires Inv-loop μ-loop
 event-requires c κs =
-    let t = c .before .before .before .before .before .before .before .before .before .before .before .before .before in
-    let h = c .before .before .before .before .before .before .before .before .before .before .before .before .before .before .before in
+    let h = c .before .before .before .before .before .before .before .before .before .before .before .before .before .before in
     let same = h .loop .inv .2 in (
-      record { exactly = rw same (as-sound h); shape = h .loop .inv .1 },
+      told-at h,
       λ on. (
-        c .before .before .before .before .before .before .before .before .before .before .before .before .before .before .before
-            .before .before .before .before .before .before .before .before .before .before .before .before .before .before .before .before
-            .before .before .children-of .ensures (sym same ∙ on),
+        c .before .before .before .before .before .before .before .before .before .before .before .before .before .before .before .before .before .before .before .before .before .before .before .before .before .before .before .before .before .before .before .before .before .children-of .ensures (sym same ∙ on),
         h .loop .inv .3 (sym same ∙ on),
       ),
-      room t,
     )
+
+array-read-lay-reply : tie.Need-array-read-lay-reply Inv-loop μ-loop
+array-read-lay-reply c = search needs
+
+lay-reply-requires : tie.Need-lay-reply-requires Inv-loop μ-loop
+lay-reply-requires c κs = room (c .before .before .before .before .before .before .before .before .before .before .before .before .before .before)
 
 loop-less : tie.Need-loop-less Inv-loop μ-loop
 loop-less c =
-    let e = c .before .before in
-    let t = c .before .before .before .before .before .before .before .before .before .before .before .before .before .before .before
-    .before in
-    let h = c .before .before .before .before .before .before .before .before .before .before .before .before .before .before .before
-    .before .before .before in
-    let a = c .before .before .before .before .before .before .before .before .before .before .before .before .before .before .before
-    .before .before .before .before .before .before .before .before .before .before .before .before .before .before .before .before
-    .before .before .before .before .before .before .before .before .before .before .before .args in
-    let did = e .event .result in
-    let was = h .loop .did in
-    steps-less (now (a .input)) (did .more) (did .place) (was .more) (was .place) (both-true (was .more) _ (taken t) .0)
-    (next-on _ (now (a .input)) (was .place) _ (e .event .ensures .0 .goes))
+    let e = c .before .before .before .before in
+    let t = c .before .before .before .before .before .before .before .before .before .before .before .before .before .before .before .before .before in
+    let h = c .before .before .before .before .before .before .before .before .before .before .before .before .before .before .before .before .before .before .before in
+    let a = h .before .before .before .before .before .before .before .before .before .before .before .before .before .before .before .before .before .before .before .before .before .before .before .before .before .args in
+    let run = e .event .result in
+    let was = h .loop .run in
+    steps-less (now (a .input)) (run .more) (run .place) (was .more) (was .place) (both-true (was .more) _ (taken t) .0)
+    (next-on _ (now (a .input)) (was .place) _ (event-goes _ (now (a .input)) (was .place) (was .sound) (told-at h) run _ (e .event .ensures .0)))
 
 loop-again : tie.Need-loop-again Inv-loop μ-loop
 loop-again c =
-    let e = c .before .before in
-    let t = c .before .before .before .before .before .before .before .before .before .before .before .before .before .before .before
-    .before in
-    let h = c .before .before .before .before .before .before .before .before .before .before .before .before .before .before .before
-    .before .before .before in
-    let a = c .before .before .before .before .before .before .before .before .before .before .before .before .before .before .before
-    .before .before .before .before .before .before .before .before .before .before .before .before .before .before .before .before
-    .before .before .before .before .before .before .before .before .before .before .before .args in
-    let happens = e .event .ensures .0 in
-    let told = e .event .ensures .1 in
-    let same = h .loop .inv .2 in (
-      laying-on _ (now (a .input)) (a .place) (now (a .out)) _ _ _ (e .event .result .laid) _ (h .loop .inv .0) (happens .goes) (taken t)
-          (happens .lays .0) (omega (arith, happens .lays .1, room t, h .loop .inv .0 .long)),
-      happens .shape,
-      told .0 ∙ same,
-      λ on. told .1 (same ∙ on),
+    let lay = c .before .before in
+    let e = c .before .before .before .before in
+    let t = c .before .before .before .before .before .before .before .before .before .before .before .before .before .before .before .before .before in
+    let h = c .before .before .before .before .before .before .before .before .before .before .before .before .before .before .before .before .before .before .before in
+    let a = h .before .before .before .before .before .before .before .before .before .before .before .before .before .before .before .before .before .before .before .before .before .before .before .before .before .args in
+    let was = h .loop .run in
+    let same = h .loop .inv .2 in
+    let heard = e .event .ensures .0 in
+    let lays = lay .lay-reply .ensures in (
+      laying-on _ (now (a .input)) (a .place) (now (a .out)) _ _ _ (lay .lay-reply .result) _ (h .loop .inv .0)
+          (event-goes _ (now (a .input)) (was .place) (was .sound) (told-at h) (e .event .result) _ heard) (taken t)
+          (lays .0) (omega (arith, lays .1, room t, h .loop .inv .0 .long)),
+      heard .told .shape,
+      heard .same ∙ same,
+      λ on. e .event .ensures .1 (same ∙ on),
     )
 
 zipped-requires : tie.Need-zipped-requires Inv-loop μ-loop
@@ -219,11 +218,9 @@ returns c =
     let v = h .loop in
     let TakenBy : Link → Link → Type 0 = λ l after.
     Taken l (now (a .input)) (a .place) (now (a .out))
-    (record { laid = v .did .laid; more = v .did .more; link = after; place = v .did .place }) (v .out) in
+    (record { laid = v .laid; more = v .run .more; link = after; place = v .run .place }) (v .out) in
     rw (c .before .before .zipped .ensures)
-    (subst (λ (x : Tree). TakenBy (a .link) (linkNow h x)) (c .before .before .before .before .before .before .before .before .before
-    .before .before .before .before .before .before .before .before .before .before .before .before .before .before .before .before
-    .before .before .shape-of .ensures)
+    (subst (λ (x : Tree). TakenBy (a .link) (linkNow h x)) (c .before .before .before .before .before .before .before .before .before .before .before .before .before .before .before .before .before .before .before .before .before .before .before .before .before .before .before .before .shape-of .ensures)
     (subst (λ (l : Link). TakenBy l (linkNow h (treeAt o))) (apart o)
     (laying-ends _ (now (a .input)) (a .place) (now (a .out)) _ (v .out) (v .inv .0) (sym (i .before .takes-one .ensures) ∙ i .if1 .left))))
 
@@ -238,10 +235,13 @@ part-of-spec =
     balances-requires
     residuals-requires
     sums-now-requires
+    last-reply-requires
     outcome-requires
     loop-holds
     takes-one-requires
     event-requires
+    array-read-lay-reply
+    lay-reply-requires
     loop-less
     loop-again
     zipped-requires

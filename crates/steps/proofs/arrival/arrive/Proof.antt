@@ -1,6 +1,7 @@
 -- `arrival::arrive` meets its contract.
 use mathlib.Core.Bool.{Bool, true, false}
 use mathlib.Core.Path.{_≡_, refl, sym, ap, ap₂, _∙_}
+use Rattle.checks.proofs.Laws.{not-true-and-false}
 use Prim.Native.Nat.{ℕ, _<_}
 use native.Mathlib.Omega.{arith}
 use lib.ListN.{getD}
@@ -143,8 +144,11 @@ recount-requires : tie.Need-recount-requires
 recount-requires c κs =
     let p = c .before .before in
     let e = p .before .before .before .before .before .before in
-    let j = e .before .before in
-    (inside j, begun j .pre (sounds j) .1)
+    let j = e .before .before in (
+      inside j,
+      begun j .pre (sounds j) .1,
+      record { one = λ less. absurd (not-true-and-false less refl); all = λ less. absurd (not-true-and-false less refl) },
+    )
 
 mul-t32 : tie.Need-mul-t32
 mul-t32 c = omega (arith, inside (c .before .before .before .before .before .before .before .before .before .before .before))

@@ -21,7 +21,10 @@ pay-requires c κs =
     goes-pays (st .pre .0 .2) (f .first .ensures) (k .cost .ensures)
 
 recount-requires : tie.Need-recount-requires
-recount-requires c κs = let st = c .before .before .before .before .before .before .before .before in goes-climbs (st .pre .0 .2)
+recount-requires c κs =
+    let f = c .before .before .before .before .before .before in
+    let st = f .before .before in
+    goes-climbs (st .pre .0 .2) (f .first .ensures) (c .before .before .before .before .before .cost .ensures)
 
 grown-requires : tie.Need-grown-requires
 grown-requires c κs = search needs

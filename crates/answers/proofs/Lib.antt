@@ -1,0 +1,3 @@
+-- Laws of the run without text.
+pub mod Events
+pub mod Bursts

@@ -1,0 +1,113 @@
+-- `answers::burst` meets its contract: whether the record is sound is decided once.
+use mathlib.Core.Bool.{Bool, true, false}
+use mathlib.Core.List.{List}
+use mathlib.Core.Path.{_≡_, refl, sym, subst}
+use Prim.Native.Nat.{ℕ}
+use denote.Ref.{now}
+use borrow.Author.Tests.{not-true, not-false}
+use Rattle.checks.specs.Check.{Exactly}
+use Rattle.shape.specs.Shape.{treeIn}
+use Rattle.state.specs.declared.Link.{Link}
+use Rattle.state.specs.Queue.{Shaped}
+use Rattle.sound.specs.Sound.{SoundLink}
+use Rattle.steps.specs.declared.Stand.{Stand}
+use Rattle.steps.specs.Fields.{linkAt}
+use Rattle.answers.specs.Burst.{standIn}
+use Rattle.answers.proofs.Bursts.{bursts-none, bursts-made, served-at}
+use borrow.Author.Needs.{needs}
+use Rattle.answers.proofs.burst.Statement.{statement}
+use Rattle.answers.proofs.burst.Tie as tie
+
+-- the link in the arrays, standing anywhere; where it stands is read off its four numbers
+abbrev start-of : tie.After-is-sound-at → tie.Start
+start-of k = k .before .before .before .before .before .before .before .before .before .before .before .before .before .before .before .before .before .before .before .before .before .before .before
+
+abbrev standing : tie.After-is-sound-at → Stand → Link
+standing k s =
+    let a = start-of k .args in
+    linkAt (treeIn (now (a .shape))) s (now (a .balance)) (now (a .residual)) (now (a .start)) (now (a .held)) (now (a .lengths))
+    (now (a .tags)) (now (a .marks)) (now (a .packets)) (now (a .bytes))
+
+abbrev four : tie.After-is-sound-at → List ℕ
+four k = now (start-of k .args .stand)
+
+-- its lists are a link's, and whether it is sound was decided
+known-so : (k : tie.After-is-sound-at) (s : Stand) → Shaped (standing k s)
+known-so k s = k .before .before .before .before .before .before .before .before .before .known .ensures _ s
+
+decided : (k : tie.After-is-sound-at) → Exactly (k .is-sound-at .result) (SoundLink (standing k (k .before .before .before .before .before .before .before .before .before .before .before .before .before .before .before .before .before .before .before .stand-in .result)))
+decided k = k .is-sound-at .ensures .0 _ _ (k .before .before .before .before .before .before .before .before .before .before .before .before .before .before .before .before .before .before .before .stand-in .result .charged)
+
+decided-so : (k : tie.After-is-sound-at) (b : Bool) → k .is-sound-at .result ≡ b
+    → Exactly b (SoundLink (standing k (k .before .before .before .before .before .before .before .before .before .before .before .before .before .before .before .before .before .before .before .stand-in .result)))
+decided-so k b e = subst (λ (x : Bool). Exactly x (SoundLink (standing k (k .before .before .before .before .before .before .before .before .before .before .before .before .before .before .before .before .before .before .before .stand-in .result)))) e (decided k)
+
+exactly-so : (k : tie.After-is-sound-at) (b : Bool) → k .is-sound-at .result ≡ b → Exactly b (SoundLink (standing k (standIn (four k))))
+exactly-so k b e =
+    subst (λ (s : Stand). Exactly b (SoundLink (standing k s))) (k .before .before .before .before .before .before .before .before .before .before .before .before .before .before .before .before .before .before .before .stand-in .ensures) (decided-so k b e)
+
+stand-in-requires : tie.Need-stand-in-requires
+stand-in-requires c κs = search needs
+
+known-requires : tie.Need-known-requires
+known-requires c κs = search needs
+
+is-sound-at-requires : tie.Need-is-sound-at-requires
+is-sound-at-requires c κs = search needs
+
+no-burst-requires : tie.Need-no-burst-requires
+no-burst-requires c κs = search needs
+
+returns : tie.Need-returns
+returns c =
+    let k = c .before .before in
+    bursts-none (standing k (standIn (four k))) _ _ _ (known-so k (standIn (four k))) (c .no-burst .result) (c .no-burst .ensures)
+    (exactly-so k false (not-true _ (c .before .if1 .taken)))
+
+make-calls-requires : tie.Need-make-calls-requires
+make-calls-requires c κs =
+    let k = c .before .before .before .before .before .before .before .before .before .before .before .before in
+    let on = not-false (k .is-sound-at .result) (c .before .before .before .before .before .before .before .before .before .before .before .if1 .left) in
+    let from = k .before .before .before .before .before .before .before .before .before .before .before .before .before .before .before .before .before .before .before .stand-in in (
+      record { exactly = decided-so k true on; shape = known-so k (k .before .before .before .before .before .before .before .before .before .before .before .before .before .before .before .before .before .before .before .stand-in .result) },
+      k .is-sound-at .ensures .1 on,
+      rw (from .ensures) refl,
+    )
+
+four-of-requires : tie.Need-four-of-requires
+four-of-requires c κs = search needs
+
+ended-requires : tie.Need-ended-requires
+ended-requires c κs = search needs
+
+same-length : tie.Need-same-length
+same-length c = search needs
+
+returns-2 : tie.Need-returns-2
+returns-2 c =
+    let k = c .before .before .before .before .before .before .before .before .before .before .before .before .before .before .before .before .before .before .before .before in
+    let on = not-false _ (c .before .before .before .before .before .before .before .before .before .before .before .before .before .before .before .before .before .before .before .if1 .left) in
+    let a = start-of k .args in
+    let m = c .before .before .before .before .before .before .before in
+    let done = m .make-calls in
+    let sound = exactly-so k true on .sound refl in
+    rw (c .before .before .four-of .ensures)
+    (bursts-made (standing k (standIn (four k))) (now (a .input)) (a .place) (now (a .out)) (known-so k (standIn (four k))) (done .result) _ _
+    (c .before .ended .result) sound
+    (served-at (standing k) (k .before .before .before .before .before .before .before .before .before .before .before .before .before .before .before .before .before .before .before .stand-in .ensures)
+    (done .ensures)) (c .before .ended .ensures))
+
+pub burst-spec : {M : Type 1} → statement M
+burst-spec =
+    tie.close
+    (tie.spec
+    stand-in-requires
+    known-requires
+    is-sound-at-requires
+    no-burst-requires
+    returns
+    make-calls-requires
+    four-of-requires
+    ended-requires
+    same-length
+    returns-2)

@@ -1,0 +1,3 @@
+-- Laws of the exported burst.
+pub mod Outcomes
+pub mod Runs

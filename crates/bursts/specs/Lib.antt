@@ -1,0 +1,2 @@
+-- The exported burst.
+pub mod Bursting
