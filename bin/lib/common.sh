@@ -35,7 +35,7 @@ if [ -t 1 ]; then at_terminal=yes; fi
 
 # The tools, as README.md names them.
 declare -A tool=(
-    [rt]="the Rattle kit's command, rattle-kit-5b, which proves and builds the programs"
+    [rt]="the Rattle kit's command, rattle-kit-5b or rattle-kit-5b-plain, which proves and builds the programs"
     [rustc]="the Rust compiler (tried with 1.95)"
     [python3]="Python 3 (tried with 3.11)"
     [cc]="a C compiler, which links a native program"
