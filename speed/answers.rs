@@ -111,7 +111,8 @@ fn pair(amount: &Amount, link: &mut Link, made: &Recording) -> [f64; 2] {
 
 fn runs(amount: &Amount, link: &mut Link) {
     println!("### The run without text\n");
-    println!("{} sends to a recording, {ROWS} rows to a buffer; nanoseconds for a send with its arrival, best of {}.\n", amount.sends, amount.best_of);
+    print!("{} sends to a recording, {ROWS} rows to a buffer; ", amount.sends);
+    println!("nanoseconds for a send with its arrival, best of {}.\n", amount.best_of);
     println!("| Classes | Weights | Packets | Queues | plain Rust | the run | ratio |");
     println!("|---|---|---|---|---:|---:|---:|");
     let (mut seed, mut worst) = (1, 0f64);
@@ -202,7 +203,8 @@ fn growth(amount: &Amount, link: &mut Link) {
         let bar = "█".repeat((run / 1.0).round() as usize);
         println!("| {classes} | {plain:.1} | {run:.1} | {:.2} | {:.0} | {bar} |", run / plain, 1e9 / run);
     }
-    println!("\nFrames of 64 bytes fill a wire of 100 Mbit/s with 148,810 packets a second, of 1 Gbit/s with 1,488,095, of 10 Gbit/s with 14,880,952: in the");
+    print!("\nFrames of 64 bytes fill a wire of 100 Mbit/s with 148,810 packets a second, of 1 Gbit/s with 1,488,095, ");
+    println!("of 10 Gbit/s with 14,880,952: in the");
     println!("run, at 63 classes, one processor makes {:.1} times the last.", 1e9 / last / 14_880_952.0);
 }
 

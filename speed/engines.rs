@@ -24,18 +24,18 @@ struct Tree {
 #[derive(Clone)]
 struct First {
     tree: Tree,
+    lengths: [u16; 2048],
+    tags: [u32; 2048],
+    marks: [u64; 2048],
+    start: [u8; 64],
+    held: [u8; 64],
+    packets: [u64; 64],
+    bytes: [u64; 64],
+    charged: u64,
     size: u64,
     active: u64,
     place: u64,
     accounts: [[u64; 2]; 64],
-    start: [u8; 64],
-    held: [u8; 64],
-    lengths: [u16; 2048],
-    tags: [u32; 2048],
-    marks: [u64; 2048],
-    packets: [u64; 64],
-    bytes: [u64; 64],
-    charged: u64,
 }
 
 #[repr(C)]

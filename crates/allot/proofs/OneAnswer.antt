@@ -49,7 +49,8 @@ same-requests t x y rules same i u = go (isLeaf t i) refl
         → cond b (entry x i) (leavesSum t (entry x) i) ≡ cond b (entry y i) (leavesSum t (entry y) i)
     go true e = same .at i (class-in t i (least e (ℕ-discrete i 0)) u) e
     go false e =
-        sum-same (leafBelow t (entry x) i) (leafBelow t (entry y) i) (t .count) (λ j l v. leaf j (class-in t j l v) (isLeaf t j) (atOrBelow t i j) refl)
+        sum-same (leafBelow t (entry x) i) (leafBelow t (entry y) i) (t .count)
+        (λ j l v. leaf j (class-in t j l v) (isLeaf t j) (atOrBelow t i j) refl)
 
 -- the same verdict
 same-verdict : (t : Tree) (capacity : ℕ) (x y : List ℕ) (obeys : Bool) → SameAtLeaves t x y

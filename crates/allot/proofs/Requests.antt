@@ -77,7 +77,8 @@ module _ (t : Tree) (table : List ℕ) (range : RequestsInRange t table) where
       omega (
         arith,
         request-sum t rules table i,
-        sum-bound (leafBelow t (entry table) i) 1_000_000_000 (t .count) (λ j l v. go j (class-in t j l v) (isLeaf t j && atOrBelow t i j) refl),
+        sum-bound (leafBelow t (entry table) i) 1_000_000_000 (t .count)
+            (λ j l v. go j (class-in t j l v) (isLeaf t j && atOrBelow t i j) refl),
       )
     where
       go : (j : ℕ) → isClass t j ≡ true → (b : Bool) → (isLeaf t j && atOrBelow t i j) ≡ b → cond b (entry table j) 0 ≤ 1_000_000_000

@@ -282,7 +282,7 @@ fn allot(tree: Tree, capacity: u64, table: [u64; Tree::CLASSES]) -> Allotted
 pub fn rates(tree: Tree, capacity: u64, requests: [u64; Tree::CLASSES]) -> Allotted
     ensures { λ r. ⌜ Rates tree capacity requests r ⌝ }
 {
-    if !tree::is_plan(tree) {
+    if !shape::is_plan(tree) {
         return nothing_allotted(Verdict::Refused(checks::NOT_SOUND, 0));
     }
     let v = range_fault(tree, capacity, requests);

@@ -89,7 +89,8 @@ calls-none l input place = refl
 
 -- ---- calls underway in their buffer
 
--- what is known between two events: the calls made so far have their rows at the buffer's start, and with what is left they are all the calls
+-- what is known between two events: the calls made so far have their rows at the buffer's start, and with what is left they are all the
+-- calls
 pub record Making (l : Link) (input : List ℕ) (place : ℕ) (before : List ℕ) (x : Next) (laid : ℕ) (now : List ℕ) : Type 0 where
   pub these : List Made
   pub left : ℕ
@@ -161,12 +162,14 @@ module _ (l : Link) (input : List ℕ) (place : ℕ) (before : List ℕ) where
 
       by-event : (n : ℕ) → y .left ≡ suc n → (e : EventRead) → eventAt (drop (x .place) input) (x .place) ≡ e
           → Goes (nextGives true (x .link) (x .place) e)
-      by-event n s NoMore e = no-more n s Passed (lastReply Passed) refl (ap (λ (v : EventRead). madeBy v (x .link) (x .place) (λ after at. callsFrom n after input at)) e)
+      by-event n s NoMore e = no-more n s Passed (lastReply Passed) refl
+          (ap (λ (v : EventRead). madeBy v (x .link) (x .place) (λ after at. callsFrom n after input at)) e)
       by-event n s (Arrive a) e = one-more n s (makes true (x .link) (arrival (a .class) (packetIn a))) (x .place + usedOf (Arrive a))
           (ap (λ (v : EventRead). madeBy v (x .link) (x .place) (λ after at. callsFrom n after input at)) e)
       by-event n s SendNext e = one-more n s (makes true (x .link) send) (x .place + usedOf SendNext)
           (ap (λ (v : EventRead). madeBy v (x .link) (x .place) (λ after at. callsFrom n after input at)) e)
-      by-event n s (Fault k p) e = no-more n s (Refused k p) (lastReply (Refused k p)) refl (ap (λ (v : EventRead). madeBy v (x .link) (x .place) (λ after at. callsFrom n after input at)) e)
+      by-event n s (Fault k p) e = no-more n s (Refused k p) (lastReply (Refused k p)) refl
+          (ap (λ (v : EventRead). madeBy v (x .link) (x .place) (λ after at. callsFrom n after input at)) e)
 
       pub making-on : (z : Next) → z ≡ nextGives true (x .link) (x .place) (eventAt (drop (x .place) input) (x .place)) → Goes z
       making-on z is = go (y .left) refl
@@ -191,7 +194,14 @@ module _ (l : Link) (input : List ℕ) (place : ℕ) (before : List ℕ) where
     }
       where
         full : x .more ≡ true → y .left ≡ 0
-        full on = omega (arith, making-laid, y .enough, y .long, leb-false (laid + 8) (length now) (sym (ap (λ (b : Bool). b && leb (laid + 8) (length now)) on) ∙ test))
+        full on = omega (
+          arith,
+          making-laid,
+          y .enough,
+          y .long,
+          leb-false (laid + 8) (length now)
+              (sym (ap (λ (b : Bool). b && leb (laid + 8) (length now)) on) ∙ test),
+        )
 
         ended : (b : Bool) → x .more ≡ b
             → restOf (x .more) (y .left) (x .link) input (x .place) (x .reply .verdict)
@@ -296,7 +306,8 @@ calls-of-run (suc n) more l input place = step (λ after to. calls-of-run n more
     same : suc (n + more) ≡ suc n + more
     same = omega arith
 
-    step : Rest → callsFrom (suc n) l input place .made ≡ madeIn (runOf true l (take (suc n) (eventsFrom (suc n + more) input place .calls)))
+    step : Rest → callsFrom (suc n) l input place .made ≡ madeIn
+        (runOf true l (take (suc n) (eventsFrom (suc n + more) input place .calls)))
     step rest =
         ap (λ (c : CallsMade). c .made) (calls-suc n l input place) ∙ go rest (eventAt (drop place input) place)
         ∙ ap (λ (e : EventsRead). madeIn (runOf true l (take (suc n) (e .calls)))) (sym (events-next (n + more) input place))

@@ -38,7 +38,19 @@ use Rattle.run.specs.Event.{packetIn}
 use Rattle.answers.specs.declared.Reply.{Reply}
 use Rattle.answers.specs.declared.event.Heard.{Heard}
 use Rattle.answers.specs.Reply.{replyTo}
-use Rattle.answers.specs.Steps.{ArrivesAs, whyNothing, sendReply, wentReplies, DepartsAs, heardBy, Told, Next, nextBy, nextGives, Hears}
+use Rattle.answers.specs.Steps.{
+  ArrivesAs,
+  whyNothing,
+  sendReply,
+  wentReplies,
+  DepartsAs,
+  heardBy,
+  Told,
+  Next,
+  nextBy,
+  nextGives,
+  Hears,
+}
 
 -- ---- an arrival
 

@@ -37,7 +37,8 @@ standIn four = record {
 abbrev pub fourOf : Stand → List ℕ
 fourOf s = s .size .0 ∷ s .active ∷ s .place ∷ s .charged ∷ []
 
--- the other arrays are its fields as they lie; its tree is that of a shape (R341); a call on it is a call of the library on this link (R345)
+-- the other arrays are its fields as they lie; its tree is that of a shape (R341); a call on it is a call of the library on this link
+-- (R345)
 abbrev pub linkIn : List ℕ → List ℕ → List ℕ → List ℕ → List ℕ → List ℕ → List ℕ → List ℕ → List ℕ → List ℕ → List ℕ → Link
 linkIn shape stand balance residual start held lengths tags marks packets bytes =
     linkAt (treeIn shape) (standIn stand) balance residual start held lengths tags marks packets bytes

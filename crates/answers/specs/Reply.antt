@@ -6,8 +6,9 @@ use Rattle.checks.specs.Check.{numberOf, placeOf}
 use Rattle.calls.specs.Run.{arrival, send, Made, made}
 use Rattle.answers.specs.declared.Reply.{Reply}
 
--- of an arrival: its verdict, its class, length and tag as they came, and the charged bytes then waiting in its leaf; of a send: its verdict,
--- the class, the length and the tag of the packet that goes, what it waited, and the rounds opened. The kinds are those of the events (R339)
+-- of an arrival: its verdict, its class, length and tag as they came, and the charged bytes then waiting in its leaf; of a send: its
+-- verdict, the class, the length and the tag of the packet that goes, what it waited, and the rounds opened. The kinds are those of the
+-- events (R339)
 abbrev pub replyTo : Made → Reply
 replyTo (made (arrival class p) answer after) = record {
   kind = 16;

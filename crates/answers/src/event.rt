@@ -1,6 +1,5 @@
-// The event at a place of a run's input, on a link that lies in lent number arrays: what it answers, as numbers. Every run of many events is
-// made of this one step, and no event is checked for soundness: whether the link is sound is told once.
-// Serves demands 1 and 2.
+// The event at a place of a run's input, on a link that lies in lent number arrays: what it answers, as numbers. Every run of many events
+// is made of this one step, and no event is checked for soundness: whether the link is sound is told once. Serves demands 1 and 2.
 ghost use mathlib.Core.Bool.{true};
 ghost use mathlib.Core.Path.{_≡_};
 ghost use Rattle.tree.specs.Rules.{PlanRules};
@@ -129,11 +128,11 @@ fn departs(
     requires { ⌜ Told sound (linkAt (treeIn (now shape)) stand (now balance) (now residual) (now start) (now held) (now lengths) (now tags)
         (now marks) (now packets) (now bytes))
         × (sound ≡ true → Families (treeIn (now shape)) (now children) × Kept (treeIn (now shape)) (stand .known) (now kept)) ⌝ }
-    ensures { λ r. ⌜ DepartsAs sound (linkAt (treeIn (now (shape .entry))) stand (now (balance .entry)) (now (residual .entry)) (now (start
-        .entry))
+    ensures { λ r. ⌜ DepartsAs sound (linkAt (treeIn (now (shape .entry))) stand (now (balance .entry)) (now (residual .entry))
+        (now (start .entry))
         (now (held .entry)) (now (lengths .entry)) (now (tags .entry)) (now (marks .entry)) (now (packets .entry)) (now (bytes .entry)))
-        r (linkAt (treeIn (now (shape .entry))) (r .stand) (now (balance .exit)) (now (residual .exit)) (now (start .exit)) (now (held
-        .exit))
+        r (linkAt (treeIn (now (shape .entry))) (r .stand) (now (balance .exit)) (now (residual .exit)) (now (start .exit))
+        (now (held .exit))
         (now (lengths .entry)) (now (tags .entry)) (now (marks .entry)) (now (packets .exit)) (now (bytes .exit))) ⌝ }
     ensures { λ r. ⌜ (sound ≡ true → Kept (treeIn (now (shape .entry))) (r .stand .known) (now (kept .exit))) ⌝ }
 {
@@ -213,8 +212,8 @@ pub fn event(
     bytes: &mut [u64; 64],
     input: &[u8],
 ) -> Heard
-    requires { ⌜ Told (run .sound) (linkAt (treeIn (now shape)) (run .stand) (now balance) (now residual) (now start) (now held) (now
-        lengths) (now tags)
+    requires { ⌜ Told (run .sound) (linkAt (treeIn (now shape)) (run .stand) (now balance) (now residual) (now start) (now held)
+        (now lengths) (now tags)
         (now marks) (now packets) (now bytes))
         × (run .sound ≡ true → Families (treeIn (now shape)) (now children) × Kept (treeIn (now shape)) (run .stand .known) (now kept)) ⌝ }
     ensures { λ r. ⌜ Hears (run .sound) (linkAt (treeIn (now (shape .entry))) (run .stand) (now (balance .entry)) (now (residual .entry))

@@ -85,7 +85,8 @@ pub fn known(
     bytes: &[u64; 64],
 ) -> bool
     ensures { λ r. ⌜ ((t : Tree) (s : Stand) → Shaped (linkAt t s (now (balance .entry)) (now (residual .entry)) (now (start .entry))
-        (now (held .entry)) (now (lengths .entry)) (now (tags .entry)) (now (marks .entry)) (now (packets .entry)) (now (bytes .entry)))) ⌝ }
+        (now (held .entry)) (now (lengths .entry)) (now (tags .entry)) (now (marks .entry)) (now (packets .entry))
+        (now (bytes .entry)))) ⌝ }
 {
     numbers_known(balance, residual);
     bytes_known(start, held);

@@ -131,7 +131,8 @@ pub good-question : (word : List ℕ) (words : List (List ℕ)) → askedBy (wor
     → GoodQuestion word words (askedBy (word ∷ words))
 good-question word words good = go (wordNumber word) refl good
   where
-    go : (n : Number) → wordNumber word ≡ n → heededAll (begunBy n) words .good ≡ true → GoodQuestion word words (heededAll (begunBy n) words)
+    go : (n : Number) → wordNumber word ≡ n → heededAll (begunBy n) words .good ≡ true → GoodQuestion word words
+        (heededAll (begunBy n) words)
     go (Is n) e g =
         let kept : heededAll (begunBy (Is n)) words .capacity ≡ n = same-capacity words (begunBy (Is n)) g in
         record {

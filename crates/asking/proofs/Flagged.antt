@@ -23,7 +23,7 @@ use Rattle.asking.specs.declared.right.Flags.{Flags}
 use Rattle.asking.specs.Right.{YetToAsk, FlagsRight, ClassAsked}
 
 -- what a class still owes is the weight sum of those that are active and have not asked
-pub owed-sum : (x : Published) (still p : ℕ) → x .state .tree .count ≤ 63 → YetToAsk (x .state .active) (x .asked) still
+pub owed-sum : (x : Published) (still p : ℕ) → x .state .tree .count ≤ 63 → YetToAsk (x .state .round .active) (x .asked) still
     → weightSum (x .state .tree) still p ≡ owedSum x p
 unfolding weightSum activeWeight childrenSum ofChild owedSum owedWeight unasked
 owed-sum x still p few b =
@@ -36,11 +36,11 @@ owed-sum x still p few b =
 pub record FlagsOf (x : Published) (i : ℕ) (v : Flags) : Type 0 where
   pub class-is : v .class ≡ isClass (x .state .tree) i
   pub leaf-is : v .leaf ≡ isLeaf (x .state .tree) i
-  pub on-is : v .on ≡ has (x .state .active) i
+  pub on-is : v .on ≡ has (x .state .round .active) i
   pub asked-is : v .asked ≡ has (x .asked) i
   pub up-is : v .up ≡ has (x .asked) (parentOf (x .state .tree) i)
-  pub behind-is : v .behind ≡ ltb i (x .state .place)
-  pub pays-is : v .pays ≡ leb (owedSum x i * quotaAt x i) (balanceOf (x .state .accounts) i)
+  pub behind-is : v .behind ≡ ltb i (x .state .round .place)
+  pub pays-is : v .pays ≡ leb (owedSum x i * quotaAt x i) (balanceOf (x .state .round .accounts) i)
 
 pub flags-say : (x : Published) (i : ℕ) (v : Flags) (r : Bool) → FlagsOf x i v → Exactly r (FlagsRight v) → Exactly r (ClassAsked x i)
 flags-say x i v r f e = record {
@@ -50,7 +50,8 @@ flags-say x i v r f e = record {
         parent = record { up = λ c o a. sym (f .up-is) ∙ h .up-is (f .class-is ∙ c) (f .on-is ∙ o) (f .asked-is ∙ a) };
         pay = record { pays = λ a. leb-true _ _ (sym (f .pays-is) ∙ h .pays-is (f .asked-is ∙ a)) };
         behind = record {
-          asked = λ l o b. sym (f .asked-is) ∙ h .asked-is (f .leaf-is ∙ l) (f .on-is ∙ o) (f .behind-is ∙ lt-ltb i (x .state .place) b);
+          asked = λ l o b. sym (f .asked-is) ∙ h .asked-is (f .leaf-is ∙ l) (f .on-is ∙ o)
+              (f .behind-is ∙ lt-ltb i (x .state .round .place) b);
         };
       };
   complete = λ h.
@@ -60,7 +61,7 @@ flags-say x i v r f e = record {
         pays-is = λ a. f .pays-is ∙ le-leb _ _ (h .pay .pays (sym (f .asked-is) ∙ a));
         asked-is = λ l o b.
             f .asked-is
-            ∙ h .behind .asked (sym (f .leaf-is) ∙ l) (sym (f .on-is) ∙ o) (ltb-true i (x .state .place) (sym (f .behind-is) ∙ b));
+            ∙ h .behind .asked (sym (f .leaf-is) ∙ l) (sym (f .on-is) ∙ o) (ltb-true i (x .state .round .place) (sym (f .behind-is) ∙ b));
       });
 }
 
@@ -98,10 +99,11 @@ not-so false h = refl
 
 -- the flags of a class of a record, from what was read
 pub flags-of : (x : Published) (i still : ℕ) (owed : List Weight) (v : Flags) → x .state .tree .count ≤ 63 → i < 64
-    → YetToAsk (x .state .active) (x .asked) still → owed ≡ weightSums (x .state .tree) still
-    → v .class ≡ (leb 1 i && leb i (x .state .tree .count)) → v .leaf ≡ has (x .state .tree .leaves) i → v .on ≡ has (x .state .active) i
-    → v .asked ≡ has (x .asked) i → v .up ≡ has (x .asked) (parentOf (x .state .tree) i) → v .behind ≡ ltb i (x .state .place)
-    → v .pays ≡ leb (getD owed i noWeight .0 * quotaAt x i) (balanceOf (x .state .accounts) i) → FlagsOf x i v
+    → YetToAsk (x .state .round .active) (x .asked) still → owed ≡ weightSums (x .state .tree) still
+    → v .class ≡ (leb 1 i && leb i (x .state .tree .count)) → v .leaf ≡ has (x .state .tree .leaves) i
+    → v .on ≡ has (x .state .round .active) i
+    → v .asked ≡ has (x .asked) i → v .up ≡ has (x .asked) (parentOf (x .state .tree) i) → v .behind ≡ ltb i (x .state .round .place)
+    → v .pays ≡ leb (getD owed i noWeight .0 * quotaAt x i) (balanceOf (x .state .round .accounts) i) → FlagsOf x i v
 unfolding isClass isLeaf
 flags-of x i still owed v few u b sums class leaf on asked up behind pays = record {
   class-is = class;
@@ -112,6 +114,6 @@ flags-of x i still owed v few u b sums class leaf on asked up behind pays = reco
   behind-is = behind;
   pays-is =
       pays
-      ∙ ap (λ (w : ℕ). leb (w * quotaAt x i) (balanceOf (x .state .accounts) i))
+      ∙ ap (λ (w : ℕ). leb (w * quotaAt x i) (balanceOf (x .state .round .accounts) i))
       (ap (λ (ws : List Weight). getD ws i noWeight .0) sums ∙ sums-at (x .state .tree) still i u ∙ owed-sum x still i few b);
 }

@@ -135,11 +135,12 @@ module _ (x : Published) (active asked : ℕ) (shape balance residual quotas : L
 
       pub up-pays : weightOf (ask x (parentOf (treeIn shape) i) .state .tree) i
           * quotaAt (ask x (parentOf (treeIn shape) i)) (parentOf (ask x (parentOf (treeIn shape) i) .state .tree) i)
-          ≤ balanceOf (ask x (parentOf (treeIn shape) i) .state .accounts) (parentOf (ask x (parentOf (treeIn shape) i) .state .tree) i)
+          ≤ balanceOf (ask x (parentOf (treeIn shape) i) .state .round .accounts)
+          (parentOf (ask x (parentOf (treeIn shape) i) .state .tree) i)
       up-pays =
           subst
           (λ (p : ℕ). weightOf (ask x p .state .tree) i * quotaAt (ask x p) (parentOf (ask x p .state .tree) i)
-          ≤ balanceOf (ask x p .state .accounts) (parentOf (ask x p .state .tree) i))
+          ≤ balanceOf (ask x p .state .round .accounts) (parentOf (ask x p .state .tree) i))
           parent-of (parent-pays x i (a .sound) (a .wide) class-of (a .on) (sym has-of ∙ e))
 
   -- the root takes its residual
@@ -159,7 +160,7 @@ module _ (x : Published) (active asked : ℕ) (shape balance residual quotas : L
         asked-is = ap (λ (k : ℕ). with k 0) (l .asked-is) ∙ sym is;
         quotas-are =
             ap₂ (λ (xs : List Account) (qs : List ℕ). set qs 0
-            (quotaOf (fundsOf (accountOf xs 0) + 0) (weightSum (x .state .tree) (x .state .active) 0))) (l .accounts) (l .quotas-are)
+            (quotaOf (fundsOf (accountOf xs 0) + 0) (weightSum (x .state .tree) (x .state .round .active) 0))) (l .accounts) (l .quotas-are)
             ∙ ap (λ (k : ℕ). set quotas 0 (quotaOf (fundsOf (accountOf (zipAccounts balance residual) 0) + 0) k))
             (ap₂ (λ (t : Tree) (k : ℕ). weightSum t k 0) (l .tree) (l .active-is) ∙ sym s)
             ∙ sym shares;
@@ -191,8 +192,8 @@ module _ (x : Published) (active asked : ℕ) (shape balance residual quotas : L
       at-w = ap (λ (t : Tree). weightOf t i) (l .tree) ∙ sym is-w
 
       go : (p′ p : ℕ) → p′ ≡ p → (w′ w : ℕ) → w′ ≡ w
-          → (set (set (x .state .accounts) p′ (handedDown (accountOf (x .state .accounts) p′) (w′ * getD (x .quotas) p′ 0))) i
-          (tookQuota (accountOf (set (x .state .accounts) p′ (handedDown (accountOf (x .state .accounts) p′) (w′ * getD
+          → (set (set (x .state .round .accounts) p′ (handedDown (accountOf (x .state .round .accounts) p′) (w′ * getD (x .quotas) p′ 0))) i
+          (tookQuota (accountOf (set (x .state .round .accounts) p′ (handedDown (accountOf (x .state .round .accounts) p′) (w′ * getD
           (x .quotas) p′ 0))) i)
           (w′ * getD (x .quotas) p′ 0))
           ≡ set (set (zipAccounts balance residual) p (handedDown (accountOf (zipAccounts balance residual) p) (w * getD quotas p 0))) i
@@ -201,13 +202,13 @@ module _ (x : Published) (active asked : ℕ) (shape balance residual quotas : L
           (w * getD quotas p 0))) i)
           (w * getD quotas p 0)))
           × (set (x .quotas) i
-          (quotaOf (fundsOf (accountOf (set (x .state .accounts) p′
-          (handedDown (accountOf (x .state .accounts) p′) (w′ * getD (x .quotas) p′ 0))) i) + w′ * getD (x .quotas) p′ 0)
-          (weightSum (x .state .tree) (x .state .active) i))
+          (quotaOf (fundsOf (accountOf (set (x .state .round .accounts) p′
+          (handedDown (accountOf (x .state .round .accounts) p′) (w′ * getD (x .quotas) p′ 0))) i) + w′ * getD (x .quotas) p′ 0)
+          (weightSum (x .state .tree) (x .state .round .active) i))
           ≡ set quotas i
           (quotaOf (fundsOf (accountOf (set (zipAccounts balance residual) p
           (handedDown (accountOf (zipAccounts balance residual) p) (w * getD quotas p 0))) i) + w * getD quotas p 0)
-          (weightSum (x .state .tree) (x .state .active) i)))
+          (weightSum (x .state .tree) (x .state .round .active) i)))
       go p′ p e w′ w f = rw (e, f, l .accounts, l .quotas-are) (refl, refl)
 
 -- what taking from the parent asks for, when the parent has asked

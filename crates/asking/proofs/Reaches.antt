@@ -149,7 +149,7 @@ module _ (y : Published) (i leaves : ℕ) (start lengths : List ℕ) (l : Lying 
 
   pub lying-done : Lying (ask y i) leaves start lengths
   lying-done = record {
-    both = subst (λ (s : State). Both (s .active) (s .tree .leaves) leaves) (sym (done .same)) (l .both);
+    both = subst (λ (s : State). Both (s .round .active) (s .tree .leaves) leaves) (sym (done .same)) (l .both);
     first = λ k v leaf holds.
         ap (λ (s : State). costOf (firstOf s k .length)) (done .same)
         ∙ l .first k v (sym (ap (λ (s : State). isLeaf (s .tree) k) (done .same)) ∙ leaf)

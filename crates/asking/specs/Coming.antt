@@ -17,7 +17,7 @@ use Rattle.asking.specs.Lent.{Lent}
 
 -- these are the active leaves of x, and the first packet of each leaf that holds one lies at its start
 pub record Lying (x : Published) (leaves : ℕ) (start lengths : List ℕ) : Type 0 where
-  pub both : Both (x .state .active) (x .state .tree .leaves) leaves
+  pub both : Both (x .state .round .active) (x .state .tree .leaves) leaves
   pub first : (i : ℕ) → i < 64 → isLeaf (x .state .tree) i ≡ true → 1 ≤ length (queueAt (x .state) i)
       → costOf (firstOf (x .state) i .length) ≡ costOf (getD lengths (slot i (getD start i 0)) 0)
 

@@ -28,8 +28,8 @@ pub record TookFrom (i p weight sum : ℕ) (accounts : List Account) (quotas : L
 -- x has these fields
 pub record Lent (x : Published) (active asked : ℕ) (shape balance residual quotas : List ℕ) : Type 0 where
   pub tree : x .state .tree ≡ treeIn shape
-  pub active-is : x .state .active ≡ active
-  pub accounts : x .state .accounts ≡ zipAccounts balance residual
+  pub active-is : x .state .round .active ≡ active
+  pub accounts : x .state .round .accounts ≡ zipAccounts balance residual
   pub asked-is : x .asked ≡ asked
   pub quotas-are : x .quotas ≡ quotas
 
@@ -38,5 +38,5 @@ pub record Asker (x : Published) (i : ℕ) (leaf : Bool) : Type 0 where
   pub sound : SoundPublished x
   pub wide : WidePublished x
   pub last : i ≤ x .state .tree .count
-  pub on : has (x .state .active) i ≡ true
+  pub on : has (x .state .round .active) i ≡ true
   pub childless : leaf ≡ true → isLeaf (x .state .tree) i ≡ true

@@ -91,11 +91,11 @@ pub fn asked_right(second: Second) -> bool
 {
     let link = second.link;
     let tree = link.tree;
-    let accounts = link.accounts;
+    let accounts = link.round.accounts;
     let asked = second.asked;
     let quotas = second.quotas;
     let shape = shape::shape_of(tree);
-    let owed = weight_sums(&shape, yet_to_ask(link.active, asked));
+    let owed = weight_sums(&shape, yet_to_ask(link.round.active, asked));
     let parent = tree.parent;
     let mut i: usize = 0;
     while i < Tree::CLASSES {
@@ -105,10 +105,10 @@ pub fn asked_right(second: Second) -> bool
         let v = Flags {
             class: is_class(i, tree.count),
             leaf: sets::has(tree.leaves, i),
-            on: sets::has(link.active, i),
+            on: sets::has(link.round.active, i),
             asked: sets::has(asked, i),
             up: sets::has(asked, p),
-            behind: is_behind(i, link.place),
+            behind: is_behind(i, link.round.place),
             pays: can_pay(o, quotas[i], a.balance.0),
         };
         if !flags_right(v) {

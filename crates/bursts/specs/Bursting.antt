@@ -1,5 +1,5 @@
--- What the exported burst says, for any bytes and any numbers in the caller's arrays: the library's burst on the link that lies in them, from
--- the first byte of the events on (R349). Demands 1 and 2.
+-- What the exported burst says, for any bytes and any numbers in the caller's arrays: the library's burst on the link that lies in them,
+-- from the first byte of the events on (R349). Demands 1 and 2.
 use mathlib.Core.List.{List, [], _∷_}
 use mathlib.Core.Path.{_≡_}
 use Prim.Native.Nat.{ℕ}

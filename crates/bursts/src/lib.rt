@@ -38,9 +38,9 @@ pub extern "C" fn cb_burst_fields(
 ) -> u64
     ensures { λ r. ⌜ CallBursts (linkIn (now (shape .entry)) (now (stand .entry)) (now (balance .entry)) (now (residual .entry))
         (now (start .entry)) (now (held .entry)) (now (lengths .entry)) (now (tags .entry)) (now (marks .entry)) (now (packets
-        .entry)) (now (bytes .entry))) (now (events .entry)) (now (out .entry)) r (now (said .exit)) (now (out .exit)) (linkIn (now
-        (shape .entry)) (now (stand .exit)) (now (balance .exit)) (now (residual .exit)) (now (start .exit)) (now (held .exit)) (now
-        (lengths .exit)) (now (tags .exit)) (now (marks .exit)) (now (packets .exit)) (now (bytes .exit))) ⌝ }
+        .entry)) (now (bytes .entry))) (now (events .entry)) (now (out .entry)) r (now (said .exit)) (now (out .exit)) (linkIn
+        (now (shape .entry)) (now (stand .exit)) (now (balance .exit)) (now (residual .exit)) (now (start .exit)) (now (held .exit))
+        (now (lengths .exit)) (now (tags .exit)) (now (marks .exit)) (now (packets .exit)) (now (bytes .exit))) ⌝ }
 {
     let end = answers::burst(
         shape,

@@ -183,7 +183,7 @@ arrival-keeps s i p u many sound t = record {
   place = record { low = sound .place .low; high = sound .place .high };
   behind = λ k v. record {
     lacks = λ f a b.
-        at (λ (q : List Waiting). balanceOf (s .accounts) k < costOf (getD q 0 noPacket .length)) k (ℕ-discrete k i)
+        at (λ (q : List Waiting). balanceOf (s .round .accounts) k < costOf (getD q 0 noPacket .length)) k (ℕ-discrete k i)
         (λ e.
         rw (
           List·getD-append (queueAt s i) (markedWith (s .totals .charged) p ∷ []) noPacket 0

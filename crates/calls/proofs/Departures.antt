@@ -56,7 +56,7 @@ module _ (l : Link) (shape : Shaped l) (sound : SoundLink l) (waits : someWaits 
       let s = trace .state in
       let wide = trace-wide (meaning l) (sound .state) (meaning-wide l (shape .accounts)) (waits-leaf (meaning l) waits) in
       shaped-take (linkIn l (trace .state)) (trace .class)
-      (shaped-in l (s .size) (s .active) (s .place) (s .accounts) shape wide)
+      (shaped-in l (s .round) shape wide)
 
 module _ (l : Link) (shape : Shaped l) (sound : SoundLink l) where
   pub send-sound : SoundLink (sendOf true l .link)

@@ -33,10 +33,10 @@ use Rattle.calls.proofs.Arrivals.{unsound-refused}
 
 -- the accounts of a fresh link: the root's has Q, every other nothing
 module _ (t : Tree) where
-  root-account : accountOf (freshLink t .accounts) 0 ≡ account (roundSize t) 0
+  root-account : accountOf (freshLink t .round .accounts) 0 ≡ account (roundSize t) 0
   root-account = getD-set-same (replicate 64 noAccount) 0 (account (roundSize t) 0) noAccount (omega (arith, length-replicate 64 noAccount))
 
-  other-account : (i : ℕ) → 1 ≤ i → i < 64 → accountOf (freshLink t .accounts) i ≡ noAccount
+  other-account : (i : ℕ) → 1 ≤ i → i < 64 → accountOf (freshLink t .round .accounts) i ≡ noAccount
   other-account i l u =
       getD-set-other (replicate 64 noAccount) 0 i (account (roundSize t) 0) noAccount (λ e. omega arith)
       ∙ getD-replicate 64 i noAccount noAccount u
@@ -64,16 +64,16 @@ module _ (t : Tree) where
         ∙ sym (leaves-none t (λ j. bytesIn (queueAt (meaning (freshLink t)) j)) i (λ j. ap bytesIn (nothing-waits j)));
   }
 
-  fresh-total : total (freshLink t .accounts) ≡ roundSize t
+  fresh-total : total (freshLink t .round .accounts) ≡ roundSize t
   unfolding total
   fresh-total =
       omega (
         arith,
         ap fundsOf root-account,
-        sum-zero (λ i. fundsOf (accountOf (freshLink t .accounts) i)) 63 (λ i l u. ap fundsOf (other-account i l (omega arith))),
+        sum-zero (λ i. fundsOf (accountOf (freshLink t .round .accounts) i)) 63 (λ i l u. ap fundsOf (other-account i l (omega arith))),
       )
 
-  no-residual : (i : ℕ) → i < 64 → Dec (i ≡ 0) → accountOf (freshLink t .accounts) i .residual .0 ≡ 0
+  no-residual : (i : ℕ) → i < 64 → Dec (i ≡ 0) → accountOf (freshLink t .round .accounts) i .residual .0 ≡ 0
   no-residual i u (yes e) = rw e (ap (λ (a : Account). a .residual .0) root-account)
   no-residual i u (no ne) = ap (λ (a : Account). a .residual .0) (other-account i (omega arith) u)
 

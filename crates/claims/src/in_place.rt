@@ -19,6 +19,7 @@ use plan::Claim;
 use plan::EntryRead;
 use state::Link;
 use state::Packet;
+use state::Round;
 use state::Totals;
 use steps::Stand;
 use steps::Went;
@@ -131,13 +132,13 @@ fn entry(
     bytes: &mut [u64; 64],
     rest: &[u8],
 ) -> Did
-    requires { ⌜ Enterable (linkAt (treeIn (now shape)) (did .stand) (now balance) (now residual) (now start) (now held) (now lengths) (now
-        tags)
+    requires { ⌜ Enterable (linkAt (treeIn (now shape)) (did .stand) (now balance) (now residual) (now start) (now held) (now lengths)
+        (now tags)
         (now marks) (now packets) (now bytes))
         × (did .place + length (now rest) < 2 ^ 64) × (did .claims + length (now rest) < 2 ^ 64)
         × Families (treeIn (now shape)) (now children) × Kept (treeIn (now shape)) (did .stand .known) (now kept) ⌝ }
-    ensures { λ r. ⌜ Enters (linkAt (treeIn (now (shape .entry))) (did .stand) (now (balance .entry)) (now (residual .entry)) (now (start
-        .entry))
+    ensures { λ r. ⌜ Enters (linkAt (treeIn (now (shape .entry))) (did .stand) (now (balance .entry)) (now (residual .entry))
+        (now (start .entry))
         (now (held .entry)) (now (lengths .entry)) (now (tags .entry)) (now (marks .entry)) (now (packets .entry)) (now (bytes .entry)))
         (did .place) (did .claims) (entryAt (now (rest .entry))) r
         (linkAt (treeIn (now (shape .entry))) (r .stand) (now (balance .exit)) (now (residual .exit)) (now (start .exit)) (now (held .exit))
@@ -208,7 +209,7 @@ pub fn entries(link: Link, part: &[u8], place: usize, claims: usize, last: bool)
     let shape = shape::shape_of(tree);
     let children = shape::families(&shape);
     let mut kept = [0u32; 64];
-    let before = link.accounts;
+    let before = link.round.accounts;
     let mut balance = state::lent_accounts::balances(before);
     let mut residual = state::lent_accounts::residuals(before);
     let mut start = link.start;
@@ -219,12 +220,12 @@ pub fn entries(link: Link, part: &[u8], place: usize, claims: usize, last: bool)
     let totals = link.totals;
     let mut packets = totals.packets;
     let mut bytes = totals.bytes;
-    let size = link.size;
+    let size = link.round.size;
     let stand = Stand {
         known: 0,
         size,
-        active: link.active,
-        place: link.place,
+        active: link.round.active,
+        place: link.round.place,
         charged: totals.charged,
     };
     let mut s = goes_on(place, claims, stand);
@@ -252,19 +253,21 @@ pub fn entries(link: Link, part: &[u8], place: usize, claims: usize, last: bool)
     let size_after = then.size;
     let after = Link {
         tree,
-        size: size_after,
-        active: then.active,
-        place: then.place,
-        accounts,
-        start,
-        held,
         lengths,
         tags,
         marks,
+        start,
+        held,
         totals: Totals {
             packets,
             bytes,
             charged: then.charged,
+        },
+        round: Round {
+            size: size_after,
+            active: then.active,
+            place: then.place,
+            accounts,
         },
     };
     let judged = s.judged;

@@ -18,7 +18,7 @@ use Rattle.state.specs.declared.Account.{Account}
 use Rattle.state.specs.declared.Link.{Link}
 use Rattle.state.specs.declared.Packet.{Packet}
 use Rattle.state.specs.Account.{account, noAccount, balanceOf, residualOf, zipAccounts}
-use Rattle.state.specs.State.{linkOf}
+use Rattle.state.specs.State.{linkOf, roundOf}
 use Rattle.state.proofs.Zips.{zip-fields}
 use Rattle.sound.specs.Sound.{SoundLink}
 use Rattle.calls.specs.declared.AfterFresh.{AfterFresh}
@@ -44,23 +44,25 @@ use Rattle.cometbanjo.specs.Calls.{CallArrives, CallSends}
 -- ---- a link is laid into arrays
 
 -- a fresh link has 64 accounts
-pub fresh-wide : {t : Tree} {r : AfterFresh} → MakesFresh t r → length (r .link .accounts) ≡ 64
-fresh-wide {t = t} is = ap (λ (x : AfterFresh). length (x .link .accounts)) (is .answer) ∙ go (is .obeys)
+pub fresh-wide : {t : Tree} {r : AfterFresh} → MakesFresh t r → length (r .link .round .accounts) ≡ 64
+fresh-wide {t = t} is = ap (λ (x : AfterFresh). length (x .link .round .accounts)) (is .answer) ∙ go (is .obeys)
   where
-    go : (b : Bool) → length (freshOf b t .link .accounts) ≡ 64
+    go : (b : Bool) → length (freshOf b t .link .round .accounts) ≡ 64
     go true = length-set (replicate 64 noAccount) 0 (account (roundSize t) 0) ∙ length-replicate 64 noAccount
     go false = length-replicate 64 noAccount
 
 -- the link in the arrays is the one whose fields were laid there
 pub link-laid : (l : Link) (shape : List ℕ) {stand balance residual : List ℕ} → treeIn shape ≡ l .tree
-    → stand ≡ l .size .0 ∷ l .active ∷ l .place ∷ l .totals .charged ∷ [] → balance ≡ table (balanceOf (l .accounts)) 64
-    → residual ≡ table (residualOf (l .accounts)) 64 → length (l .accounts) ≡ 64
+    → stand ≡ l .round .size .0 ∷ l .round .active ∷ l .round .place ∷ l .totals .charged ∷ []
+    → balance ≡ table (balanceOf (l .round .accounts)) 64
+    → residual ≡ table (residualOf (l .round .accounts)) 64 → length (l .round .accounts) ≡ 64
     → linkIn shape stand balance residual (l .start) (l .held) (l .lengths) (l .tags) (l .marks) (l .totals .packets) (l .totals .bytes) ≡ l
 link-laid l shape {stand} {balance} {residual} tree stands bs rs wide =
     ap (λ (s : List ℕ). linkIn shape s balance residual (l .start) (l .held) (l .lengths) (l .tags) (l .marks) (l .totals .packets)
     (l .totals .bytes)) stands
-    ∙ ap₂ (λ (t : Tree) (xs : List Account). linkOf t (l .size) (l .active) (l .place) xs (l .start) (l .held) (l .lengths) (l .tags)
-    (l .marks) (l .totals)) tree (ap₂ zipAccounts bs rs ∙ zip-fields (l .accounts) wide)
+    ∙ ap₂ (λ (t : Tree) (xs : List Account). linkOf t (l .lengths) (l .tags) (l .marks) (l .start) (l .held) (l .totals)
+    (roundOf (l .round .size .0) (l .round .active) (l .round .place) xs)) tree
+    (ap₂ zipAccounts bs rs ∙ zip-fields (l .round .accounts) wide)
 
 -- ---- answers as numbers
 

@@ -72,9 +72,9 @@ pub extern "C" fn cb_open_fields(
     bytes: &mut [u64; 64],
     said: &mut [u64; 3],
 ) -> u64
-    ensures { λ r. ⌜ CallOpens (now (plan .entry)) r (now (said .exit)) (linkIn (now (shape .exit)) (now (stand .exit)) (now
-        (balance .exit)) (now (residual .exit)) (now (start .exit)) (now (held .exit)) (now (lengths .exit)) (now (tags .exit)) (now
-        (marks .exit)) (now (packets .exit)) (now (bytes .exit))) ⌝ }
+    ensures { λ r. ⌜ CallOpens (now (plan .entry)) r (now (said .exit)) (linkIn (now (shape .exit)) (now (stand .exit))
+        (now (balance .exit)) (now (residual .exit)) (now (start .exit)) (now (held .exit)) (now (lengths .exit)) (now (tags .exit))
+        (now (marks .exit)) (now (packets .exit)) (now (bytes .exit))) ⌝ }
 {
     let read = plan::read_plan(plan);
     let made = link::fresh(read.tree);
@@ -82,8 +82,13 @@ pub extern "C" fn cb_open_fields(
     let tree = link.tree;
     *shape = shape::shape_of(tree);
     let totals = link.totals;
-    *stand = four_of(link.size, link.active, link.place, totals.charged);
-    let accounts = link.accounts;
+    *stand = four_of(
+        link.round.size,
+        link.round.active,
+        link.round.place,
+        totals.charged,
+    );
+    let accounts = link.round.accounts;
     *balance = balances(accounts);
     *residual = residuals(accounts);
     let first = link.start;
@@ -129,8 +134,8 @@ pub extern "C" fn cb_arrive_fields(
     ensures { λ r. ⌜ CallArrives (linkIn (now (shape .entry)) (now (stand .entry)) (now (balance .entry)) (now (residual .entry))
         (now (start .entry)) (now (held .entry)) (now (lengths .entry)) (now (tags .entry)) (now (marks .entry)) (now (packets
         .entry)) (now (bytes .entry))) class length tag r (now (answer .exit)) (linkIn (now (shape .entry)) (now (stand .entry))
-        (now (balance .entry)) (now (residual .entry)) (now (start .entry)) (now (held .exit)) (now (lengths .exit)) (now (tags
-        .exit)) (now (marks .exit)) (now (packets .exit)) (now (bytes .exit))) ⌝ }
+        (now (balance .entry)) (now (residual .entry)) (now (start .entry)) (now (held .exit)) (now (lengths .exit))
+        (now (tags .exit)) (now (marks .exit)) (now (packets .exit)) (now (bytes .exit))) ⌝ }
 {
     let packet = packet_of(length, tag);
     let came = call::arrive(
@@ -169,10 +174,10 @@ pub extern "C" fn cb_send_fields(
     bytes: &mut [u64; 64],
     answer: &mut [u64; 8],
 ) -> u64
-    ensures { λ r. ⌜ CallSends (linkIn (now (shape .entry)) (now (stand .entry)) (now (balance .entry)) (now (residual .entry)) (now
-        (start .entry)) (now (held .entry)) (now (lengths .entry)) (now (tags .entry)) (now (marks .entry)) (now (packets .entry))
-        (now (bytes .entry))) r (now (answer .exit)) (linkIn (now (shape .entry)) (now (stand .exit)) (now (balance .exit)) (now
-        (residual .exit)) (now (start .exit)) (now (held .exit)) (now (lengths .entry)) (now (tags .entry)) (now (marks .entry))
+    ensures { λ r. ⌜ CallSends (linkIn (now (shape .entry)) (now (stand .entry)) (now (balance .entry)) (now (residual .entry))
+        (now (start .entry)) (now (held .entry)) (now (lengths .entry)) (now (tags .entry)) (now (marks .entry)) (now (packets .entry))
+        (now (bytes .entry))) r (now (answer .exit)) (linkIn (now (shape .entry)) (now (stand .exit)) (now (balance .exit))
+        (now (residual .exit)) (now (start .exit)) (now (held .exit)) (now (lengths .entry)) (now (tags .entry)) (now (marks .entry))
         (now (packets .exit)) (now (bytes .exit))) ⌝ }
 {
     let went = call::send(
@@ -208,8 +213,8 @@ fn sound_in(
     bytes: &[u64; 64],
 ) -> bool
     ensures { λ r. ⌜ ((tags marks : List ℕ) → Exactly r (SoundLink (linkIn (now (shape .entry)) (now (stand .entry)) (now (balance
-        .entry)) (now (residual .entry)) (now (start .entry)) (now (held .entry)) (now (lengths .entry)) tags marks (now (packets
-        .entry)) (now (bytes .entry))))) ⌝ }
+        .entry)) (now (residual .entry)) (now (start .entry)) (now (held .entry)) (now (lengths .entry)) tags marks
+        (now (packets .entry)) (now (bytes .entry))))) ⌝ }
 {
     let mut children = [0u64; 64];
     let at = answers::stand_in(stand);
@@ -242,9 +247,9 @@ pub extern "C" fn cb_totals_fields(
     packets: &[u64; 64],
     bytes: &[u64; 64],
 ) -> u64
-    ensures { λ r. ⌜ CallTotals (λ tags marks. linkIn (now (shape .entry)) (now (stand .entry)) (now (balance .entry)) (now
-        (residual .entry)) (now (start .entry)) (now (held .entry)) (now (lengths .entry)) tags marks (now (packets .entry)) (now
-        (bytes .entry))) r ⌝ }
+    ensures { λ r. ⌜ CallTotals (λ tags marks. linkIn (now (shape .entry)) (now (stand .entry)) (now (balance .entry))
+        (now (residual .entry)) (now (start .entry)) (now (held .entry)) (now (lengths .entry)) tags marks (now (packets .entry))
+        (now (bytes .entry))) r ⌝ }
 {
     if sound_in(
         shape,
@@ -281,8 +286,8 @@ pub extern "C" fn cb_offer_fields(
     said: &mut [u64; 4],
 ) -> u64
     ensures { λ r. ⌜ CallOffers (linkIn (now (shape .entry)) (now (stand .entry)) (now (balance .entry)) (now (residual .entry))
-        (now (start .entry)) (now (held .entry)) (now (lengths .entry)) (now (tags .entry)) (now (marks .entry)) (now (packets
-        .entry)) (now (bytes .entry))) class length r (now (said .exit)) ⌝ }
+        (now (start .entry)) (now (held .entry)) (now (lengths .entry)) (now (tags .entry)) (now (marks .entry))
+        (now (packets .entry)) (now (bytes .entry))) class length r (now (said .exit)) ⌝ }
 {
     let packet = packet_of(length, 0);
     let offered = offer::if_accepted(
@@ -322,8 +327,8 @@ pub extern "C" fn cb_why_fields(
     class: usize,
     said: &mut [u64; 4],
 ) -> u64
-    ensures { λ r. ⌜ CallWhy (linkIn (now (shape .entry)) (now (stand .entry)) (now (balance .entry)) (now (residual .entry)) (now
-        (start .entry)) (now (held .entry)) (now (lengths .entry)) (now (tags .entry)) (now (marks .entry)) (now (packets .entry))
+    ensures { λ r. ⌜ CallWhy (linkIn (now (shape .entry)) (now (stand .entry)) (now (balance .entry)) (now (residual .entry))
+        (now (start .entry)) (now (held .entry)) (now (lengths .entry)) (now (tags .entry)) (now (marks .entry)) (now (packets .entry))
         (now (bytes .entry))) class r (now (said .exit)) ⌝ }
 {
     let silence = silent::why(

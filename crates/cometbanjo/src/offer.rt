@@ -23,8 +23,8 @@ pub(crate) fn if_accepted(
     class: usize,
     length: u16,
 ) -> Offered
-    ensures { λ r. ⌜ Offers (linkIn (now (shape .entry)) (now (stand .entry)) (now (balance .entry)) (now (residual .entry)) (now
-        (start .entry)) (now (held .entry)) (now (lengths .entry)) (now (tags .entry)) (now (marks .entry)) (now (packets .entry))
+    ensures { λ r. ⌜ Offers (linkIn (now (shape .entry)) (now (stand .entry)) (now (balance .entry)) (now (residual .entry))
+        (now (start .entry)) (now (held .entry)) (now (lengths .entry)) (now (tags .entry)) (now (marks .entry)) (now (packets .entry))
         (now (bytes .entry))) class length r ⌝ }
 {
     let mut held = *held;

@@ -61,7 +61,7 @@ fn write_shape(shape: &[u64; 195], out: &mut [u8]) -> Written
     ensures { λ r. ⌜ Writes (treeIn (now (shape .entry))) (now (out .entry)) r (now (out .exit)) ⌝ }
 {
     let mut children = [0u64; 64];
-    let judged = shape::plan_size(shape, &mut children);
+    let judged = shape::plan_size_at(shape, &mut children);
     if !judged.right {
         let verdict = Verdict::Refused(checks::NOT_SOUND, 0);
         return Written { verdict, used: 0 };

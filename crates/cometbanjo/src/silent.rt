@@ -33,12 +33,12 @@ fn reason_in(
     bytes: &[u64; 64],
     class: usize,
 ) -> Reason
-    requires { ⌜ SoundLink (linkIn (now shape) (now stand) (now balance) (now residual) (now start) (now held) (now lengths) (now
-        tags) (now marks) (now packets) (now bytes)) × (isLeaf (treeIn (now shape)) class ≡ true) × (length (zipAccounts (now
-        balance) (now residual)) ≡ 64) ⌝ }
+    requires { ⌜ SoundLink (linkIn (now shape) (now stand) (now balance) (now residual) (now start) (now held) (now lengths)
+        (now tags) (now marks) (now packets) (now bytes)) × (isLeaf (treeIn (now shape)) class ≡ true) × (length (zipAccounts
+        (now balance) (now residual)) ≡ 64) ⌝ }
     ensures { λ r. ⌜ IsTrue (meaning (linkIn (now (shape .entry)) (now (stand .entry)) (now (balance .entry)) (now (residual
-        .entry)) (now (start .entry)) (now (held .entry)) (now (lengths .entry)) (now (tags .entry)) (now (marks .entry)) (now
-        (packets .entry)) (now (bytes .entry)))) class r ⌝ }
+        .entry)) (now (start .entry)) (now (held .entry)) (now (lengths .entry)) (now (tags .entry)) (now (marks .entry))
+        (now (packets .entry)) (now (bytes .entry)))) class r ⌝ }
 {
     if held[class] == 0 {
         return Reason::Empty;
@@ -70,8 +70,8 @@ pub(crate) fn why(
     bytes: &[u64; 64],
     class: usize,
 ) -> Silence
-    ensures { λ r. ⌜ SaysWhy (linkIn (now (shape .entry)) (now (stand .entry)) (now (balance .entry)) (now (residual .entry)) (now
-        (start .entry)) (now (held .entry)) (now (lengths .entry)) (now (tags .entry)) (now (marks .entry)) (now (packets .entry))
+    ensures { λ r. ⌜ SaysWhy (linkIn (now (shape .entry)) (now (stand .entry)) (now (balance .entry)) (now (residual .entry))
+        (now (start .entry)) (now (held .entry)) (now (lengths .entry)) (now (tags .entry)) (now (marks .entry)) (now (packets .entry))
         (now (bytes .entry))) class r ⌝ }
 {
     lent::known(

@@ -46,11 +46,11 @@ fn asked_line(asked: u64) {
 fn both(one: Step, two: SecondStep) {
     let first = one.link;
     let tree = first.tree;
-    let accounts = first.accounts;
+    let accounts = first.round.accounts;
     accounts_line(b"first", tree.count, accounts);
     let second = two.link;
     let inside = second.link;
-    let others = inside.accounts;
+    let others = inside.round.accounts;
     accounts_line(b"second", tree.count, others);
     asked_line(second.asked);
 }

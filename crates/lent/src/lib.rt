@@ -18,13 +18,10 @@ pub fn arrive(link: &mut Link, class: usize, packet: Packet) -> Arrival
 {
     let placed = link::arrive_in(
         link.tree,
-        link.size,
-        link.active,
-        link.place,
-        link.accounts,
         link.start,
         link.held,
         link.totals,
+        link.round,
         &mut link.lengths,
         &mut link.tags,
         &mut link.marks,
@@ -42,24 +39,18 @@ pub fn send(link: &mut Link) -> Departure
 {
     let went = link::send_of(
         link.tree,
-        link.size,
-        link.active,
-        link.place,
-        link.accounts,
         link.start,
         link.held,
         link.totals,
+        link.round,
         &link.lengths,
         &link.tags,
         &link.marks,
     );
-    link.active = went.active;
-    link.place = went.place;
-    link.accounts = went.accounts;
     link.start = went.start;
     link.held = went.held;
-    link.size = went.size;
     link.totals = went.totals;
+    link.round = went.round;
     went.answer
 }
 
@@ -69,13 +60,10 @@ pub fn totals(link: &mut Link) -> PanelTotals
 {
     link::totals_of(
         link.tree,
-        link.size,
-        link.active,
-        link.place,
-        link.accounts,
         link.start,
         link.held,
         link.totals,
+        link.round,
         &link.lengths,
     )
 }
@@ -86,13 +74,10 @@ pub fn class_totals(link: &mut Link, class: usize) -> ClassTotals
 {
     link::class_totals_of(
         link.tree,
-        link.size,
-        link.active,
-        link.place,
-        link.accounts,
         link.start,
         link.held,
         link.totals,
+        link.round,
         &link.lengths,
         class,
     )

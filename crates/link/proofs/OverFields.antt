@@ -43,15 +43,13 @@ sends-whole l r shape x = sends-by l (x .sound) (sendLeaves (r .answer) (changed
 pub send-fields-one-answer : (l : Link) (r s : Changed) → SendsIn l r → SendsIn l s → r ≡ s
 send-fields-one-answer l r s x y =
     ap
-    (λ (a : AfterSend). changedTo (a .answer) (a .link .active) (a .link .place) (a .link .accounts) (a .link .start)
-    (a .link .held) (a .link .size)
-    (a .link .totals))
+    (λ (a : AfterSend). changedTo (a .answer) (a .link .start) (a .link .held) (a .link .totals) (a .link .round))
     (x .gives ∙ ap (λ (b : Bool). sendOf b l) (exactly-unique (x .exactly) (y .exactly)) ∙ sym (y .gives))
 
 module _ (l : Link) (flag : Bool) (exactly : Exactly flag (SoundLink l)) (r : Changed) where
   -- a refused send changes no field
   pub stays-sends : sendOf flag l ≡ sendGives (Refused 11 0) l
-      → r ≡ changedTo (refusedSend (Refused 11 0)) (l .active) (l .place) (l .accounts) (l .start) (l .held) (l .size) (l .totals)
+      → r ≡ changedTo (refusedSend (Refused 11 0)) (l .start) (l .held) (l .totals) (l .round)
       → SendsIn l r
   stays-sends gives said = record {
     sound = flag;

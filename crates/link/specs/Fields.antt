@@ -6,10 +6,9 @@ use Prim.Native.Nat.{ℕ}
 use lib.Dec.{ltb}
 use lib.ListN.{getD}
 use Rattle.checks.specs.Check.{Exactly}
-use Rattle.units.specs.declared.Bytes.{Bytes}
-use Rattle.state.specs.declared.Account.{Account}
 use Rattle.state.specs.declared.Link.{Link}
 use Rattle.state.specs.declared.Packet.{Packet}
+use Rattle.state.specs.declared.Round.{Round}
 use Rattle.state.specs.declared.Totals.{Totals}
 use Rattle.state.specs.Queue.{queued, withTotals}
 use Rattle.state.specs.State.{linkInRound}
@@ -28,23 +27,13 @@ pub record ArrivesIn (l : Link) (class : ℕ) (p : Packet) (answer : Arrival) (a
   pub exactly : Exactly sound (SoundLink l)
   pub gives : arrivalLeaves answer after ≡ arrivalOf sound l class p
 
-abbrev pub changedTo : Departure → ℕ → ℕ → List Account → List ℕ → List ℕ → Bytes → Totals → Changed
-changedTo answer active place accounts start held size totals = record {
-  answer = answer;
-  active = active;
-  place = place;
-  accounts = accounts;
-  start = start;
-  held = held;
-  size = size;
-  totals = totals;
-}
+abbrev pub changedTo : Departure → List ℕ → List ℕ → Totals → Round → Changed
+changedTo answer start held totals round = record { start = start; held = held; totals = totals; answer = answer; round = round }
 
 -- the link with the fields that a send may change
 abbrev pub changedLink : Link → Changed → Link
 changedLink l r =
-    withTotals (queued (linkInRound l (r .size .0) (r .active) (r .place) (r .accounts)) (r .start) (r .held) (l .lengths)
-    (l .tags) (l .marks)) (r .totals)
+    withTotals (queued (linkInRound l (r .round)) (r .start) (r .held) (l .lengths) (l .tags) (l .marks)) (r .totals)
 
 -- a send over the fields of a sound link
 abbrev pub GoesIn : Link → Changed → Type 0

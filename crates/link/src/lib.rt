@@ -24,9 +24,9 @@ ghost use Rattle.sound.specs.Steps.{linkIn};
 ghost use Rattle.steps.specs.Rounds.{InFields, wentAnswers};
 ghost use Rattle.link.specs.Fields.{ArrivesIn, changedTo, GoesIn, SendsIn, classIn};
 use checks::Verdict;
-use state::Account;
 use state::Link;
 use state::Packet;
+use state::Round;
 use state::Totals;
 use state::lent_accounts::balances;
 use state::lent_accounts::residuals;
@@ -37,8 +37,8 @@ use steps::Went;
 use tree::Tree;
 use units::Bytes;
 
-// An arrival over the fields of a link: the packets held and the totals after it, and its answer. The answer stands last, here and
-// below: the walks of the lent entries count bytes, and no other place moves when it gets a field.
+// An arrival over the fields of a link: the packets held and the totals after it, and its answer. What may get a field stands last, here
+// and below: the walks of the lent entries count bytes, and no other place moves then.
 pub struct Placed {
     pub held: [u8; Link::CLASSES],
     pub totals: Totals,
@@ -47,21 +47,18 @@ pub struct Placed {
 
 // A send over the fields of a link: the fields that it may change, and its answer.
 pub struct Changed {
-    pub active: u64,
-    pub place: usize,
-    pub accounts: [Account; Link::CLASSES],
     pub start: [u8; Link::CLASSES],
     pub held: [u8; Link::CLASSES],
-    pub size: Bytes,
     pub totals: Totals,
     pub answer: Departure,
+    pub round: Round,
 }
 
 // A fresh link of a tree, any tree.
 pub fn fresh(tree: Tree) -> AfterFresh
     ensures { λ r. ⌜ MakesFresh tree r ⌝ }
 {
-    if !tree::is_plan(tree) {
+    if !shape::is_plan(tree) {
         let verdict = Verdict::Refused(checks::NOT_SOUND, 0);
         let link = Link::none();
         return AfterFresh { verdict, link };
@@ -74,13 +71,10 @@ pub fn fresh(tree: Tree) -> AfterFresh
 // An arrival over the fields of a link, with its waiting places lent: any class number, any length and any tag.
 pub fn arrive_in<'a>(
     tree: Tree,
-    size: Bytes,
-    active: u64,
-    place: usize,
-    accounts: [Account; Link::CLASSES],
     start: [u8; Link::CLASSES],
     held: [u8; Link::CLASSES],
     totals: Totals,
+    round: Round,
     lengths: &'a mut [u16; 2048],
     tags: &'a mut [u32; 2048],
     marks: &'a mut [u64; 2048],
@@ -88,12 +82,14 @@ pub fn arrive_in<'a>(
     packet: Packet,
 ) -> Placed
     ensures { λ r. ⌜ ArrivesIn
-        (linkOf tree size active place accounts start held (now (lengths .entry)) (now (tags .entry)) (now (marks .entry)) totals)
+        (linkOf tree (now (lengths .entry)) (now (tags .entry)) (now (marks .entry)) start held totals round)
         class packet (r .answer)
-        (linkOf tree size active place accounts start (r .held) (now (lengths .exit)) (now (tags .exit)) (now (marks .exit)) (r .totals))
+        (linkOf tree (now (lengths .exit)) (now (tags .exit)) (now (marks .exit)) start (r .held) (r .totals) round)
         ⌝ }
 {
     let shape = shape::shape_of(tree);
+    let size = round.size;
+    let accounts = round.accounts;
     let balance = balances(accounts);
     let residual = residuals(accounts);
     let mut children = [0u64; 64];
@@ -103,8 +99,8 @@ pub fn arrive_in<'a>(
     let sound = sound::is_sound_at(
         &shape,
         size,
-        active,
-        place,
+        round.active,
+        round.place,
         &balance,
         &residual,
         &start,
@@ -144,23 +140,19 @@ pub fn arrive(link: Link, class: usize, packet: Packet) -> AfterArrival
     ensures { λ r. ⌜ Arrives link class packet r ⌝ }
 {
     let tree = link.tree;
-    let size = link.size;
-    let accounts = link.accounts;
-    let start = link.start;
-    let held = link.held;
     let mut lengths = link.lengths;
     let mut tags = link.tags;
     let mut marks = link.marks;
+    let start = link.start;
+    let held = link.held;
     let totals = link.totals;
+    let round = link.round;
     let placed = arrive_in(
         tree,
-        size,
-        link.active,
-        link.place,
-        accounts,
         start,
         held,
         totals,
+        round,
         &mut lengths,
         &mut tags,
         &mut marks,
@@ -170,39 +162,36 @@ pub fn arrive(link: Link, class: usize, packet: Packet) -> AfterArrival
     let answer = placed.answer;
     let held_after = placed.held;
     let totals_after = placed.totals;
-    let mut after = link;
-    after.held = held_after;
-    after.lengths = lengths;
-    after.tags = tags;
-    after.marks = marks;
-    after.totals = totals_after;
     AfterArrival {
         answer,
-        link: after,
+        link: Link {
+            tree,
+            lengths,
+            tags,
+            marks,
+            start,
+            held: held_after,
+            totals: totals_after,
+            round,
+        },
     }
 }
 
 // A send on a record that is not sound: every field as it was, and all other numbers 0.
 fn stays(
-    size: Bytes,
-    active: u64,
-    place: usize,
-    accounts: [Account; Link::CLASSES],
     start: [u8; Link::CLASSES],
     held: [u8; Link::CLASSES],
     totals: Totals,
+    round: Round,
 ) -> Changed
-    ensures { λ r. ⌜ r ≡ changedTo (refusedSend (Refused 11 0)) active place accounts start held size totals ⌝ }
+    ensures { λ r. ⌜ r ≡ changedTo (refusedSend (Refused 11 0)) start held totals round ⌝ }
 {
     Changed {
-        answer: refused(checks::NOT_SOUND),
-        active,
-        place,
-        accounts,
         start,
         held,
-        size,
         totals,
+        answer: refused(checks::NOT_SOUND),
+        round,
     }
 }
 
@@ -294,40 +283,42 @@ fn sends(
     let bytes_after = *bytes;
     let then = went.stand;
     let size_after = then.size;
-    Changed {
-        answer: answered(went),
+    let round = Round {
+        size: size_after,
         active: then.active,
         place: then.place,
         accounts: after,
+    };
+    Changed {
         start: first,
         held: many,
-        size: size_after,
         totals: Totals {
             packets: packets_after,
             bytes: bytes_after,
             charged: then.charged,
         },
+        answer: answered(went),
+        round,
     }
 }
 
 // A send over the fields of a link.
 pub fn send_of<'a>(
     tree: Tree,
-    size: Bytes,
-    active: u64,
-    place: usize,
-    accounts: [Account; Link::CLASSES],
     start: [u8; Link::CLASSES],
     held: [u8; Link::CLASSES],
     totals: Totals,
+    round: Round,
     lengths: &'a [u16; 2048],
     tags: &'a [u32; 2048],
     marks: &'a [u64; 2048],
 ) -> Changed
     ensures { λ r. ⌜ SendsIn
-        (linkOf tree size active place accounts start held (now (lengths .entry)) (now (tags .entry)) (now (marks .entry)) totals) r ⌝ }
+        (linkOf tree (now (lengths .entry)) (now (tags .entry)) (now (marks .entry)) start held totals round) r ⌝ }
 {
     let shape = shape::shape_of(tree);
+    let size = round.size;
+    let accounts = round.accounts;
     let mut balance = balances(accounts);
     let mut residual = residuals(accounts);
     let mut packets = totals.packets;
@@ -336,8 +327,8 @@ pub fn send_of<'a>(
     if !sound::is_sound_at(
         &shape,
         size,
-        active,
-        place,
+        round.active,
+        round.place,
         &balance,
         &residual,
         &start,
@@ -347,14 +338,14 @@ pub fn send_of<'a>(
         &bytes,
         &mut children,
     ) {
-        return stays(size, active, place, accounts, start, held, totals);
+        return stays(start, held, totals, round);
     }
     sends(
         &shape,
         &children,
         size,
-        active,
-        place,
+        round.active,
+        round.place,
         &mut balance,
         &mut residual,
         start,
@@ -373,70 +364,47 @@ pub fn send(link: Link) -> AfterSend
     ensures { λ r. ⌜ Sends link r ⌝ }
 {
     let tree = link.tree;
-    let size = link.size;
-    let accounts = link.accounts;
+    let lengths = link.lengths;
+    let tags = link.tags;
+    let marks = link.marks;
     let start = link.start;
     let held = link.held;
     let totals = link.totals;
-    let went = send_of(
-        tree,
-        size,
-        link.active,
-        link.place,
-        accounts,
-        start,
-        held,
-        totals,
-        &link.lengths,
-        &link.tags,
-        &link.marks,
-    );
+    let round = link.round;
+    let went = send_of(tree, start, held, totals, round, &lengths, &tags, &marks);
     let answer = went.answer;
-    let accounts_after = went.accounts;
     let start_after = went.start;
     let held_after = went.held;
-    let size_after = went.size;
     let totals_after = went.totals;
-    let mut after = link;
-    after.active = went.active;
-    after.place = went.place;
-    after.accounts = accounts_after;
-    after.start = start_after;
-    after.held = held_after;
-    after.size = size_after;
-    after.totals = totals_after;
+    let round_after = went.round;
     AfterSend {
         answer,
-        link: after,
+        link: Link {
+            tree,
+            lengths,
+            tags,
+            marks,
+            start: start_after,
+            held: held_after,
+            totals: totals_after,
+            round: round_after,
+        },
     }
 }
 
 // What the panel is told of the link that these fields make up: every class number's totals. Its tags and its marks have no say.
 pub fn totals_of(
     tree: Tree,
-    size: Bytes,
-    active: u64,
-    place: usize,
-    accounts: [Account; Link::CLASSES],
     start: [u8; Link::CLASSES],
     held: [u8; Link::CLASSES],
     totals: Totals,
+    round: Round,
     lengths: &[u16; 2048],
 ) -> PanelTotals
     ensures { λ r. ⌜ ((tags marks : List ℕ)
-        → TellsTotals (linkOf tree size active place accounts start held (now (lengths .entry)) tags marks totals) r) ⌝ }
+        → TellsTotals (linkOf tree (now (lengths .entry)) tags marks start held totals round) r) ⌝ }
 {
-    if !sound::is_sound_of(
-        tree,
-        size,
-        active,
-        place,
-        accounts,
-        start,
-        held,
-        lengths,
-        totals,
-    ) {
+    if !sound::is_sound_of(tree, start, held, totals, round, lengths) {
         let verdict = Verdict::Refused(checks::NOT_SOUND, 0);
         return PanelTotals {
             verdict,
@@ -472,29 +440,16 @@ fn class_in(told: PanelTotals, class: usize) -> ClassTotals
 // What the panel is told of one class number, any number.
 pub fn class_totals_of(
     tree: Tree,
-    size: Bytes,
-    active: u64,
-    place: usize,
-    accounts: [Account; Link::CLASSES],
     start: [u8; Link::CLASSES],
     held: [u8; Link::CLASSES],
     totals: Totals,
+    round: Round,
     lengths: &[u16; 2048],
     class: usize,
 ) -> ClassTotals
     ensures { λ r. ⌜ ((tags marks : List ℕ)
-        → TellsClass (linkOf tree size active place accounts start held (now (lengths .entry)) tags marks totals) class r) ⌝ }
+        → TellsClass (linkOf tree (now (lengths .entry)) tags marks start held totals round) class r) ⌝ }
 {
-    let told = totals_of(
-        tree,
-        size,
-        active,
-        place,
-        accounts,
-        start,
-        held,
-        totals,
-        lengths,
-    );
+    let told = totals_of(tree, start, held, totals, round, lengths);
     class_in(told, class)
 }

@@ -26,11 +26,12 @@ fn accounts(held: [Account; 64], last: usize) {
 // The books of a link record.
 pub(crate) fn show(link: Link) -> Link {
     let tree = link.tree;
-    let held = link.accounts;
+    let round = link.round;
+    let held = round.accounts;
     let totals = link.totals;
-    number(b"books place ", link.place as u64);
-    number(b" active ", link.active);
-    number(b" size ", link.size.0);
+    number(b"books place ", round.place as u64);
+    number(b" active ", round.active);
+    number(b" size ", round.size.0);
     number(b" charged ", totals.charged);
     word(b" accounts");
     accounts(held, tree.count);

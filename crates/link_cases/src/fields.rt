@@ -15,18 +15,24 @@ fn with_tree(mut link: Link, tree: Tree) -> Link {
 }
 
 fn with_size(mut link: Link, size: u64) -> Link {
+    let mut round = link.round;
     let q = Bytes(size);
-    link.size = q;
+    round.size = q;
+    link.round = round;
     link
 }
 
 fn with_active(mut link: Link, active: u64) -> Link {
-    link.active = active;
+    let mut round = link.round;
+    round.active = active;
+    link.round = round;
     link
 }
 
 fn with_place(mut link: Link, place: usize) -> Link {
-    link.place = place;
+    let mut round = link.round;
+    round.place = place;
+    link.round = round;
     link
 }
 
@@ -43,12 +49,15 @@ fn class_number(mut link: Link, field: u64, i: usize, value: u64) -> Link {
     if 63 < i {
         return link;
     }
+    let mut round = link.round;
     if field == 8 {
-        link.accounts[i].balance.0 = value;
+        round.accounts[i].balance.0 = value;
+        link.round = round;
         return link;
     }
     if field == 9 {
-        link.accounts[i].residual.0 = value;
+        round.accounts[i].residual.0 = value;
+        link.round = round;
         return link;
     }
     if field == 10 {

@@ -104,7 +104,7 @@ fn fresh(tree: Tree) -> Link {
     let verdict = got.verdict;
     let after = got.link;
     print_verdict(b"fresh ", verdict);
-    number(b" size ", after.size.0);
+    number(b" size ", after.round.size.0);
     word(b"\n");
     after
 }

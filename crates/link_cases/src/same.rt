@@ -24,8 +24,10 @@ fn same_class(a: Tree, b: Tree, i: usize) -> bool
 fn same_classes(a: Link, b: Link) -> bool {
     let s = a.tree;
     let t = b.tree;
+    let x = a.round;
+    let y = b.round;
     for i in 0..64 {
-        let same = same_class(s, t, i) & same_account(a.accounts[i], b.accounts[i]);
+        let same = same_class(s, t, i) & same_account(x.accounts[i], y.accounts[i]);
         if !same | (a.start[i] != b.start[i]) | (a.held[i] != b.held[i]) {
             return false;
         }
@@ -60,7 +62,9 @@ fn same_tree(a: Tree, b: Tree) -> bool {
 
 // The same link record.
 pub(crate) fn same_link(a: Link, b: Link) -> bool {
-    if (a.size.0 != b.size.0) | (a.active != b.active) | (a.place != b.place) {
+    let m = a.round;
+    let n = b.round;
+    if (m.size.0 != n.size.0) | (m.active != n.active) | (m.place != n.place) {
         return false;
     }
     if !same_tree(a.tree, b.tree) {

@@ -66,7 +66,7 @@ pub(crate) fn fresh(second: Second) -> Second {
     let after = got.link;
     let made = after.link;
     print_verdict(b"fresh ", verdict);
-    number(b" size ", made.size.0);
+    number(b" size ", made.round.size.0);
     word(b"\n");
     after
 }

@@ -1,6 +1,6 @@
 // A whole run of input of any length (R248): a plan and its events from standard input, read window by window, one line for each thing. It
-// prints the lines of `linkrun`, but for number 10. It reads, calls and writes; what a window gives stands in `stream`. Its memory is that of
-// one window and one text. Run and compared with the listing.
+// prints the lines of `linkrun`, but for number 10. It reads, calls and writes; what a window gives stands in `stream`. Its memory is that
+// of one window and one text. Run and compared with the listing.
 ghost use mathlib.Core.Path.{_≡_};
 ghost use Prim.Native.Nat.{_+_, _^_, _≤_, _<_};
 ghost use lib.ListN.{length};

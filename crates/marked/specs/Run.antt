@@ -71,7 +71,7 @@ accountsOf accounts = record { B = table (balanceOf accounts) 64; R = table (res
 
 unfoldable pub openingOf : Turn → OpenedRound
 openingOf turn = record {
-  closed = accountsOf (turn .closed .accounts);
+  closed = accountsOf (turn .closed .round .accounts);
   kind = turn .kind;
   size = turn .size;
   quotas = turn .quotas 0 ∷ turn .quotas 1 ∷ [];
@@ -85,7 +85,7 @@ classesIn s (suc n) = classesIn s n ++ cond (has s n) (n ∷ []) []
 
 abbrev pub seen : (look : Look) → Link → Seen look
 seen (opening k) l = map openingOf (take 1 (drop k (closedIn (runOf true l (send ∷ [])))))
-seen show l = record { active = classesIn (l .active) 64; accounts = accountsOf (l .accounts) }
+seen show l = record { active = classesIn (l .round .active) 64; accounts = accountsOf (l .round .accounts) }
 seen end l = waitingIn (meaning l)
 
 -- ---- a run

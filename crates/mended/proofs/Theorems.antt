@@ -1,5 +1,5 @@
--- What mending promises (R270, R272, R274): what comes back obeys the plan rules and has all but inner weights as read, mending it again changes
--- nothing, a sound plan comes back as it is, and what the reader refuses for another cause than 7 is refused alike.
+-- What mending promises (R270, R272, R274): what comes back obeys the plan rules and has all but inner weights as read, mending it again
+-- changes nothing, a sound plan comes back as it is, and what the reader refuses for another cause than 7 is refused alike.
 use mathlib.Core.Bool.{Bool, true, false, cond, _&&_}
 use mathlib.Core.List.{List, [], _∷_, _++_}
 use mathlib.Core.Logic.{_⊎_, inl, inr}
@@ -13,11 +13,37 @@ use borrow.Author.Tests.{le-ltb, ltb-false}
 use Rattle.checks.specs.declared.Verdict.{Verdict}
 use Rattle.checks.specs.declared.Verdict.the-variants.{Passed, Refused}
 use Rattle.checks.specs.Check.{check, firstBroken, classByClass, numberOf}
-use Rattle.checks.proofs.Laws.{not-both, refused-or-passed, passed-parts, passed-both, classes-each, classes-passed, classes-refused, classes-which, pass-over, decides, broken-or-later, none-broken}
+use Rattle.checks.proofs.Laws.{
+  not-both,
+  refused-or-passed,
+  passed-parts,
+  passed-both,
+  classes-each,
+  classes-passed,
+  classes-refused,
+  classes-which,
+  pass-over,
+  decides,
+  broken-or-later,
+  none-broken,
+}
 use Rattle.units.specs.declared.Weight.{Weight}
 use Rattle.tree.specs.declared.Tree.{Tree}
 use Rattle.tree.specs.Class.{noTree, noWeight, weightOf, isClass, isLeaf, isInner, isChild, ofChild, childrenSum, childrenWeight, hasChild}
-use Rattle.tree.specs.Rules.{tooMany, badParent, badWeight, badLongest, tooHeavy, childless, noClass, closingOf, closingChecks, ClassesPass, UnsetIsZero, PlanRules}
+use Rattle.tree.specs.Rules.{
+  tooMany,
+  badParent,
+  badWeight,
+  badLongest,
+  tooHeavy,
+  childless,
+  noClass,
+  closingOf,
+  closingChecks,
+  ClassesPass,
+  UnsetIsZero,
+  PlanRules,
+}
 use Rattle.tree.proofs.Classes.{class-in, class-range, closing-passed}
 use Rattle.tree.proofs.Rules.{few-classes, weight-range}
 use Rattle.tree.proofs.Sums.{sum-same}
@@ -100,7 +126,12 @@ module _ (t : Tree) (rules : PlanRules t) where
     where
       fits : (i : ℕ) → 1 ≤ i → i ≤ t .count → (b : Bool) → (b && ltb 1_000_000 (mendedWeight t i)) ≡ false
       fits i l u true =
-          le-ltb 1_000_000 (mendedWeight t i) (omega (arith, sound-weight i, weight-range t i (rules .each .weights i (class-in t i l u)) .1))
+          le-ltb 1_000_000 (mendedWeight t i) (omega (
+            arith,
+            sound-weight i,
+            weight-range t i
+                (rules .each .weights i (class-in t i l u)) .1,
+          ))
       fits i l u false = refl
 
 -- ---- a tree that the records gave, mended

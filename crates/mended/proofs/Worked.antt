@@ -81,6 +81,7 @@ cases =
 computed : map (λ (c : Case). given (c .plan)) cases ≡ map (λ (c : Case). c .gives) cases
 unfolding cases firstBroken classByClass has with isClass isLeaf isInner isChild hasChild sumTo someTo
     tooMany badParent badWeight badLongest childless noClass
-    recordKind kindAt missing unknown cut bodyOf ruleOf lateRule badRule classAt recordChecks ruleFirst after followsOf treeOf passes inRow passedOver recordsOf
+    recordKind kindAt missing unknown cut bodyOf ruleOf lateRule badRule classAt recordChecks ruleFirst after followsOf treeOf passes inRow
+    passedOver recordsOf
     table ofChild childrenSum mendedIn mendedWeight needsMore changeOf changesTo downward
 computed = refl

@@ -89,8 +89,8 @@ fn open_accounts(
     balance: &mut [u64; 64],
     residual: &mut [u64; 64],
 )
-    requires { ⌜ CanOpen (treeIn (now shape)) active (zipAccounts (now balance) (now residual)) × Summed (treeIn (now shape)) active (now
-        sums) ⌝ }
+    requires { ⌜ CanOpen (treeIn (now shape)) active (zipAccounts (now balance) (now residual)) × Summed (treeIn (now shape)) active
+        (now sums) ⌝ }
     ensures { λ _. ⌜ zipAccounts (now (balance .exit)) (now (residual .exit))
         ≡ openedAccounts (kindIs surplus) (treeIn (now (shape .entry))) active (zipAccounts (now (balance .entry)) (now (residual .entry)))
         ⌝ }
@@ -144,8 +144,8 @@ fn is_surplus(
     balance: &[u64; 64],
     residual: &[u64; 64],
 ) -> bool
-    requires { ⌜ CanOpen (treeIn (now shape)) active (zipAccounts (now balance) (now residual)) × Summed (treeIn (now shape)) active (now
-        sums) ⌝ }
+    requires { ⌜ CanOpen (treeIn (now shape)) active (zipAccounts (now balance) (now residual)) × Summed (treeIn (now shape)) active
+        (now sums) ⌝ }
     ensures { λ r. ⌜ kindIs r ≡ kindOf (treeIn (now (shape .entry))) active (zipAccounts (now (balance .entry)) (now (residual .entry))) ⌝ }
 {
     let last = shape::count(shape);

@@ -5,8 +5,8 @@ use mathlib.Core.Path.{_≡_, sym, ap, ap₂, subst, _∙_}
 use Prim.Native.Nat.{ℕ}
 use Rattle.checks.specs.Check.{numberOf}
 use Rattle.tree.specs.declared.Tree.{Tree}
-use Rattle.tree.specs.declared.size.PlanSize.{PlanSize}
-use Rattle.tree.proofs.Children.{plan-size-one-answer}
+use Rattle.shape.specs.declared.size.PlanSize.{PlanSize}
+use Rattle.shape.proofs.Children.{plan-size-one-answer}
 use Rattle.written.specs.declared.Written.{Written}
 use Rattle.written.proofs.Answers as written-answers
 use Rattle.asked.specs.declared.Answer.{Answer}

@@ -5,9 +5,9 @@ use mathlib.Core.Path.{_≡_}
 use Prim.Native.Nat.{ℕ}
 use Rattle.checks.specs.Check.{numberOf}
 use Rattle.tree.specs.declared.Tree.{Tree}
-use Rattle.tree.specs.declared.size.PlanSize.{PlanSize}
+use Rattle.shape.specs.declared.size.PlanSize.{PlanSize}
 use Rattle.tree.specs.Sum.{table}
-use Rattle.tree.specs.Steps.{Sizes}
+use Rattle.shape.specs.Steps.{Sizes}
 use Rattle.plan.specs.Reader.{planOf}
 use Rattle.written.specs.declared.Written.{Written}
 use Rattle.written.specs.Writing.{Writes}

@@ -179,7 +179,7 @@ pub extern "C" fn page_open(
 {
     let read = plan::read_plan(input);
     let tree = read.tree;
-    let judged = tree::plan_size(tree);
+    let judged = shape::plan_size(tree);
     let q = judged.size;
     *size = [q.0];
     *numbers = numbers_of(tree);

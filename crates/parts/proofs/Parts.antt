@@ -207,7 +207,8 @@ run-lines input m run =
     ∙ ap (λ (b : Bool). bytesOf (s .line) ++ printed (following (s .link) input (s .place) b)) m)
 
 -- a program's run: likewise
-pub program-lines : (input : List ℕ) → programBegins input .more ≡ true → (run : RunOn input (programBegins input .link) (programBegins input .place))
+pub program-lines : (input : List ℕ) → programBegins input .more ≡ true →
+    (run : RunOn input (programBegins input .link) (programBegins input .place))
     → bytesOf (programBegins input .line) ++ laidBy run ≡ printed (programLines input)
 unfolding following
 program-lines input m run =

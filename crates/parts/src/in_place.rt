@@ -19,6 +19,7 @@ use answers::event;
 use checks::Verdict;
 use lines::Line;
 use state::Link;
+use state::Round;
 use state::Totals;
 use steps::Stand;
 
@@ -138,7 +139,7 @@ pub fn part_of(sound: bool, link: Link, input: &[u8], place: usize, out: &mut [u
     let shape = shape::shape_of(tree);
     let children = children_of(sound, &shape);
     let mut kept = [0u32; 64];
-    let before = link.accounts;
+    let before = link.round.accounts;
     let mut balance = state::lent_accounts::balances(before);
     let mut residual = state::lent_accounts::residuals(before);
     let mut start = link.start;
@@ -150,12 +151,12 @@ pub fn part_of(sound: bool, link: Link, input: &[u8], place: usize, out: &mut [u
     let mut packets = totals.packets;
     let mut bytes = totals.bytes;
     let known = sums_now(sound, &shape, &held, &mut kept);
-    let size = link.size;
+    let size = link.round.size;
     let stand = Stand {
         known,
         size,
-        active: link.active,
-        place: link.place,
+        active: link.round.active,
+        place: link.round.place,
         charged: totals.charged,
     };
     let none = event::last_reply(Verdict::Passed);
@@ -185,19 +186,21 @@ pub fn part_of(sound: bool, link: Link, input: &[u8], place: usize, out: &mut [u
     let size_after = then.size;
     let after = Link {
         tree,
-        size: size_after,
-        active: then.active,
-        place: then.place,
-        accounts,
-        start,
-        held,
         lengths,
         tags,
         marks,
+        start,
+        held,
         totals: Totals {
             packets,
             bytes,
             charged: then.charged,
+        },
+        round: Round {
+            size: size_after,
+            active: then.active,
+            place: then.place,
+            accounts,
         },
     };
     PartRun {

@@ -26,12 +26,34 @@ use Rattle.plan.specs.Event.{eventAt}
 use Rattle.plan.specs.declared.kind.Section.the-variants.{Plan}
 use Rattle.plan.specs.Kind.{givesClass}
 use Rattle.plan.specs.Record.{kindAt, missing, unknown, cut, lateRule, badRule, classAt}
-use Rattle.plan.specs.Reader.{newClassChecks, recordChecks, followsOf, after, treeOf, checksOf, passes, inRow, passedOver, decidingChecks}
+use Rattle.plan.specs.Reader.{
+  newClassChecks,
+  recordChecks,
+  followsOf,
+  after,
+  treeOf,
+  checksOf,
+  passes,
+  inRow,
+  passedOver,
+  decidingChecks,
+}
 use Rattle.plan.specs.Reader.{wholeChecks, outcome, planOf}
 use Rattle.plan.specs.Rows.{restOf, Reached, WholeRecord, ClassRecord, EndRecord, ClosedBelow, Row, row1-before, row2, row1-inside}
 use Rattle.plan.specs.Rows.{row18, row17, row3, row4, row5, row6, row7, row8, row9}
 use Rattle.plan.proofs.Reading.{tree-count, pass-yes, room-left, plan-refused, plan-ended, record-missing, record-unknown}
-use Rattle.plan.proofs.Reading.{record-cut, record-whole, record-class, record-end, whole-late, whole-bad, no-rule-here, row-of, tree-passes, tree-grown}
+use Rattle.plan.proofs.Reading.{
+  record-cut,
+  record-whole,
+  record-class,
+  record-end,
+  whole-late,
+  whole-bad,
+  no-rule-here,
+  row-of,
+  tree-passes,
+  tree-grown,
+}
 
 -- ---- from a row to the number
 

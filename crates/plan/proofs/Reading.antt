@@ -26,7 +26,18 @@ use Rattle.plan.specs.declared.reader.Following.the-variants.{Stop, Ende
 use Rattle.plan.specs.declared.kind.Section.the-variants.{Plan}
 use Rattle.plan.specs.Kind.{givesClass, givesLeaf, givesRule}
 use Rattle.plan.specs.Record.{kindAt, missing, unknown, cut, bodyOf, ruleOf, lateRule, badRule, innerClass, leafClass, classAt}
-use Rattle.plan.specs.Reader.{headChecks, ruleChecks, newClassChecks, wholeChecks, recordChecks, ruleFirst, followsOf, after, treeOf, checksOf}
+use Rattle.plan.specs.Reader.{
+  headChecks,
+  ruleChecks,
+  newClassChecks,
+  wholeChecks,
+  recordChecks,
+  ruleFirst,
+  followsOf,
+  after,
+  treeOf,
+  checksOf,
+}
 use Rattle.plan.specs.Reader.{passes, inRow, passedOver, decidingChecks}
 use Rattle.plan.specs.Reader.{outcome, planOf, recordsOf, closed}
 use Rattle.plan.specs.Steps.{ClassSays, PlainSays, RuleStops, WholeSays, StepSays}

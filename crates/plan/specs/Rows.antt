@@ -1,5 +1,5 @@
--- When each of the numbers 1 to 9, 17 and 18 is given, and where (R53 to R60, R63, R224, R225): each with no earlier check broken. Demand 1.
--- The reader gives a number at a place exactly when its row says so here (proofs/Numbers.antt).
+-- When each of the numbers 1 to 9, 17 and 18 is given, and where (R53 to R60, R63, R224, R225): each with no earlier check broken. Demand
+-- 1. The reader gives a number at a place exactly when its row says so here (proofs/Numbers.antt).
 use mathlib.Core.Bool.{true, false}
 use mathlib.Core.List.{List}
 use mathlib.Core.Path.{_≡_}

@@ -82,7 +82,8 @@ fn no_class(place: usize, kind: RecordKind, tree: Tree) -> RecordRead
 
 // A whole record: a class record is put to the tree; any other stops the reader or ends the plan.
 fn take_whole(rest: &[u8], place: usize, kind: RecordKind, tree: Tree) -> RecordRead
-    requires { ⌜ (cut (now rest) ≡ false) × (kind ≡ kindAt (now rest)) × (place + length (now rest) < 2 ^ 64) × RuleStops (now rest) place ⌝ }
+    requires { ⌜ (cut (now rest) ≡ false) × (kind ≡ kindAt (now rest)) × (place + length (now rest) < 2 ^ 64)
+        × RuleStops (now rest) place ⌝ }
     ensures { λ r. ⌜ WholeSays (now (rest .entry)) place tree (r .tree) (r .next) ⌝ }
 {
     if !kind::gives_class(kind) {
@@ -119,7 +120,8 @@ fn take_record(input: &[u8], place: usize, tree: Tree) -> RecordRead
 
 // The rule of a whole record that stands first.
 fn whole_rule(input: &[u8], kind: RecordKind) -> Opening
-    requires { ⌜ (missing (now input) ≡ false) × (unknown Plan (now input) ≡ false) × (cut (now input) ≡ false) × (kind ≡ kindAt (now input)) ⌝ }
+    requires { ⌜ (missing (now input) ≡ false) × (unknown Plan (now input) ≡ false) × (cut (now input) ≡ false)
+        × (kind ≡ kindAt (now input)) ⌝ }
     ensures { λ r. ⌜ (r .place ≡ after (now (input .entry)) 0) × (r .follows ≡ followsOf (now (input .entry))) ⌝ }
 {
     if !kind::gives_rule(kind) {
@@ -181,8 +183,8 @@ fn refused(number: u8, place: usize) -> PlanRead
     }
 }
 
-// The records: after the rule each is put to the tree, up to the end record. What they say before 9, 8 and 7 are looked at, so a plan that one of
-// these alone would refuse has its tree and the bytes used here.
+// The records: after the rule each is put to the tree, up to the end record. What they say before 9, 8 and 7 are looked at, so a plan that
+// one of these alone would refuse has its tree and the bytes used here.
 pub fn read_records(input: &[u8]) -> PlanRead
     ensures { λ r. ⌜ r ≡ recordsOf (now (input .entry)) ⌝ }
 {

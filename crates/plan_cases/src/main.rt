@@ -1,6 +1,6 @@
 // Named cases of the plan rules, the readers (R21 to R67) and the writer, packed as commands: each is run, and its lines are compared with
-// the written-down ones. Serves demand 1: what the plan reader, the event reader, the plan rules and the writer say. The cases are edited in
-// cases/plan_cases.txt.
+// the written-down ones. Serves demand 1: what the plan reader, the event reader, the plan rules and the writer say. The cases are edited
+// in cases/plan_cases.txt.
 mod events;
 mod kinds;
 mod output;

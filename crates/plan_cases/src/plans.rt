@@ -6,8 +6,8 @@ use tree::Tree;
 
 // The round size Q, where the tree obeys the plan rules.
 fn round_size(tree: Tree) {
-    if tree::is_plan(tree) {
-        number(b" Q ", tree::round_size(tree).0);
+    if shape::is_plan(tree) {
+        number(b" Q ", shape::round_size(tree).0);
     }
 }
 

@@ -42,7 +42,7 @@ pub(crate) fn class_lines(tree: Tree) -> Tree {
 // Whether a tree obeys the plan rules.
 pub(crate) fn rules(name: &[u8], tree: Tree) -> Tree {
     word(name);
-    either(tree::is_plan(tree), b": yes\n", b": no\n");
+    either(shape::is_plan(tree), b": yes\n", b": no\n");
     tree
 }
 

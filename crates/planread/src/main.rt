@@ -52,8 +52,8 @@ fn class_lines(tree: Tree) {
 
 // The round size Q; 0 where the tree breaks the plan rules.
 fn round_size(tree: Tree) -> u64 {
-    if tree::is_plan(tree) {
-        return tree::round_size(tree).0;
+    if shape::is_plan(tree) {
+        return shape::round_size(tree).0;
     }
     0
 }

@@ -85,7 +85,7 @@ fn bounded(tree: Tree, class: usize, d: Bytes, q: Bytes) -> Promised
 pub fn longest_wait(tree: Tree, class: usize, d: Bytes) -> Promised
     ensures { λ r. ⌜ Promises tree class (d .0) r ⌝ }
 {
-    let plan = tree::plan_size(tree);
+    let plan = shape::plan_size(tree);
     if !plan.right {
         return refused(checks::NOT_SOUND, 0);
     }

@@ -25,7 +25,7 @@ use Rattle.published.proofs.Takers.{pays, from-parent-is, from-parent, 
 -- y is x after class i and whoever is above it have asked: it stands for the same state, is sound, and nothing but accounts, who has asked
 -- and quotas has changed
 pub record Asked (x y : Published) (i : ℕ) : Type 0 where
-  pub same : y .state ≡ withAccounts (x .state) (y .state .accounts)
+  pub same : y .state ≡ withAccounts (x .state) (y .state .round .accounts)
   pub stands : settled y ≡ settled x
   pub sound : SoundPublished y
   pub wide : WidePublished y
@@ -46,18 +46,19 @@ asked-already x i sound wide e = record {
 }
 
 -- the parent of an active class is active
-pub active-up : (s : State) → Sound s → (i : ℕ) → isClass (s .tree) i ≡ true → has (s .active) i ≡ true
-    → has (s .active) (parentOf (s .tree) i) ≡ true
+pub active-up : (s : State) → Sound s → (i : ℕ) → isClass (s .tree) i ≡ true → has (s .round .active) i ≡ true
+    → has (s .round .active) (parentOf (s .tree) i) ≡ true
 active-up s sound i is on =
-    sound-by-child s sound .from-child (parentOf (s .tree) i) (parent-above (s .tree) (s .active) (sound .fits .tree) i is)
+    sound-by-child s sound .from-child (parentOf (s .tree) i) (parent-above (s .tree) (s .round .active) (sound .fits .tree) i is)
     (record { child′ = i; class = is; parent = refl; is-active = on })
 
-pub still-to-ask : (x : Published) (i : ℕ) → has (x .state .active) i ≡ true → has (x .asked) i ≡ false → unasked x i ≡ true
+pub still-to-ask : (x : Published) (i : ℕ) → has (x .state .round .active) i ≡ true → has (x .asked) i ≡ false → unasked x i ≡ true
 unfolding unasked
 still-to-ask x i on e = rw (on, e)
 
 -- the root asks
-root-asks : (x : Published) → SoundPublished x → WidePublished x → has (x .state .active) 0 ≡ true → (b : Bool) → has (x .asked) 0 ≡ b
+root-asks : (x : Published) → SoundPublished x → WidePublished x → has (x .state .round .active) 0 ≡ true → (b : Bool)
+    → has (x .asked) 0 ≡ b
     → Asked x (cond b x (takes x 0 0)) 0
 root-asks x sound wide on true e = asked-already x 0 sound wide e
 root-asks x sound wide on false e =
@@ -74,13 +75,14 @@ root-asks x sound wide on false e =
       above = λ k l. t .has-other k (λ z. omega arith);
     })
 
-same-again : (x y : Published) (accounts : List Account) → y .state ≡ withAccounts (x .state) (y .state .accounts)
+same-again : (x y : Published) (accounts : List Account) → y .state ≡ withAccounts (x .state) (y .state .round .accounts)
     → withAccounts (y .state) accounts ≡ withAccounts (x .state) accounts
 same-again x y accounts e = ap (λ (s : State). withAccounts s accounts) e
 
 -- a class takes its quota when its parent has asked
 module _ (x y : Published) (i p : ℕ) (is-p : p ≡ parentOf (x .state .tree) i) (a : Asked x y p)
-    (is : isClass (x .state .tree) i ≡ true) (on : has (x .state .active) i ≡ true) (low : p < i) (e : has (x .asked) i ≡ false) where
+    (is : isClass (x .state .tree) i ≡ true) (on : has (x .state .round .active) i ≡ true) (low : p < i)
+    (e : has (x .asked) i ≡ false) where
   tree-same : y .state .tree ≡ x .state .tree
   tree-same = ap (λ (s : State). s .tree) (a .same)
 
@@ -88,7 +90,7 @@ module _ (x y : Published) (i p : ℕ) (is-p : p ≡ parentOf (x .state .tree) i
   is′ = ap (λ (t : Tree). isClass t i) tree-same ∙ is
 
   still′ : unasked y i ≡ true
-  still′ = still-to-ask y i (ap (λ (s : State). has (s .active) i) (a .same) ∙ on) (a .above i low ∙ e)
+  still′ = still-to-ask y i (ap (λ (s : State). has (s .round .active) i) (a .same) ∙ on) (a .above i low ∙ e)
 
   up′ : has (y .asked) (parentOf (y .state .tree) i) ≡ true
   up′ = ap (λ (t : Tree). has (y .asked) (parentOf t i)) tree-same ∙ ap (has (y .asked)) (sym is-p) ∙ a .own
@@ -109,7 +111,7 @@ module _ (x y : Published) (i p : ℕ) (is-p : p ≡ parentOf (x .state .tree) i
 
 -- up the tree: the class number falls at each step
 asks-well : (n : ℕ) (x : Published) (i : ℕ) → SoundPublished x → WidePublished x → i < n → i ≤ x .state .tree .count
-    → has (x .state .active) i ≡ true → Asked x (asks n x i) i
+    → has (x .state .round .active) i ≡ true → Asked x (asks n x i) i
 unfolding asks
 asks-well zero x i sound wide a u on = absurd (omega arith)
 asks-well (suc n) x zero sound wide a u on = root-asks x sound wide on (has (x .asked) 0) refl
@@ -133,7 +135,7 @@ asks-well (suc n) x (suc i) sound wide a u on =
     go false e ih = class-asks x y (suc i) (parentOf (x .state .tree) (suc i)) refl ih is on low e
 
 pub ask-well : (x : Published) (i : ℕ) → SoundPublished x → WidePublished x → i < 64 → i ≤ x .state .tree .count
-    → has (x .state .active) i ≡ true → Asked x (ask x i) i
+    → has (x .state .round .active) i ≡ true → Asked x (ask x i) i
 unfolding ask
 ask-well x i sound wide a u on = asks-well 64 x i sound wide a u on
 
@@ -185,7 +187,7 @@ ask-class x (suc i) rules l u e =
 
 -- the parent of a class that asks has asked by then, and can pay what the class takes
 module _ (x : Published) (i : ℕ) (sound : SoundPublished x) (wide : WidePublished x) (is : isClass (x .state .tree) i ≡ true)
-    (on : has (x .state .active) i ≡ true) (e : has (x .asked) i ≡ false) where
+    (on : has (x .state .round .active) i ≡ true) (e : has (x .asked) i ≡ false) where
   first-low : parentOf (x .state .tree) i < i
   first-low = parent-lower (x .state .tree) i (sound .state .fits .tree) is
 
@@ -198,7 +200,8 @@ module _ (x : Published) (i : ℕ) (sound : SoundPublished x) (wide : WidePublis
 
   pub parent-pays : weightOf (ask x (parentOf (x .state .tree) i) .state .tree) i
       * quotaAt (ask x (parentOf (x .state .tree) i)) (parentOf (ask x (parentOf (x .state .tree) i) .state .tree) i)
-      ≤ balanceOf (ask x (parentOf (x .state .tree) i) .state .accounts) (parentOf (ask x (parentOf (x .state .tree) i) .state .tree) i)
+      ≤ balanceOf (ask x (parentOf (x .state .tree) i) .state .round .accounts)
+      (parentOf (ask x (parentOf (x .state .tree) i) .state .tree) i)
   parent-pays =
       let y = ask x (parentOf (x .state .tree) i) in
       let p = parentOf (x .state .tree) i in

@@ -31,7 +31,7 @@ abbrev pub AllAsked : Published → Type 0
 AllAsked x = (k : ℕ) → k < 64 → unasked x k ≡ false
 
 -- whoever is above an active class that has asked has asked
-asked-above : (x : Published) → SoundPublished x → (a i : ℕ) → Below (x .state .tree) a i → has (x .state .active) i ≡ true
+asked-above : (x : Published) → SoundPublished x → (a i : ℕ) → Below (x .state .tree) a i → has (x .state .round .active) i ≡ true
     → has (x .asked) i ≡ true → has (x .asked) a ≡ true
 asked-above x sound a i (child j is e) on asked =
     ap (has (x .asked)) (sym e)
@@ -54,14 +54,14 @@ asked-above x sound a i (under j is b) on asked =
 
 -- where every active leaf has asked, every active class has
 pub all-by-leaves : (x : Published) → SoundPublished x
-    → ((k : ℕ) → k < 64 → isLeaf (x .state .tree) k ≡ true → has (x .state .active) k ≡ true → has (x .asked) k ≡ true) → AllAsked x
+    → ((k : ℕ) → k < 64 → isLeaf (x .state .tree) k ≡ true → has (x .state .round .active) k ≡ true → has (x .asked) k ≡ true) → AllAsked x
 all-by-leaves x sound leaves k u = go (unasked x k) refl
   where
     go : (b : Bool) → unasked x k ≡ b → b ≡ false
     go false e = refl
     go true e = absurd (not-true-and-false (asked (isLeaf (x .state .tree) k) refl) (unasked-parts x k e .1))
       where
-        on : has (x .state .active) k ≡ true
+        on : has (x .state .round .active) k ≡ true
         on = unasked-parts x k e .0
 
         asked : (c : Bool) → isLeaf (x .state .tree) k ≡ c → has (x .asked) k ≡ true
@@ -83,36 +83,36 @@ pub settled-all : (x : Published) → SoundPublished x → WidePublished x → A
 unfolding settled
 settled-all x sound wide all =
     ap (withAccounts (x .state))
-    (ext-getD noAccount (table (settledAccount x) 64) (x .state .accounts)
+    (ext-getD noAccount (table (settledAccount x) 64) (x .state .round .accounts)
     (table-length (settledAccount x) 64 ∙ sym (wide .state .accounts))
     (λ k h.
     let u : k < 64 = omega (arith, table-length (settledAccount x) 64) in
     settled-own x k u (all k u) (none-owed x sound all k)))
 
-pub active-leaf : (s : State) (k : ℕ) → has (s .active) k ≡ true → isLeaf (s .tree) k ≡ true → activeLeaf s k ≡ true
+pub active-leaf : (s : State) (k : ℕ) → has (s .round .active) k ≡ true → isLeaf (s .tree) k ≡ true → activeLeaf s k ≡ true
 unfolding activeLeaf
 active-leaf s k on leaf = rw (on, leaf)
 
 -- when the visits have found no leaf, every active leaf has asked
 pub closed-all : (x : Published) → SoundPublished x → WidePublished x → nextLeaf (settled x) ≡ 64 → AllAsked (visited x .after)
 closed-all x sound wide closed =
-    all-by-leaves y (v .sound) (λ k u leaf on. asked k u leaf on (decLt k (x .state .place)))
+    all-by-leaves y (v .sound) (λ k u leaf on. asked k u leaf on (decLt k (x .state .round .place)))
   where
-    v : VisitsWell x (x .state .place) (nextLeaf (settled x)) (visited x)
+    v : VisitsWell x (x .state .round .place) (nextLeaf (settled x)) (visited x)
     v = visited-well x sound wide
 
     y : Published
     y = visited x .after
 
-    asked : (k : ℕ) → k < 64 → isLeaf (y .state .tree) k ≡ true → has (y .state .active) k ≡ true → Dec (k < x .state .place)
+    asked : (k : ℕ) → k < 64 → isLeaf (y .state .tree) k ≡ true → has (y .state .round .active) k ≡ true → Dec (k < x .state .round .place)
         → has (y .asked) k ≡ true
     asked k u leaf on (yes h) =
         v .keeps k
         (sound .behind k u .asked (sym (ap (λ (s : State). isLeaf (s .tree) k) (v .same)) ∙ leaf)
-        (sym (ap (λ (s : State). has (s .active) k) (v .same)) ∙ on) h)
+        (sym (ap (λ (s : State). has (s .round .active) k) (v .same)) ∙ on) h)
     asked k u leaf on (no h) =
         v .passed k u (omega arith) (omega (arith, v .leaf-is, closed))
-        (active-leaf (x .state) k (sym (ap (λ (s : State). has (s .active) k) (v .same)) ∙ on)
+        (active-leaf (x .state) k (sym (ap (λ (s : State). has (s .round .active) k) (v .same)) ∙ on)
         (sym (ap (λ (s : State). isLeaf (s .tree) k) (v .same)) ∙ leaf))
 
 -- equal states, and so equal accounts, at the moment a round has closed (R336)

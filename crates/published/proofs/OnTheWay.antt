@@ -52,14 +52,13 @@ module _ (x₀ x : Published) (rounds : ℕ) (w : OnTheWay x₀ x rounds) where
 
   -- an opening keeps the tree and the queues
   opened-same : openedPublished (visited x .after) .state
-      ≡ inRound (x₀ .state) (openedPublished (visited x .after) .state .size) (openedPublished (visited x .after) .state .active)
-      (openedPublished (visited x .after) .state .place) (openedPublished (visited x .after) .state .accounts)
+      ≡ inRound (x₀ .state) (openedPublished (visited x .after) .state .round)
   unfolding openedPublished
   opened-same =
       let v = visited-well x (w .sound) (w .wide) in
       let y = openedPublished (visited x .after) .state in
-      ap (λ (s : State). inRound s (y .size) (y .active) (y .place) (y .accounts)) (v .same)
-      ∙ ap (λ (s : State). inRound s (y .size) (y .active) (y .place) (y .accounts)) (w .same)
+      ap (λ (s : State). inRound s (y .round)) (v .same)
+      ∙ ap (λ (s : State). inRound s (y .round)) (w .same)
 
   -- one round more
   pub way-on : visited x .leaf ≡ 64 → OnTheWay x₀ (openedPublished (visited x .after)) (rounds + 1)
@@ -98,5 +97,6 @@ module _ (x₀ x : Published) (rounds : ℕ) (w : OnTheWay x₀ x rounds) where
   unfolding nextLeaf
   way-next found =
       let s = way-sender found in
-      first-skip (ready (visited x .after .state)) (visited x .after .state .place) (visited x .leaf) (s .onward) (omega arith) (s .passed)
+      first-skip (ready (visited x .after .state)) (visited x .after .state .round .place) (visited x .leaf) (s .onward) (omega arith)
+      (s .passed)
       ∙ first-hit (ready (visited x .after .state)) (visited x .leaf) found (s .is-ready)

@@ -18,7 +18,7 @@ use Rattle.state.specs.declared.Packet.{Packet}
 use Rattle.state.specs.Mark.{markedWith}
 use Rattle.state.specs.Account.{accountOf, fundsOf, tookQuota, handedDown}
 use Rattle.state.specs.Queue.{queueOf, putLast}
-use Rattle.state.specs.State.{meaning, linkInRound}
+use Rattle.state.specs.State.{meaning, roundOf, linkInRound}
 use Rattle.tree.proofs.Tables.{table-same}
 use Rattle.state.proofs.Queues.{shaped-put}
 use Rattle.sound.specs.Sound.{SoundLink}
@@ -35,8 +35,8 @@ use Rattle.published.specs.Second.{means, standsFor, SoundSecond, Shaped
 
 -- ---- what a state stands for does not depend on its queues
 
-module _ (x y : Published) (tree : y .state .tree ≡ x .state .tree) (active : y .state .active ≡ x .state .active)
-    (accounts : y .state .accounts ≡ x .state .accounts) (asked : y .asked ≡ x .asked) (quotas : y .quotas ≡ x .quotas) where
+module _ (x y : Published) (tree : y .state .tree ≡ x .state .tree) (active : y .state .round .active ≡ x .state .round .active)
+    (accounts : y .state .round .accounts ≡ x .state .round .accounts) (asked : y .asked ≡ x .asked) (quotas : y .quotas ≡ x .quotas) where
   unasked-like : (i : ℕ) → unasked y i ≡ unasked x i
   unfolding unasked
   unasked-like i = rw (active, asked) refl
@@ -61,7 +61,7 @@ module _ (x y : Published) (tree : y .state .tree ≡ x .state .tree) (active : 
   account-like i =
       rw (share-like 64 (parentOf (y .state .tree) i), share-like 64 i, owed-like i, unasked-like i, tree, accounts) refl
 
-  pub settled-like : settled y .accounts ≡ settled x .accounts
+  pub settled-like : settled y .round .accounts ≡ settled x .round .accounts
   unfolding settled
   settled-like = table-same (settledAccount y) (settledAccount x) 64 (λ i u. account-like i)
 
@@ -94,8 +94,8 @@ module _ (l : Second) (i : ℕ) (p : Packet) (sound : SoundSecond l) (shape : Sh
       (markedWith (l .link .totals .charged) p)
   unfolding queueOf settled
   put-alike =
-      ap (λ (a : List Account). linkInRound (putLast (l .link) i (markedWith (l .link .totals .charged) p)) (l .link .size .0)
-      (l .link .active) (l .link .place) a)
+      ap (λ (a : List Account). linkInRound (putLast (l .link) i (markedWith (l .link .totals .charged) p))
+      (roundOf (l .link .round .size .0) (l .link .round .active) (l .link .round .place) a))
       (settled-like (means l) (means (withLink l (putLast (l .link) i (markedWith (l .link .totals .charged) p)))) refl refl refl refl refl)
 
   put-sound : firstBroken (arrivalChecks true (meaning (l .link)) i p) ≡ Passed → SoundSecond

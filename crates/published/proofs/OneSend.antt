@@ -52,7 +52,7 @@ module _ (l : Second) (sound : SoundSecond l) (shape : ShapedSecond l) where
   pub stands-shaped : Shaped (standsFor l)
   unfolding settled
   stands-shaped =
-      shaped-in (l .link) (l .link .size .0) (l .link .active) (l .link .place) (settled (means l) .accounts) (shape .link)
+      shaped-in (l .link) (settled (means l) .round) (shape .link)
       (table-length (settledAccount (means l)) 64)
 
 -- both see the same packets
@@ -91,7 +91,7 @@ module _ (l : Second) (sound : SoundSecond l) (shape : ShapedSecond l) (some : s
   -- a state in the round of the passage's
   inPassage : State → Published
   inPassage s = record {
-    state = inRound s (p .after .state .size) (p .after .state .active) (p .after .state .place) (p .after .state .accounts);
+    state = inRound s (p .after .state .round);
     asked = p .after .asked;
     quotas = p .after .quotas;
   }
@@ -127,8 +127,7 @@ module _ (l : Second) (sound : SoundSecond l) (shape : ShapedSecond l) (some : s
   shape-after = record {
     link =
         shaped-take (linkIn (l .link) (p .after .state)) (p .class)
-        (shaped-in (l .link) (p .after .state .size) (p .after .state .active) (p .after .state .place) (p .after .state .accounts)
-        (shape .link) (alike .wide .state .accounts));
+        (shaped-in (l .link) (p .after .state .round) (shape .link) (alike .wide .state .accounts));
     quotas = alike .wide .quotas;
   }
 

@@ -41,15 +41,15 @@ hand-twice a m n =
 -- a class that has its quota has not yet to ask
 pub asked-not : (x : Published) (i : ℕ) → has (x .asked) i ≡ true → unasked x i ≡ false
 unfolding unasked
-asked-not x i e = rw e (go (has (x .state .active) i))
+asked-not x i e = rw e (go (has (x .state .round .active) i))
   where
     go : (b : Bool) → (b && false) ≡ false
     go true = refl
     go false = refl
 
-pub unasked-parts : (x : Published) (i : ℕ) → unasked x i ≡ true → (has (x .state .active) i ≡ true) × (has (x .asked) i ≡ false)
+pub unasked-parts : (x : Published) (i : ℕ) → unasked x i ≡ true → (has (x .state .round .active) i ≡ true) × (has (x .asked) i ≡ false)
 unfolding unasked
-unasked-parts x i e = go (has (x .state .active) i) (has (x .asked) i) e
+unasked-parts x i e = go (has (x .state .round .active) i) (has (x .asked) i) e
   where
     go : (a b : Bool) → (a && not b) ≡ true → (a ≡ true) × (b ≡ false)
     go true true e = absurd (not-true-and-false {b = false} e refl)
@@ -65,11 +65,11 @@ pub share-unasked : (x : Published) → (rules : PlanRules (x .state .tree)) →
 share-unasked x rules i u e = share-step x rules i u ∙ rw e
 
 -- what the children that have yet to ask weigh is within what the active children weigh
-pub owed-within : (x : Published) (p : ℕ) → owedSum x p ≤ weightSum (x .state .tree) (x .state .active) p
+pub owed-within : (x : Published) (p : ℕ) → owedSum x p ≤ weightSum (x .state .tree) (x .state .round .active) p
 unfolding owedSum owedWeight unasked weightSum activeWeight childrenSum ofChild
 owed-within x p =
     sum-within _ _ (x .state .tree .count)
-    (λ i l u. go (isChild (x .state .tree) p i) (has (x .state .active) i) (not (has (x .asked) i)) (weightOf (x .state .tree) i))
+    (λ i l u. go (isChild (x .state .tree) p i) (has (x .state .round .active) i) (not (has (x .asked) i)) (weightOf (x .state .tree) i))
   where
     go : (a b c : Bool) (w : ℕ) → cond a (cond (b && c) w 0) 0 ≤ cond a (cond b w 0) 0
     go true true true w = omega arith
@@ -106,14 +106,14 @@ pub record Takes (x : Published) (accounts : List Account) (asked : ℕ) (quotas
   pub due-is : due ≡ weightOf (x .state .tree) i * share x (parentOf (x .state .tree) i)
   pub has-own : has asked i ≡ true
   pub has-other : (k : ℕ) → (k ≡ i → ⊥) → has asked k ≡ has (x .asked) k
-  pub own : accountOf accounts i ≡ tookQuota (accountOf (x .state .accounts) i) due
+  pub own : accountOf accounts i ≡ tookQuota (accountOf (x .state .round .accounts) i) due
   pub other : (k : ℕ) → (k ≡ i → ⊥)
-      → accountOf accounts k ≡ handedDown (accountOf (x .state .accounts) k) (childWeight (x .state .tree) k i * quotaAt x k)
+      → accountOf accounts k ≡ handedDown (accountOf (x .state .round .accounts) k) (childWeight (x .state .tree) k i * quotaAt x k)
   pub quota-own : quotaAt (next x accounts asked quotas) i
-      ≡ (fundsOf (accountOf (x .state .accounts) i) + due) / weightSum (x .state .tree) (x .state .active) i
+      ≡ (fundsOf (accountOf (x .state .round .accounts) i) + due) / weightSum (x .state .tree) (x .state .round .active) i
   pub quota-other : (k : ℕ) → (k ≡ i → ⊥) → quotaAt (next x accounts asked quotas) k ≡ quotaAt x k
   pub owed : (k : ℕ) → k < 64 → owedSum x k ≡ owedSum (next x accounts asked quotas) k + childWeight (x .state .tree) k i
-  pub same-total : total accounts ≡ total (x .state .accounts)
+  pub same-total : total accounts ≡ total (x .state .round .accounts)
 
 module _ (x : Published) (accounts : List Account) (asked : ℕ) (quotas : List ℕ) (i : ℕ) (t : Takes x accounts asked quotas i) where
   now-asked : unasked (next x accounts asked quotas) i ≡ false
@@ -121,7 +121,7 @@ module _ (x : Published) (accounts : List Account) (asked : ℕ) (quotas : List 
 
   same-unasked : (k : ℕ) → (k ≡ i → ⊥) → unasked (next x accounts asked quotas) k ≡ unasked x k
   unfolding unasked
-  same-unasked k ne = ap (λ (b : Bool). has (x .state .active) k && not b) (t .has-other k ne)
+  same-unasked k ne = ap (λ (b : Bool). has (x .state .round .active) k && not b) (t .has-other k ne)
 
   -- only a parent that has its quota hands down
   pays-none : (k : ℕ) → unasked x k ≡ true → childWeight (x .state .tree) k i ≡ 0
@@ -161,14 +161,15 @@ module _ (x : Published) (accounts : List Account) (asked : ℕ) (quotas : List 
           rw e
           (share-asked x′ tree i (t .number) now-asked
           ∙ t .quota-own
-          ∙ ap (λ (d : ℕ). (fundsOf (accountOf (x .state .accounts) i) + d) / weightSum (x .state .tree) (x .state .active) i) (t .due-is)
+          ∙ ap (λ (d : ℕ). (fundsOf (accountOf (x .state .round .accounts) i) + d) / weightSum (x .state .tree)
+          (x .state .round .active) i) (t .due-is)
           ∙ sym (share-unasked x tree i (t .number) (t .still)))
       go (no ne) false w ih =
           share-asked x′ tree k u (same-unasked k ne ∙ w) ∙ t .quota-other k ne ∙ sym (share-asked x tree k u w)
       go (no ne) true w ih =
           share-unasked x′ tree k u (same-unasked k ne ∙ w) ∙ at (ℕ-discrete k 0) ∙ sym (share-unasked x tree k u w)
         where
-          funds : accountOf accounts k ≡ accountOf (x .state .accounts) k
+          funds : accountOf accounts k ≡ accountOf (x .state .round .accounts) k
           funds = t .other k ne ∙ hand-none _ _ (ap (λ (m : ℕ). m * quotaAt x k) (pays-none k w) ∙ zero-mul (quotaAt x k))
 
           at : Dec (k ≡ 0) → worksOut x′ k (share x′ (parentOf (x .state .tree) k))
@@ -176,11 +177,12 @@ module _ (x : Published) (accounts : List Account) (asked : ℕ) (quotas : List 
           at (yes z) =
               let none : weightOf (x .state .tree) k ≡ 0
               = ap (weightOf (x .state .tree)) z ∙ tree .unset .at 0 (omega arith) .past (root-no-class (x .state .tree)) .weight in
-              ap₂ (λ (f d : ℕ). (f + d) / weightSum (x .state .tree) (x .state .active) k) (ap fundsOf funds)
+              ap₂ (λ (f d : ℕ). (f + d) / weightSum (x .state .tree) (x .state .round .active) k) (ap fundsOf funds)
               (rw (none, zero-mul (share x′ (parentOf (x .state .tree) k)), zero-mul (share x (parentOf (x .state .tree) k))))
           at (no z) =
               let low = parent-below (x .state .tree) k tree (omega arith) u in
-              ap₂ (λ (f q : ℕ). (f + weightOf (x .state .tree) k * q) / weightSum (x .state .tree) (x .state .active) k) (ap fundsOf funds)
+              ap₂ (λ (f q : ℕ). (f + weightOf (x .state .tree) k * q) / weightSum (x .state .tree) (x .state .round .active) k)
+              (ap fundsOf funds)
               (ih (parentOf (x .state .tree) k) (omega arith) (omega arith))
 
   -- so does every account when all have asked
@@ -199,7 +201,7 @@ module _ (x : Published) (accounts : List Account) (asked : ℕ) (quotas : List 
           let none = own-none in
           let owes : owedSum x′ k ≡ owedSum x k = rw e (omega (arith, t .owed i (t .number), none)) in
           let took : askedAccount x′ k ≡ askedAccount x k =
-          rw e (rw (now-asked, t .still) (t .own ∙ ap (tookQuota (accountOf (x .state .accounts) i)) (t .due-is)))
+          rw e (rw (now-asked, t .still) (t .own ∙ ap (tookQuota (accountOf (x .state .round .accounts) i)) (t .due-is)))
           in
           ap₂ handedDown took (gives ∙ ap (λ (m : ℕ). m * share x k) owes)
       go (no ne) false w =
@@ -207,8 +209,8 @@ module _ (x : Published) (accounts : List Account) (asked : ℕ) (quotas : List 
           let q : share x k ≡ quotaAt x k = share-asked x (t .rules) k u w in
           rw (same-unasked k ne ∙ w, w)
           (ap₂ handedDown (t .other k ne) gives
-          ∙ hand-twice (accountOf (x .state .accounts) k) (childWeight (x .state .tree) k i * quotaAt x k) (owedSum x′ k * share x k)
-          ∙ ap (handedDown (accountOf (x .state .accounts) k)) (sums owes q))
+          ∙ hand-twice (accountOf (x .state .round .accounts) k) (childWeight (x .state .tree) k i * quotaAt x k) (owedSum x′ k * share x k)
+          ∙ ap (handedDown (accountOf (x .state .round .accounts) k)) (sums owes q))
         where
           sums : owedSum x k ≡ owedSum x′ k + childWeight (x .state .tree) k i → share x k ≡ quotaAt x k
               → childWeight (x .state .tree) k i * quotaAt x k + owedSum x′ k * share x k ≡ owedSum x k * share x k
@@ -220,7 +222,7 @@ module _ (x : Published) (accounts : List Account) (asked : ℕ) (quotas : List 
           rw (same-unasked k ne ∙ w, w)
           (ap₂ handedDown (ap₂ tookQuota funds (due (ℕ-discrete k 0))) (gives ∙ ap (λ (m : ℕ). m * share x k) owes))
         where
-          funds : accountOf accounts k ≡ accountOf (x .state .accounts) k
+          funds : accountOf accounts k ≡ accountOf (x .state .round .accounts) k
           funds = t .other k ne ∙ hand-none _ _ (ap (λ (m : ℕ). m * quotaAt x k) (pays-none k w) ∙ zero-mul (quotaAt x k))
 
           due : Dec (k ≡ 0) → weightOf (x .state .tree) k * share x′ (parentOf (x .state .tree) k)
@@ -249,7 +251,7 @@ module _ (x : Published) (accounts : List Account) (asked : ℕ) (quotas : List 
       go (yes z) = ap (has asked) z ∙ t .has-own
       go (no ne) = t .has-other k ne ∙ e
 
-  residual-kept : (k : ℕ) → residualOf (x .state .accounts) k ≡ 0 → residualOf accounts k ≡ 0
+  residual-kept : (k : ℕ) → residualOf (x .state .round .accounts) k ≡ 0 → residualOf accounts k ≡ 0
   residual-kept k e = go (ℕ-discrete k i)
     where
       go : Dec (k ≡ i) → residualOf accounts k ≡ 0
@@ -257,7 +259,7 @@ module _ (x : Published) (accounts : List Account) (asked : ℕ) (quotas : List 
       go (no ne) = ap (λ (a : Account). a .residual .0) (t .other k ne) ∙ e
 
   -- no other class gains
-  none-gains : (k : ℕ) → (k ≡ i → ⊥) → balanceOf accounts k ≤ balanceOf (x .state .accounts) k
+  none-gains : (k : ℕ) → (k ≡ i → ⊥) → balanceOf accounts k ≤ balanceOf (x .state .round .accounts) k
   none-gains k ne = omega (arith, ap (λ (a : Account). a .balance .0) (t .other k ne))
 
   module _ (sound : SoundPublished x) where
@@ -276,7 +278,7 @@ module _ (x : Published) (accounts : List Account) (asked : ℕ) (quotas : List 
                     omega (
                       arith,
                       s .zero k u .balance l off,
-                      none-gains k (λ e. not-true-and-false (ap (has (x .state .active)) e ∙ unasked-parts x i (t .still) .0) off),
+                      none-gains k (λ e. not-true-and-false (ap (has (x .state .round .active)) e ∙ unasked-parts x i (t .still) .0) off),
                     );
                 residual = λ l off. residual-kept k (s .zero k u .residual l off);
                 leaf = λ leaf. residual-kept k (s .zero k u .leaf leaf);
@@ -306,8 +308,8 @@ module _ (x : Published) (accounts : List Account) (asked : ℕ) (quotas : List 
 
         go : Dec (k ≡ i) → owedSum x′ k * quotaAt x′ k ≤ balanceOf accounts k
         go (yes z) =
-            let w = weightSum (x .state .tree) (x .state .active) i in
-            let h = fundsOf (accountOf (x .state .accounts) i) + t .due in
+            let w = weightSum (x .state .tree) (x .state .round .active) i in
+            let h = fundsOf (accountOf (x .state .round .accounts) i) + t .due in
             let has : balanceOf accounts i ≡ h = ap (λ (a : Account). a .balance .0) (t .own) in
             let within = mul-le-mul-right (h / w) (owed-within x′ i) in
             rw (z, t .quota-own) (omega (arith, within, mul-comm w (h / w), div-mul-le-self h w, has))
@@ -328,7 +330,8 @@ module _ (x : Published) (accounts : List Account) (asked : ℕ) (quotas : List 
       behind = λ k u. record { asked = λ leaf on below. keeps-asked k (sound .behind k u .asked leaf on below) };
     }
       where
-        up : (k : ℕ) → k < 64 → isClass (x .state .tree) k ≡ true → has (x .state .active) k ≡ true → has asked k ≡ true → Dec (k ≡ i)
+        up : (k : ℕ) → k < 64 → isClass (x .state .tree) k ≡ true → has (x .state .round .active) k ≡ true → has asked k ≡ true
+            → Dec (k ≡ i)
             → has asked (parentOf (x .state .tree) k) ≡ true
         up k u is on e (yes z) =
             keeps-asked (parentOf (x .state .tree) k)

@@ -248,7 +248,7 @@ module _ (x : Published) (rules : PlanRules (x .state .tree)) (wide : WidePublis
 
 module _ (x : Published) (sound : SoundPublished x) (wide : WidePublished x) (covers : Covers (x .state) (nextSize (x .state))) where
   -- no account but the root's has changed
-  others-same : (k : ℕ) → 1 ≤ k → accountOf (resizedAccounts (nextSize (x .state)) (x .state)) k ≡ accountOf (x .state .accounts) k
+  others-same : (k : ℕ) → 1 ≤ k → accountOf (resizedAccounts (nextSize (x .state)) (x .state)) k ≡ accountOf (x .state .round .accounts) k
   others-same k l = resized-other (x .state) (nextSize (x .state)) k l
 
   state-opens : Sound (openedPublished x .state)
@@ -289,7 +289,7 @@ module _ (x : Published) (sound : SoundPublished x) (wide : WidePublished x) (co
 
   -- who has a quota is the root of a surplus round, and it is 0
   pays-open : (k : ℕ) → k < 64 → has (openedPublished x .asked) k ≡ true
-      → owedSum (openedPublished x) k * quotaAt (openedPublished x) k ≤ balanceOf (openedPublished x .state .accounts) k
+      → owedSum (openedPublished x) k * quotaAt (openedPublished x) k ≤ balanceOf (openedPublished x .state .round .accounts) k
   unfolding openedPublished
   pays-open zero u e =
       let none : quotaAt (openedPublished x) 0 ≡ 0 = getD-set-same (x .quotas) 0 0 0 (omega (arith, wide .quotas)) in

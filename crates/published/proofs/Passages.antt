@@ -67,7 +67,7 @@ first-same x i = refl
 
 -- a leaf is found
 module _ (x : Published) (sound : SoundPublished x) (wide : WidePublished x) (found : nextLeaf (settled x) < 64) where
-  v : VisitsWell x (x .state .place) (nextLeaf (settled x)) (visited x)
+  v : VisitsWell x (x .state .round .place) (nextLeaf (settled x)) (visited x)
   v = visited-well x sound wide
 
   abbrev y : Published
@@ -76,8 +76,8 @@ module _ (x : Published) (sound : SoundPublished x) (wide : WidePublished x) (fo
   abbrev i : ℕ
   i = visited x .leaf
 
-  same-place : y .state .place ≡ x .state .place
-  same-place = ap (λ (s : State). s .place) (v .same)
+  same-place : y .state .round .place ≡ x .state .round .place
+  same-place = ap (λ (s : State). s .round .place) (v .same)
 
   pub here : i < 64
   here = omega (arith, v .leaf-is, found)
@@ -95,10 +95,10 @@ module _ (x : Published) (sound : SoundPublished x) (wide : WidePublished x) (fo
       (subst (Sender (settled y)) next-is (next-sender (settled y) (stands-sound y (v .sound) (v .wide)) (omega (arith, next-is, here))))
       (v .found here) (λ k u l h on. v .passed k u (omega (arith, same-place)) h (sym (leaf-like k) ∙ on))
 
-  before : (k : ℕ) → k < 64 → isLeaf (y .state .tree) k ≡ true → has (y .state .active) k ≡ true → k < i → has (y .asked) k ≡ true
-  before k u leaf on h = go (decLt k (y .state .place))
+  before : (k : ℕ) → k < 64 → isLeaf (y .state .tree) k ≡ true → has (y .state .round .active) k ≡ true → k < i → has (y .asked) k ≡ true
+  before k u leaf on h = go (decLt k (y .state .round .place))
     where
-      go : Dec (k < y .state .place) → has (y .asked) k ≡ true
+      go : Dec (k < y .state .round .place) → has (y .asked) k ≡ true
       go (yes l) = v .sound .behind k u .asked leaf on l
       go (no l) = v .passed k u (omega (arith, same-place)) h (sym (leaf-like k) ∙ active-leaf (y .state) k on leaf)
 
@@ -125,7 +125,7 @@ module _ (x : Published) (sound : SoundPublished x) (wide : WidePublished x) (fo
 module _ (x : Published) (sound : SoundPublished x) (wide : WidePublished x) (closed : nextLeaf (settled x) ≡ 64) (waits : Waits
     (settled x))
   where
-    w : VisitsWell x (x .state .place) (nextLeaf (settled x)) (visited x)
+    w : VisitsWell x (x .state .round .place) (nextLeaf (settled x)) (visited x)
     w = visited-well x sound wide
 
     pub equal : visited x .after .state ≡ settled x

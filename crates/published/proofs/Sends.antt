@@ -21,7 +21,7 @@ use Rattle.tree.proofs.Sums.{sum-same}
 use Rattle.state.specs.declared.Account.{Account}
 use Rattle.state.specs.Account.{account, noAccount, accountOf, balanceOf, fundsOf, tookQuota, handedDown, sentFrom, gained}
 use Rattle.tree.specs.Sum.{table}
-use Rattle.state.specs.State.{queueAt, inRound}
+use Rattle.state.specs.State.{queueAt, roundOf, inRound}
 use Rattle.tree.proofs.Tables.{table-at, table-length}
 use Rattle.rules.specs.Active.{activeWeight, weightSum}
 use Rattle.rules.specs.Sending.{Books, firstOf, ready, activeLeaf, turnsOff, paid, booksAfter, sentState}
@@ -44,7 +44,7 @@ use Rattle.published.proofs.Stands.{Stand, turns-stand}
 
 -- where an active class has asked, the root has
 root-has-asked : (n : ℕ) (x : Published) (i : ℕ) → SoundPublished x → i < n → isClass (x .state .tree) i ≡ true
-    → has (x .state .active) i ≡ true → has (x .asked) i ≡ true → has (x .asked) 0 ≡ true
+    → has (x .state .round .active) i ≡ true → has (x .asked) i ≡ true → has (x .asked) 0 ≡ true
 root-has-asked zero x i sound a is on e = absurd (omega arith)
 root-has-asked (suc n) x i sound a is on e =
     go (ℕ-discrete (parentOf (x .state .tree) i) 0)
@@ -67,25 +67,25 @@ root-has-asked (suc n) x i sound a is on e =
         ih (class-in (x .state .tree) (parentOf (x .state .tree) i) (omega arith) (omega (arith, low, r .1))) (omega (arith, low, a))
 
 -- a class that is not active owes nothing
-idle-owes : (x : Published) → SoundPublished x → (k : ℕ) → has (x .state .active) k ≡ false → owedSum x k ≡ 0
+idle-owes : (x : Published) → SoundPublished x → (k : ℕ) → has (x .state .round .active) k ≡ false → owedSum x k ≡ 0
 idle-owes x sound k off =
     omega (
       arith,
       owed-within x k,
-      sum-without (x .state .tree) (x .state .active) k
-          (λ j is e on. not-true-and-false (ap (has (x .state .active)) (sym e) ∙ active-up (x .state) (sound .state) j is on) off),
+      sum-without (x .state .tree) (x .state .round .active) k
+          (λ j is e on. not-true-and-false (ap (has (x .state .round .active)) (sym e) ∙ active-up (x .state) (sound .state) j is on) off),
     )
 
 -- who has not yet to ask can pay what it owes
 owes-within : (x : Published) → SoundPublished x → (k : ℕ) → k < 64 → unasked x k ≡ false
-    → owedSum x k * share x k ≤ balanceOf (x .state .accounts) k
-owes-within x sound k u e = go (has (x .asked) k) refl (has (x .state .active) k) refl
+    → owedSum x k * share x k ≤ balanceOf (x .state .round .accounts) k
+owes-within x sound k u e = go (has (x .asked) k) refl (has (x .state .round .active) k) refl
   where
     q : share x k ≡ quotaAt x k
     q = share-asked x (sound .state .fits .tree) k u e
 
-    go : (a : Bool) → has (x .asked) k ≡ a → (b : Bool) → has (x .state .active) k ≡ b
-        → owedSum x k * share x k ≤ balanceOf (x .state .accounts) k
+    go : (a : Bool) → has (x .asked) k ≡ a → (b : Bool) → has (x .state .round .active) k ≡ b
+        → owedSum x k * share x k ≤ balanceOf (x .state .round .accounts) k
     go true w b on = rw q (sound .pay k u .pays w)
     go false w false off = omega (arith, ap (λ (m : ℕ). m * share x k) (idle-owes x sound k off), zero-mul (share x k))
     go false w true on = absurd (not-true-and-false (still-to-ask x k on w) e)
@@ -101,13 +101,13 @@ module _ (x : Published) (i : ℕ) (sound : SoundPublished x) (wide : WidePublis
 
   -- the books when the packet has been paid, here and in the state that x stands for
   abbrev b : Books
-  b = record { active = x .state .active; accounts = paid (x .state) i }
+  b = record { active = x .state .round .active; accounts = paid (x .state) i }
 
   abbrev b′ : Books
-  b′ = record { active = x .state .active; accounts = paid (settled x) i }
+  b′ = record { active = x .state .round .active; accounts = paid (settled x) i }
 
   settled-asked : (k : ℕ) → k < 64 → unasked x k ≡ false
-      → accountOf (settled x .accounts) k ≡ handedDown (accountOf (x .state .accounts) k) (owedSum x k * share x k)
+      → accountOf (settled x .round .accounts) k ≡ handedDown (accountOf (x .state .round .accounts) k) (owedSum x k * share x k)
   unfolding settledAccount
   settled-asked k u e = settled-at x k u ∙ ap (λ (a : Account). handedDown a (owedSum x k * share x k)) (asked-own x k e)
 
@@ -121,7 +121,7 @@ module _ (x : Published) (i : ℕ) (sound : SoundPublished x) (wide : WidePublis
       rw z
       (paid-leaf (settled x) i (stands-wide x wide) (is .low) (is .high)
       ∙ ap₂ sentFrom (settled-asked i (is .high) (rw z at e)) same-cost
-      ∙ swap (accountOf (x .state .accounts) i) (costOf (firstOf (x .state) i .length)) (owedSum x i * share x i)
+      ∙ swap (accountOf (x .state .round .accounts) i) (costOf (firstOf (x .state) i .length)) (owedSum x i * share x i)
       ∙ ap (λ (a : Account). handedDown a (owedSum x i * share x i)) (sym (paid-leaf (x .state) i (wide .state) (is .low) (is .high))))
     where
       swap : (a : Account) (c d : ℕ) → sentFrom (handedDown a d) c ≡ handedDown (sentFrom a c) d
@@ -132,7 +132,7 @@ module _ (x : Published) (i : ℕ) (sound : SoundPublished x) (wide : WidePublis
       rw z
       (paid-root (settled x) i (stands-wide x wide) (is .low)
       ∙ ap₂ gained (settled-asked 0 (omega arith) (rw z at e)) same-cost
-      ∙ swap (accountOf (x .state .accounts) 0) (costOf (firstOf (x .state) i .length)) (owedSum x 0 * share x 0)
+      ∙ swap (accountOf (x .state .round .accounts) 0) (costOf (firstOf (x .state) i .length)) (owedSum x 0 * share x 0)
       (owes-within x sound 0 (omega arith) (rw z at e))
       ∙ ap (λ (a : Account). handedDown a (owedSum x 0 * share x 0)) (sym (paid-root (x .state) i (wide .state) (is .low))))
     where
@@ -194,11 +194,12 @@ module _ (x : Published) (i : ℕ) (sound : SoundPublished x) (wide : WidePublis
 
   same-unasked : (k : ℕ) → unasked (sentPublished x i) k ≡ unasked x k
   unfolding unasked sentPublished sentState
-  same-unasked k = go (has (x .state .active) k) refl (has (x .asked) k) refl
+  same-unasked k = go (has (x .state .round .active) k) refl (has (x .asked) k) refl
     where
-      go : (a : Bool) → has (x .state .active) k ≡ a → (c : Bool) → has (x .asked) k ≡ c
-          → (has (booksAfter (x .state) i .active) k && not (has (x .asked) k)) ≡ (has (x .state .active) k && not (has (x .asked) k))
-      go a on true e = rw e (none (has (booksAfter (x .state) i .active) k) (has (x .state .active) k))
+      go : (a : Bool) → has (x .state .round .active) k ≡ a → (c : Bool) → has (x .asked) k ≡ c
+          → (has (booksAfter (x .state) i .active) k && not (has (x .asked) k))
+          ≡ (has (x .state .round .active) k && not (has (x .asked) k))
+      go a on true e = rw e (none (has (booksAfter (x .state) i .active) k) (has (x .state .round .active) k))
         where
           none : (a d : Bool) → (a && false) ≡ (d && false)
           none true true = refl
@@ -220,16 +221,16 @@ module _ (x : Published) (i : ℕ) (sound : SoundPublished x) (wide : WidePublis
 
   -- the active children of a class that has yet to ask are those it had
   same-sum : (k : ℕ) → unasked x k ≡ true
-      → weightSum (x .state .tree) (booksAfter (x .state) i .active) k ≡ weightSum (x .state .tree) (x .state .active) k
+      → weightSum (x .state .tree) (booksAfter (x .state) i .active) k ≡ weightSum (x .state .tree) (x .state .round .active) k
   unfolding weightSum activeWeight childrenSum ofChild isChild
   same-sum k w =
       sum-same _ _ (x .state .tree .count)
-      (λ j l u. go j (class-in (x .state .tree) j l u) (eqb (parentOf (x .state .tree) j) k) refl (has (x .state .active) j) refl)
+      (λ j l u. go j (class-in (x .state .tree) j l u) (eqb (parentOf (x .state .tree) j) k) refl (has (x .state .round .active) j) refl)
     where
       go : (j : ℕ) → isClass (x .state .tree) j ≡ true → (c : Bool) → eqb (parentOf (x .state .tree) j) k ≡ c
-          → (d : Bool) → has (x .state .active) j ≡ d
+          → (d : Bool) → has (x .state .round .active) j ≡ d
           → cond c (cond (has (booksAfter (x .state) i .active) j) (weightOf (x .state .tree) j) 0) 0
-          ≡ cond c (cond (has (x .state .active) j) (weightOf (x .state .tree) j) 0) 0
+          ≡ cond c (cond (has (x .state .round .active) j) (weightOf (x .state .tree) j) 0) 0
       go j cl false e d on = refl
       go j cl true e true on = rw (on, books-stand .stays j (still-to-ask x j on (not-asked (has (x .asked) j) refl))) refl
         where
@@ -287,7 +288,7 @@ module _ (x : Published) (i : ℕ) (sound : SoundPublished x) (wide : WidePublis
           low : parentOf (x .state .tree) k < k
           low = parent-below (x .state .tree) k rules (omega (arith, not-root k w)) u
 
-  after-is : (k : ℕ) → accountOf (sentPublished x i .state .accounts) k ≡ accountOf (booksAfter (x .state) i .accounts) k
+  after-is : (k : ℕ) → accountOf (sentPublished x i .state .round .accounts) k ≡ accountOf (booksAfter (x .state) i .accounts) k
   unfolding sentPublished sentState
   after-is k = refl
 
@@ -330,7 +331,8 @@ module _ (x : Published) (i : ℕ) (sound : SoundPublished x) (wide : WidePublis
   pub sends-settled : settled (sentPublished x i) ≡ sentState (settled x) i
   unfolding settled sentPublished sentState
   sends-settled =
-      ap₂ (λ (active : ℕ) (accounts : List Account). inRound (sentState (x .state) i) (x .state .size) active i accounts)
+      ap₂ (λ (active : ℕ) (accounts : List Account). inRound (sentState (x .state) i)
+      (roundOf (x .state .round .size .0) active i accounts))
       (sym (books-stand .active)) all-kept
 
   -- ---- and it is sound
@@ -347,7 +349,7 @@ module _ (x : Published) (i : ℕ) (sound : SoundPublished x) (wide : WidePublis
       let pays = books-stand .pays k u w in
       rw (same-owed k, ← q) pays
 
-  pub sends-sound : ((k : ℕ) → k < 64 → isLeaf (x .state .tree) k ≡ true → has (x .state .active) k ≡ true → k < i
+  pub sends-sound : ((k : ℕ) → k < 64 → isLeaf (x .state .tree) k ≡ true → has (x .state .round .active) k ≡ true → k < i
       → has (x .asked) k ≡ true) → SoundPublished (sentPublished x i)
   unfolding sentPublished sentState
   sends-sound before = record {
@@ -363,19 +365,19 @@ module _ (x : Published) (i : ℕ) (sound : SoundPublished x) (wide : WidePublis
 ready-same : (x : Published) (k : ℕ) → PlanRules (x .state .tree) → k < 64 → (activeLeaf (x .state) k ≡ true → has (x .asked) k ≡ true)
     → ready (x .state) k ≡ ready (settled x) k
 unfolding activeLeaf settled
-ready-same x k rules u asked = go (has (x .state .active) k && isLeaf (x .state .tree) k) refl
+ready-same x k rules u asked = go (has (x .state .round .active) k && isLeaf (x .state .tree) k) refl
   where
-    go : (c : Bool) → (has (x .state .active) k && isLeaf (x .state .tree) k) ≡ c → ready (x .state) k ≡ ready (settled x) k
+    go : (c : Bool) → (has (x .state .round .active) k && isLeaf (x .state .tree) k) ≡ c → ready (x .state) k ≡ ready (settled x) k
     go false e = ready-unset (x .state) k e ∙ sym (ready-unset (settled x) k e)
     go true e =
-        let leaf = both-true (has (x .state .active) k) (isLeaf (x .state .tree) k) e .1 in
+        let leaf = both-true (has (x .state .round .active) k) (isLeaf (x .state .tree) k) e .1 in
         ready-is (x .state) k e
         ∙ ap (λ (a : Account). leb (costOf (firstOf (x .state) k .length)) (a .balance .0))
         (sym (settled-own x k u (asked-not x k (asked e)) (leaf-owes x k rules leaf)))
         ∙ sym (ready-is (settled x) k e)
 
 module _ (x : Published) (i : ℕ) (sound : SoundPublished x) (is : Sender (settled x) i) (asked : has (x .asked) i ≡ true)
-    (passed : (k : ℕ) → k < 64 → x .state .place ≤ k → k < i → activeLeaf (x .state) k ≡ true → has (x .asked) k ≡ true) where
+    (passed : (k : ℕ) → k < 64 → x .state .round .place ≤ k → k < i → activeLeaf (x .state) k ≡ true → has (x .asked) k ≡ true) where
   pub sender-here : Sender (x .state) i
   unfolding settled
   sender-here =

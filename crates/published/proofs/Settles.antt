@@ -22,7 +22,7 @@ use Rattle.published.proofs.Closed.{AllAsked, all-by-leaves, settled-al
 -- x after every active leaf below n has asked
 record Settling (x : Published) (n : ℕ) : Type 0 where
   after : Published
-  same : after .state ≡ withAccounts (x .state) (after .state .accounts)
+  same : after .state ≡ withAccounts (x .state) (after .state .round .accounts)
   stands : settled after ≡ settled x
   sound : SoundPublished after
   wide : WidePublished after
@@ -54,15 +54,15 @@ settling x sound wide (suc n) h = go (activeLeaf (x .state) n) refl (settling x 
         at k u on (no z) = s .all k (omega arith) on
     go true e s = record {
       after = ask (s .after) n;
-      same = a .same ∙ ap (λ (r : State). withAccounts r (ask (s .after) n .state .accounts)) (s .same);
+      same = a .same ∙ ap (λ (r : State). withAccounts r (ask (s .after) n .state .round .accounts)) (s .same);
       stands = a .stands ∙ s .stands;
       sound = a .sound;
       wide = a .wide;
       all = λ k u on. at k u on (ℕ-discrete k n);
     }
       where
-        on′ : has (s .after .state .active) n ≡ true
-        on′ = ap (λ (r : State). has (r .active) n) (s .same) ∙ leaf-parts (x .state) n e .0
+        on′ : has (s .after .state .round .active) n ≡ true
+        on′ = ap (λ (r : State). has (r .round .active) n) (s .same) ∙ leaf-parts (x .state) n e .0
 
         a : Asked (s .after) (ask (s .after) n) n
         a = ask-well (s .after) n (s .sound) (s .wide) (omega arith) (leaf-last (s .after) n (s .sound) on′) on′
@@ -78,7 +78,7 @@ stands-sound x sound wide =
     all-by-leaves (s .after) (s .sound)
     (λ k u leaf on.
     s .all k u
-    (active-leaf (x .state) k (sym (ap (λ (r : State). has (r .active) k) (s .same)) ∙ on)
+    (active-leaf (x .state) k (sym (ap (λ (r : State). has (r .round .active) k) (s .same)) ∙ on)
     (sym (ap (λ (r : State). isLeaf (r .tree) k) (s .same)) ∙ leaf)))
     in
     subst Sound (sym (settled-all (s .after) (s .sound) (s .wide) all) ∙ s .stands) (s .sound .state)

@@ -17,7 +17,8 @@ use Rattle.published.specs.Settled.{unasked, shareIn, share}
 -- what class i works out where its parent's quota is q
 abbrev pub worksOut : Published → ℕ → ℕ → ℕ
 worksOut x i q =
-    (fundsOf (accountOf (x .state .accounts) i) + weightOf (x .state .tree) i * q) / weightSum (x .state .tree) (x .state .active) i
+    (fundsOf (accountOf (x .state .round .accounts) i) + weightOf (x .state .tree) i * q) / weightSum (x .state .tree)
+    (x .state .round .active) i
 
 module _ (x : Published) (rules : PlanRules (x .state .tree)) where
   share-suc : (n i : ℕ) → shareIn (suc n) x i ≡ cond (unasked x i) (worksOut x i (shareIn n x (parentOf (x .state .tree) i))) (quotaAt x i)

@@ -73,8 +73,8 @@ shownIn : ℕ → List State → List (List ℕ)
 shownIn many [] = []
 shownIn many (s ∷ ss) =
     (number (nextKind s) ∷ [])
-    ∷ table (balanceOf (s .accounts)) many
-    ∷ table (residualOf (s .accounts)) many
+    ∷ table (balanceOf (s .round .accounts)) many
+    ∷ table (residualOf (s .round .accounts)) many
     ∷ shownIn many ss
 
 -- of the send that follows n others: class, length, tag and rounds; the place, the active set, who has asked and the size in force after
@@ -83,9 +83,9 @@ seenOf : ℕ → ℕ → Published → ℕ → List (List ℕ)
 seenOf many inner x n =
     let p = passageOf (after x n) in
     (p .class ∷ p .packet .length ∷ p .packet .tag ∷ length (p .closings) ∷ [])
-    ∷ (p .after .state .place ∷ p .after .state .active ∷ p .after .asked ∷ p .after .state .size ∷ [])
-    ∷ table (balanceOf (p .after .state .accounts)) many
-    ∷ table (residualOf (p .after .state .accounts)) many
+    ∷ (p .after .state .round .place ∷ p .after .state .round .active ∷ p .after .asked ∷ p .after .state .round .size .0 ∷ [])
+    ∷ table (balanceOf (p .after .state .round .accounts)) many
+    ∷ table (residualOf (p .after .state .round .accounts)) many
     ∷ table (quotaAt (p .after)) inner
     ∷ shownIn many (p .closings)
 

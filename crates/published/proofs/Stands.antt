@@ -36,11 +36,11 @@ pub record Stand (x : Published) (b b′ : Books) : Type 0 where
   pub many′ : length (b′ .accounts) ≡ 64
   pub asked : (k : ℕ) → k < 64 → unasked x k ≡ false
       → accountOf (b′ .accounts) k ≡ handedDown (accountOf (b .accounts) k) (owedSum x k * share x k)
-  pub still : (k : ℕ) → k < 64 → unasked x k ≡ true → accountOf (b .accounts) k ≡ accountOf (x .state .accounts) k
+  pub still : (k : ℕ) → k < 64 → unasked x k ≡ true → accountOf (b .accounts) k ≡ accountOf (x .state .round .accounts) k
   pub still′ : (k : ℕ) → k < 64 → unasked x k ≡ true → accountOf (b′ .accounts) k ≡ settledAccount x k
   pub pays : (k : ℕ) → k < 64 → unasked x k ≡ false → owedSum x k * share x k ≤ balanceOf (b .accounts) k
   pub stays : (k : ℕ) → unasked x k ≡ true → has (b .active) k ≡ true
-  pub shrinks : (k : ℕ) → has (b .active) k ≡ true → has (x .state .active) k ≡ true
+  pub shrinks : (k : ℕ) → has (b .active) k ≡ true → has (x .state .round .active) k ≡ true
 
 -- ---- one class gives up
 
@@ -77,7 +77,7 @@ given-active t i b b′ e = ap (λ (a : ℕ). without a i) e
 -- class i, active and asked, has no child that has yet to ask
 pub record Leaving (x : Published) (i : ℕ) : Type 0 where
   pub class : isClass (x .state .tree) i ≡ true
-  pub on : has (x .state .active) i ≡ true
+  pub on : has (x .state .round .active) i ≡ true
   pub asked : has (x .asked) i ≡ true
   pub free : owedSum x i ≡ 0
 
@@ -155,10 +155,10 @@ module _ (x : Published) (sound : SoundPublished x) where
     not-up : (k : ℕ) → unasked x k ≡ true → k ≡ parentOf (x .state .tree) i → ⊥
     not-up k e z = not-true-and-false (ap (unasked x) (sym z) ∙ e) up-off
 
-    shrinks-off : (k : ℕ) → has (without (b .active) i) k ≡ true → has (x .state .active) k ≡ true
+    shrinks-off : (k : ℕ) → has (without (b .active) i) k ≡ true → has (x .state .round .active) k ≡ true
     shrinks-off k e = go (ℕ-discrete k i)
       where
-        go : Dec (k ≡ i) → has (x .state .active) k ≡ true
+        go : Dec (k ≡ i) → has (x .state .round .active) k ≡ true
         go (yes z) = absurd (not-true-and-false e (ap (has (without (b .active) i)) z ∙ has-without-same (b .active) i))
         go (no ne) = s .shrinks k (sym (has-without-other (b .active) i k ne) ∙ e)
 
@@ -215,7 +215,7 @@ module _ (x : Published) (sound : SoundPublished x) where
       not-root : (k : ℕ) → unasked x k ≡ true → k ≡ 0 → ⊥
       not-root k w z = not-true-and-false (ap (unasked x) (sym z) ∙ w) (asked-not x 0 e)
 
-      shrink : (k : ℕ) → has (without (b .active) 0) k ≡ true → Dec (k ≡ 0) → has (x .state .active) k ≡ true
+      shrink : (k : ℕ) → has (without (b .active) 0) k ≡ true → Dec (k ≡ 0) → has (x .state .round .active) k ≡ true
       shrink k w (yes z) = absurd (not-true-and-false w (ap (has (without (b .active) 0)) z ∙ has-without-same (b .active) 0))
       shrink k w (no ne) = s .shrinks k (sym (has-without-other (b .active) 0 k ne) ∙ w)
 

@@ -59,14 +59,14 @@ module _ (x : Published) (i : ℕ) (sound : SoundPublished x) (wide : WidePublis
   due = weightOf (x .state .tree) i * quotaAt x p
 
   abbrev less : List Account
-  less = set (x .state .accounts) p (handedDown (accountOf (x .state .accounts) p) due)
+  less = set (x .state .round .accounts) p (handedDown (accountOf (x .state .round .accounts) p) due)
 
   abbrev accounts′ : List Account
   accounts′ = set less i (tookQuota (accountOf less i) due)
 
   abbrev quotas′ : List ℕ
   quotas′ =
-      set (x .quotas) i (tookQuota (accountOf less i) due .balance .0 / weightSum (x .state .tree) (x .state .active) i)
+      set (x .quotas) i (tookQuota (accountOf less i) due .balance .0 / weightSum (x .state .tree) (x .state .round .active) i)
 
   pub from-parent-is : takesFromParent x i ≡ next x accounts′ (with (x .asked) i) quotas′
   unfolding takesFromParent takes hands
@@ -78,11 +78,11 @@ module _ (x : Published) (i : ℕ) (sound : SoundPublished x) (wide : WidePublis
   number : i < 64
   number = omega (arith, class-range (x .state .tree) i is .1, few-classes (x .state .tree) rules)
 
-  own-before : accountOf less i ≡ accountOf (x .state .accounts) i
-  own-before = getD-set-other (x .state .accounts) p i _ noAccount (λ e. omega (arith, lower))
+  own-before : accountOf less i ≡ accountOf (x .state .round .accounts) i
+  own-before = getD-set-other (x .state .round .accounts) p i _ noAccount (λ e. omega (arith, lower))
 
   less-long : length less ≡ 64
-  less-long = length-set (x .state .accounts) p _ ∙ wide .state .accounts
+  less-long = length-set (x .state .round .accounts) p _ ∙ wide .state .accounts
 
   -- its parent owes it
   owed-less : (k : ℕ) → owedSum x k ≡ owedSum (next x accounts′ (with (x .asked) i) quotas′) k + childWeight (x .state .tree) k i
@@ -97,7 +97,7 @@ module _ (x : Published) (i : ℕ) (sound : SoundPublished x) (wide : WidePublis
       in
       omega (arith, change, owed-still x k i still, owed-asked x′ k i (asked-not x′ i (has-with-same (x .asked) i)))
 
-  pub pays : due ≤ balanceOf (x .state .accounts) p
+  pub pays : due ≤ balanceOf (x .state .round .accounts) p
   pays =
       let own = child-own (x .state .tree) (weightOf (x .state .tree)) i in
       let within : weightOf (x .state .tree) i ≤ owedSum x p = omega (arith, owed-less p, own) in
@@ -118,11 +118,11 @@ module _ (x : Published) (i : ℕ) (sound : SoundPublished x) (wide : WidePublis
     other = λ k ne. getD-set-other less i k _ noAccount ne ∙ other k (ℕ-discrete k p);
     quota-own =
         getD-set-same (x .quotas) i _ 0 (omega (arith, wide .quotas, number))
-        ∙ ap (λ (a : Account). (fundsOf a + due) / weightSum (x .state .tree) (x .state .active) i) own-before;
+        ∙ ap (λ (a : Account). (fundsOf a + due) / weightSum (x .state .tree) (x .state .round .active) i) own-before;
     quota-other = λ k ne. getD-set-other (x .quotas) i k _ 0 ne;
     owed = λ k u. owed-less k;
     same-total =
-        let one = total-set (x .state .accounts) p (handedDown (accountOf (x .state .accounts) p) due) (wide .state .accounts)
+        let one = total-set (x .state .round .accounts) p (handedDown (accountOf (x .state .round .accounts) p) due) (wide .state .accounts)
         (omega (arith, lower, number)) in
         let two = total-set less i (tookQuota (accountOf less i) due) less-long number in
         let own = ap fundsOf own-before in
@@ -130,15 +130,16 @@ module _ (x : Published) (i : ℕ) (sound : SoundPublished x) (wide : WidePublis
   }
     where
       other : (k : ℕ) → Dec (k ≡ p)
-          → accountOf less k ≡ handedDown (accountOf (x .state .accounts) k) (childWeight (x .state .tree) k i * quotaAt x k)
+          → accountOf less k ≡ handedDown (accountOf (x .state .round .accounts) k) (childWeight (x .state .tree) k i * quotaAt x k)
       other k (yes e) =
           rw e
-          (getD-set-same (x .state .accounts) p _ noAccount (omega (arith, wide .state .accounts, lower, number))
-          ∙ ap (λ (w : ℕ). handedDown (accountOf (x .state .accounts) p) (w * quotaAt x p)) (sym (child-own (x .state .tree) (weightOf
+          (getD-set-same (x .state .round .accounts) p _ noAccount (omega (arith, wide .state .accounts, lower, number))
+          ∙ ap (λ (w : ℕ). handedDown (accountOf (x .state .round .accounts) p) (w * quotaAt x p))
+          (sym (child-own (x .state .tree) (weightOf
           (x .state .tree)) i)))
       other k (no ne) =
-          getD-set-other (x .state .accounts) p k _ noAccount ne
-          ∙ sym (hand-none (accountOf (x .state .accounts) k) (childWeight (x .state .tree) k i * quotaAt x k)
+          getD-set-other (x .state .round .accounts) p k _ noAccount ne
+          ∙ sym (hand-none (accountOf (x .state .round .accounts) k) (childWeight (x .state .tree) k i * quotaAt x k)
           (ap (λ (w : ℕ). w * quotaAt x k) (child-other (x .state .tree) (weightOf (x .state .tree)) i k (λ e. ne (sym e))) ∙ zero-mul
           (quotaAt x k)))
 
@@ -155,10 +156,11 @@ module _ (x : Published) (sound : SoundPublished x) (wide : WidePublished x) (st
   rules₀ = sound .state .fits .tree
 
   abbrev accounts₀ : List Account
-  accounts₀ = set (x .state .accounts) 0 (tookQuota (accountOf (x .state .accounts) 0) 0)
+  accounts₀ = set (x .state .round .accounts) 0 (tookQuota (accountOf (x .state .round .accounts) 0) 0)
 
   abbrev quotas₀ : List ℕ
-  quotas₀ = set (x .quotas) 0 (tookQuota (accountOf (x .state .accounts) 0) 0 .balance .0 / weightSum (x .state .tree) (x .state .active) 0)
+  quotas₀ = set (x .quotas) 0 (tookQuota (accountOf (x .state .round .accounts) 0) 0 .balance .0 / weightSum (x .state .tree)
+      (x .state .round .active) 0)
 
   pub root-takes-is : takes x 0 0 ≡ next x accounts₀ (with (x .asked) 0) quotas₀
   unfolding takes
@@ -181,10 +183,10 @@ module _ (x : Published) (sound : SoundPublished x) (wide : WidePublished x) (st
     due-is = sym (ap (λ (w : ℕ). w * share x (parentOf (x .state .tree) 0)) no-weight ∙ zero-mul (share x (parentOf (x .state .tree) 0)));
     has-own = has-with-same (x .asked) 0;
     has-other = has-with-other (x .asked) 0;
-    own = getD-set-same (x .state .accounts) 0 _ noAccount (omega (arith, wide .state .accounts));
+    own = getD-set-same (x .state .round .accounts) 0 _ noAccount (omega (arith, wide .state .accounts));
     other = λ k ne.
-        getD-set-other (x .state .accounts) 0 k _ noAccount ne
-        ∙ sym (hand-none (accountOf (x .state .accounts) k) (childWeight (x .state .tree) k 0 * quotaAt x k)
+        getD-set-other (x .state .round .accounts) 0 k _ noAccount ne
+        ∙ sym (hand-none (accountOf (x .state .round .accounts) k) (childWeight (x .state .tree) k 0 * quotaAt x k)
         (ap (λ (w : ℕ). w * quotaAt x k) (no-child k) ∙ zero-mul (quotaAt x k)));
     quota-own = getD-set-same (x .quotas) 0 _ 0 (omega (arith, wide .quotas));
     quota-other = λ k ne. getD-set-other (x .quotas) 0 k _ 0 ne;
@@ -195,12 +197,13 @@ module _ (x : Published) (sound : SoundPublished x) (wide : WidePublished x) (st
         in
         omega (arith, same, no-child k);
     same-total =
-        let one = total-set (x .state .accounts) 0 (tookQuota (accountOf (x .state .accounts) 0) 0) (wide .state .accounts) (omega arith) in
+        let one = total-set (x .state .round .accounts) 0 (tookQuota (accountOf (x .state .round .accounts) 0) 0) (wide .state .accounts)
+        (omega arith) in
         omega (arith, one);
   }
 
   pub root-takes-wide : WidePublished (next x accounts₀ (with (x .asked) 0) quotas₀)
   root-takes-wide = record {
-    state = record { accounts = length-set (x .state .accounts) 0 _ ∙ wide .state .accounts; queues = wide .state .queues };
+    state = record { accounts = length-set (x .state .round .accounts) 0 _ ∙ wide .state .accounts; queues = wide .state .queues };
     quotas = length-set (x .quotas) 0 _ ∙ wide .quotas;
   }

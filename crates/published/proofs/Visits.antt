@@ -30,22 +30,23 @@ use Rattle.published.proofs.OneTake.{hand-none, asked-not, owed-within}
 use Rattle.published.proofs.Asks.{Asked, ask-well}
 
 -- the account of class i in the state that x stands for
-pub settled-at : (x : Published) (i : ℕ) → i < 64 → accountOf (settled x .accounts) i ≡ settledAccount x i
+pub settled-at : (x : Published) (i : ℕ) → i < 64 → accountOf (settled x .round .accounts) i ≡ settledAccount x i
 unfolding settled
 settled-at x i u = table-at (settledAccount x) noAccount 64 i u
 
-pub asked-own : (x : Published) (i : ℕ) → unasked x i ≡ false → askedAccount x i ≡ accountOf (x .state .accounts) i
+pub asked-own : (x : Published) (i : ℕ) → unasked x i ≡ false → askedAccount x i ≡ accountOf (x .state .round .accounts) i
 unfolding askedAccount
 asked-own x i e = rw e
 
 -- a class that owes nothing and has not yet to ask has its account
 pub settled-own : (x : Published) (i : ℕ) → i < 64 → unasked x i ≡ false → owedSum x i ≡ 0
-    → accountOf (settled x .accounts) i ≡ accountOf (x .state .accounts) i
+    → accountOf (settled x .round .accounts) i ≡ accountOf (x .state .round .accounts) i
 unfolding settledAccount
 settled-own x i u e none =
     settled-at x i u
     ∙ ap (λ (a : Account). handedDown a (owedSum x i * share x i)) (asked-own x i e)
-    ∙ hand-none (accountOf (x .state .accounts) i) (owedSum x i * share x i) (ap (λ (m : ℕ). m * share x i) none ∙ zero-mul (share x i))
+    ∙ hand-none (accountOf (x .state .round .accounts) i) (owedSum x i * share x i)
+    (ap (λ (m : ℕ). m * share x i) none ∙ zero-mul (share x i))
 
 -- a leaf owes nothing
 pub leaf-owes : (x : Published) (i : ℕ) → PlanRules (x .state .tree) → isLeaf (x .state .tree) i ≡ true → owedSum x i ≡ 0
@@ -53,7 +54,7 @@ leaf-owes x i rules leaf =
     omega (
       arith,
       owed-within x i,
-      sum-without (x .state .tree) (x .state .active) i (λ k is e on. leaf-childless (x .state .tree) i k rules leaf is e),
+      sum-without (x .state .tree) (x .state .round .active) i (λ k is e on. leaf-childless (x .state .tree) i k rules leaf is e),
     )
 
 -- so a leaf that has asked sends where it does in the state that x stands for
@@ -67,7 +68,7 @@ covers-same x i rules u leaf e =
 -- what the visits from a place on find: the leaf w, and that every active leaf on the way has asked
 pub record VisitsWell (x : Published) (place w : ℕ) (v : Visited) : Type 0 where
   pub leaf-is : v .leaf ≡ w
-  pub same : v .after .state ≡ withAccounts (x .state) (v .after .state .accounts)
+  pub same : v .after .state ≡ withAccounts (x .state) (v .after .state .round .accounts)
   pub stands : settled (v .after) ≡ settled x
   pub sound : SoundPublished (v .after)
   pub wide : WidePublished (v .after)
@@ -93,11 +94,11 @@ none-left x place sound wide none = record {
 }
 
 -- an active leaf is a class number
-pub leaf-parts : (s : State) (i : ℕ) → activeLeaf s i ≡ true → (has (s .active) i ≡ true) × (isLeaf (s .tree) i ≡ true)
+pub leaf-parts : (s : State) (i : ℕ) → activeLeaf s i ≡ true → (has (s .round .active) i ≡ true) × (isLeaf (s .tree) i ≡ true)
 unfolding activeLeaf
-leaf-parts s i e = both-true (has (s .active) i) (isLeaf (s .tree) i) e
+leaf-parts s i e = both-true (has (s .round .active) i) (isLeaf (s .tree) i) e
 
-pub leaf-last : (x : Published) (i : ℕ) → SoundPublished x → has (x .state .active) i ≡ true → i ≤ x .state .tree .count
+pub leaf-last : (x : Published) (i : ℕ) → SoundPublished x → has (x .state .round .active) i ≡ true → i ≤ x .state .tree .count
 leaf-last x i sound on = go (decLt (x .state .tree .count) i)
   where
     go : Dec (x .state .tree .count < i) → i ≤ x .state .tree .count
@@ -119,7 +120,7 @@ eager-visit n x place = refl
 -- one of the second
 module _ (n : ℕ) (x : Published) (place i : ℕ) (sound : SoundPublished x) (wide : WidePublished x) (u : i < 64) (l : place ≤ i)
     (here : activeLeaf (x .state) i ≡ true) (before : (k : ℕ) → place ≤ k → k < i → activeLeaf (x .state) k ≡ false) where
-  parts : (has (x .state .active) i ≡ true) × (isLeaf (x .state .tree) i ≡ true)
+  parts : (has (x .state .round .active) i ≡ true) × (isLeaf (x .state .tree) i ≡ true)
   parts = leaf-parts (x .state) i here
 
   asked : Asked x (ask x i) i
@@ -133,7 +134,7 @@ module _ (n : ℕ) (x : Published) (place i : ℕ) (sound : SoundPublished x) (w
 
   leaf-like : (k : ℕ) → activeLeaf (ask x i .state) k ≡ activeLeaf (x .state) k
   unfolding activeLeaf
-  leaf-like k = ap (λ (s : State). has (s .active) k && isLeaf (s .tree) k) (asked .same)
+  leaf-like k = ap (λ (s : State). has (s .round .active) k && isLeaf (s .tree) k) (asked .same)
 
   one-visit : (c : Bool) → VisitsWell (ask x i) (i + 1) (visits n (settled (ask x i)) (i + 1)) (visitsFrom n (ask x i) (i + 1))
       → VisitsWell x place (elim c [ true ↦ i | false ↦ visits n (settled x) (i + 1) ])
@@ -159,9 +160,9 @@ module _ (n : ℕ) (x : Published) (place i : ℕ) (sound : SoundPublished x) (w
     found = later .found;
   }
     where
-      again : withAccounts (ask x i .state) (visitsFrom n (ask x i) (i + 1) .after .state .accounts)
-          ≡ withAccounts (x .state) (visitsFrom n (ask x i) (i + 1) .after .state .accounts)
-      again = ap (λ (s : State). withAccounts s (visitsFrom n (ask x i) (i + 1) .after .state .accounts)) (asked .same)
+      again : withAccounts (ask x i .state) (visitsFrom n (ask x i) (i + 1) .after .state .round .accounts)
+          ≡ withAccounts (x .state) (visitsFrom n (ask x i) (i + 1) .after .state .round .accounts)
+      again = ap (λ (s : State). withAccounts s (visitsFrom n (ask x i) (i + 1) .after .state .round .accounts)) (asked .same)
 
       past : (k : ℕ) → k < 64 → place ≤ k → k < visitsFrom n (ask x i) (i + 1) .leaf → activeLeaf (x .state) k ≡ true
           → Dec (k < i) → Dec (k ≡ i) → has (visitsFrom n (ask x i) (i + 1) .after .asked) k ≡ true
@@ -207,13 +208,15 @@ visits-well (suc n) x place sound wide h few =
         (one-visit n x place i sound wide u (range .0) here before (covers (settled x) i)
         (later (ask x i) (a .sound) (a .wide) (omega (arith, u))))
 
-visits-settled : (x : Published) → x .state .place ≤ 64 → visits 64 (settled x) (x .state .place) ≡ nextLeaf (settled x)
+visits-settled : (x : Published) → x .state .round .place ≤ 64 → visits 64 (settled x) (x .state .round .place) ≡ nextLeaf (settled x)
 unfolding settled
 visits-settled x h = visits-next (settled x) h
 
 -- all visits of a search find the leaf that sends next in the state that x stands for, or that its round has closed
-pub visited-well : (x : Published) → SoundPublished x → WidePublished x → VisitsWell x (x .state .place) (nextLeaf (settled x)) (visited x)
+pub visited-well : (x : Published) → SoundPublished x → WidePublished x
+    → VisitsWell x (x .state .round .place) (nextLeaf (settled x)) (visited x)
 unfolding visited
 visited-well x sound wide =
-    subst (λ (w : ℕ). VisitsWell x (x .state .place) w (visitsFrom 64 x (x .state .place))) (visits-settled x (sound .state .place .high))
-    (visits-well 64 x (x .state .place) sound wide (sound .state .place .high) (omega arith))
+    subst (λ (w : ℕ). VisitsWell x (x .state .round .place) w (visitsFrom 64 x (x .state .round .place)))
+    (visits-settled x (sound .state .place .high))
+    (visits-well 64 x (x .state .round .place) sound wide (sound .state .place .high) (omega arith))

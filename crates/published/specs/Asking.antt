@@ -9,7 +9,7 @@ use Rattle.units.specs.Unit.{dueOf, quotaOf}
 use Rattle.tree.specs.Class.{parentOf, weightOf}
 use Rattle.state.specs.declared.Account.{Account}
 use Rattle.state.specs.Account.{accountOf, tookQuota, handedDown}
-use Rattle.state.specs.State.{State, inRound}
+use Rattle.state.specs.State.{State, roundOf, inRound}
 use Rattle.rules.specs.Active.{weightSum}
 
 -- a state of the second engine: one of the first, the set of the classes that have their quota in this round, and the quotas (R316)
@@ -24,23 +24,23 @@ quotaAt x i = getD (x .quotas) i 0
 
 -- the state with other accounts
 abbrev pub withAccounts : State → List Account → State
-withAccounts s accounts = inRound s (s .size) (s .active) (s .place) accounts
+withAccounts s accounts = inRound s (roundOf (s .round .size .0) (s .round .active) (s .round .place) accounts)
 
 -- class i takes R and its due into B, sets R to 0, and works out its own quota: B over its active children's weight sum (R318, R319;
 -- equations (4), (6))
 unfoldable pub takes : Published → ℕ → ℕ → Published
 takes x i due =
-    let a = tookQuota (accountOf (x .state .accounts) i) due in
+    let a = tookQuota (accountOf (x .state .round .accounts) i) due in
     record {
-      state = withAccounts (x .state) (set (x .state .accounts) i a);
+      state = withAccounts (x .state) (set (x .state .round .accounts) i a);
       asked = with (x .asked) i;
-      quotas = set (x .quotas) i (quotaOf (a .balance .0) (weightSum (x .state .tree) (x .state .active) i));
+      quotas = set (x .quotas) i (quotaOf (a .balance .0) (weightSum (x .state .tree) (x .state .round .active) i));
     }
 
 -- the balance of class p falls by what it hands down to one child (R318)
 unfoldable pub hands : Published → ℕ → ℕ → Published
 hands x p due = record {
-  state = withAccounts (x .state) (set (x .state .accounts) p (handedDown (accountOf (x .state .accounts) p) due));
+  state = withAccounts (x .state) (set (x .state .round .accounts) p (handedDown (accountOf (x .state .round .accounts) p) due));
   asked = x .asked;
   quotas = x .quotas;
 }

@@ -14,7 +14,7 @@ use Rattle.published.specs.Asking.{Published, quotaAt, withAccounts}
 
 -- class i is active and has no quota yet in this round (R325, R328)
 unfoldable pub unasked : Published → ℕ → Bool
-unasked x i = has (x .state .active) i && not (has (x .asked) i)
+unasked x i = has (x .state .round .active) i && not (has (x .asked) i)
 
 -- the weight of class i where it has yet to ask, and what the children of class p that have yet to ask weigh together (R325, R328)
 unfoldable pub owedWeight : Published → ℕ → ℕ
@@ -28,8 +28,9 @@ unfoldable pub shareIn : ℕ → Published → ℕ → ℕ
 shareIn zero x i = quotaAt x i
 shareIn (suc n) x i =
     cond (unasked x i)
-    (quotaOf (fundsOf (accountOf (x .state .accounts) i) + dueOf (weightOf (x .state .tree) i) (shareIn n x (parentOf (x .state .tree) i)))
-    (weightSum (x .state .tree) (x .state .active) i))
+    (quotaOf (fundsOf (accountOf (x .state .round .accounts) i) + dueOf (weightOf (x .state .tree) i)
+    (shareIn n x (parentOf (x .state .tree) i)))
+    (weightSum (x .state .tree) (x .state .round .active) i))
     (quotaAt x i)
 
 -- with as many steps up as there can be (R325)
@@ -40,8 +41,8 @@ share x i = shareIn 64 x i
 unfoldable pub askedAccount : Published → ℕ → Account
 askedAccount x i =
     cond (unasked x i)
-    (tookQuota (accountOf (x .state .accounts) i) (dueOf (weightOf (x .state .tree) i) (share x (parentOf (x .state .tree) i))))
-    (accountOf (x .state .accounts) i)
+    (tookQuota (accountOf (x .state .round .accounts) i) (dueOf (weightOf (x .state .tree) i) (share x (parentOf (x .state .tree) i))))
+    (accountOf (x .state .round .accounts) i)
 
 -- and when all its children have: its balance falls by what it still owes them (R325)
 unfoldable pub settledAccount : Published → ℕ → Account

@@ -15,16 +15,17 @@ use Rattle.published.specs.Settled.{owedSum}
 
 -- an active class that has its quota asked its parent, which has its own (R327)
 pub record AskedParent (x : Published) (i : ℕ) : Type 0 where
-  pub up : isClass (x .state .tree) i ≡ true → has (x .state .active) i ≡ true → has (x .asked) i ≡ true
+  pub up : isClass (x .state .tree) i ≡ true → has (x .state .round .active) i ≡ true → has (x .asked) i ≡ true
       → has (x .asked) (parentOf (x .state .tree) i) ≡ true
 
 -- a class that has its quota can pay what the children that have yet to ask will take (R328)
 pub record CanPay (x : Published) (i : ℕ) : Type 0 where
-  pub pays : has (x .asked) i ≡ true → dueOf (owedSum x i) (quotaAt x i) ≤ balanceOf (x .state .accounts) i
+  pub pays : has (x .asked) i ≡ true → dueOf (owedSum x i) (quotaAt x i) ≤ balanceOf (x .state .round .accounts) i
 
 -- every active leaf numbered below the place has been visited, and so has asked (R329)
 pub record AskedBehind (x : Published) (i : ℕ) : Type 0 where
-  pub asked : isLeaf (x .state .tree) i ≡ true → has (x .state .active) i ≡ true → i < x .state .place → has (x .asked) i ≡ true
+  pub asked : isLeaf (x .state .tree) i ≡ true → has (x .state .round .active) i ≡ true → i < x .state .round .place
+      → has (x .asked) i ≡ true
 
 -- all of it (R326 to R329)
 pub record SoundPublished (x : Published) : Type 0 where

@@ -18,7 +18,7 @@ pub record OnTheWay (x₀ x : Published) (rounds : ℕ) : Type 0 where
   pub waits : Waits (settled x)
   pub few : rounds ≤ 2
   pub within : Within (2 - rounds) (settled x)
-  pub same : x .state ≡ inRound (x₀ .state) (x .state .size) (x .state .active) (x .state .place) (x .state .accounts)
+  pub same : x .state ≡ inRound (x₀ .state) (x .state .round)
   pub closings : List State
   pub counted : length closings ≡ rounds
   pub passage : passageOf x₀ ≡ passesIn (64 - rounds) closings x

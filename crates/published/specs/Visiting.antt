@@ -8,7 +8,7 @@ use lib.Dec.{ltb}
 use lib.ListN.{set}
 use Rattle.sets.specs.Set.{with}
 use Rattle.state.specs.declared.Waiting.{Waiting}
-use Rattle.state.specs.State.{State, inRound}
+use Rattle.state.specs.State.{State, roundOf, inRound}
 use Rattle.rules.specs.Active.{roundActive}
 use Rattle.rules.specs.Opening.{Kind, main, surplus, nextKind, nextSize, resizedAccounts}
 use Rattle.rules.specs.Sending.{firstOf, firstFrom, activeLeaf, covers, sentState}
@@ -33,7 +33,7 @@ visitsFrom (suc n) x place =
 
 -- from the place at hand on (R320)
 unfoldable pub visited : Published → Visited
-visited x = visitsFrom 64 x (x .state .place)
+visited x = visitsFrom 64 x (x .state .round .place)
 
 -- leaf i sends its first packet; who has a quota keeps it (R321)
 unfoldable pub sentPublished : Published → ℕ → Published
@@ -50,7 +50,7 @@ unfoldable pub openedPublished : Published → Published
 openedPublished x =
     let size = nextSize (x .state) in
     record {
-      state = inRound (x .state) size (roundActive (x .state)) 1 (resizedAccounts size (x .state));
+      state = inRound (x .state) (roundOf size (roundActive (x .state)) 1 (resizedAccounts size (x .state)));
       asked = askedFirst (nextKind (x .state));
       quotas = set (x .quotas) 0 0;
     }

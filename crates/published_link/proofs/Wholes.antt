@@ -27,9 +27,9 @@ module _ (l : Second) (ready : Ready l) (k : Link) (whole : k ≡ l .link) where
     whole-is = subst (λ (z : Second). Wholly z r after quotas) same w
 
     -- every class number keeps an account
-    pub wide-after : length (after .accounts) ≡ 64
+    pub wide-after : length (after .round .accounts) ≡ 64
     wide-after =
-        ap (λ (z : Second). length (z .link .accounts)) (whole-is .after)
+        ap (λ (z : Second). length (z .link .round .accounts)) (whole-is .after)
         ∙ shape-after l (ready .sound) (ready .shape) (same-waits l ∙ ready .waits) .link .accounts
 
     pub sent-whole : (answer : Departure) (left : Link) → answer ≡ goes (r .class) (r .packet) (r .rounds) (r .stand .charged)

@@ -21,6 +21,7 @@ use calls::Departure;
 use checks::Verdict;
 use published_send::Sent;
 use state::Packet;
+use state::Round;
 use state::Totals;
 use state::lent_accounts::balances;
 use state::lent_accounts::residuals;
@@ -55,7 +56,7 @@ fn asked_is_right(second: Second) -> bool
 {
     let first = second.link;
     let tree = first.tree;
-    if !tree::is_plan(tree) {
+    if !shape::is_plan(tree) {
         return false;
     }
     asked_right(second)
@@ -151,8 +152,8 @@ fn goes(second: Second) -> SecondSend
     let shape = shape::shape_of(tree);
     let children = shape::families(&shape);
     let mut kept = [0u32; 64];
-    let accounts = first.accounts;
-    let size = first.size;
+    let accounts = first.round.accounts;
+    let size = first.round.size;
     let mut balance = balances(accounts);
     let mut residual = residuals(accounts);
     let mut quotas = second.quotas;
@@ -167,8 +168,8 @@ fn goes(second: Second) -> SecondSend
     let stand = Stand {
         known: 0,
         size,
-        active: first.active,
-        place: first.place,
+        active: first.round.active,
+        place: first.round.place,
         charged: totals.charged,
     };
     let sent = published_send::send(
@@ -191,11 +192,14 @@ fn goes(second: Second) -> SecondSend
     let accounts_after = zipped(&balance, &residual);
     let then = sent.stand;
     let size_after = then.size;
+    let round = Round {
+        size: size_after,
+        active: then.active,
+        place: then.place,
+        accounts: accounts_after,
+    };
     let mut after = first;
-    after.size = size_after;
-    after.active = then.active;
-    after.place = then.place;
-    after.accounts = accounts_after;
+    after.round = round;
     after.start = start;
     after.held = held;
     let counted = Totals {

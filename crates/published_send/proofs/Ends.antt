@@ -8,7 +8,7 @@ use Rattle.state.specs.declared.Link.{Link}
 use Rattle.steps.specs.declared.leaf.Gone.{Gone}
 use Rattle.state.specs.Account.{zipAccounts}
 use Rattle.state.specs.Queue.{packetAt, takenFirst}
-use Rattle.state.specs.State.{State, meaning, inRound, linkInRound}
+use Rattle.state.specs.State.{State, meaning, roundOf, inRound, linkInRound}
 use Rattle.state.proofs.Meaning.{meaning-first}
 use Rattle.sound.specs.Sound.{Sound}
 use Rattle.rules.specs.After.{linkIn, sentLink}
@@ -28,21 +28,22 @@ module _ (l : Second) (ready : Ready l) (r : Turned) (shape balance residual quo
     (a : Arrived (means l) r shape balance residual quotas) where
   -- the state in which it was found keeps all but the round
   kept : visited (a .x) .after .state
-      ≡ inRound (meaning (l .link)) (visited (a .x) .after .state .size) (visited (a .x) .after .state .active)
-      (visited (a .x) .after .state .place) (visited (a .x) .after .state .accounts)
+      ≡ inRound (meaning (l .link)) (visited (a .x) .after .state .round)
   kept =
       let s = visited (a .x) .after .state in
-      ap (λ (z : State). inRound z (s .size) (s .active) (s .place) (s .accounts)) (visited-well (a .x) (a .way .sound)
+      ap (λ (z : State). inRound z (s .round)) (visited-well (a .x) (a .way .sound)
       (a .way .wide) .same)
-      ∙ ap (λ (z : State). inRound z (s .size) (s .active) (s .place) (s .accounts)) (a .way .same)
+      ∙ ap (λ (z : State). inRound z (s .round)) (a .way .same)
 
   -- the link in that state
   abbrev pub turn-of : Link
-  turn-of = linkInRound (l .link) (r .size .0) (r .active) (visited (a .x) .after .state .place) (zipAccounts balance residual)
+  turn-of =
+      linkInRound (l .link)
+      (roundOf (r .size .0) (r .active) (visited (a .x) .after .state .round .place) (zipAccounts balance residual))
 
   turn-is : turn-of ≡ linkIn (l .link) (visited (a .x) .after .state)
-  turn-is = λ j. linkInRound (l .link) (sym (a .sized) j) (sym (a .lent .active-is) j) (visited (a .x) .after .state .place)
-      (sym (a .lent .accounts) j)
+  turn-is = λ j. linkInRound (l .link)
+      (roundOf (sym (a .sized) j) (sym (a .lent .active-is) j) (visited (a .x) .after .state .round .place) (sym (a .lent .accounts) j))
 
   means-it : meaning (linkIn (l .link) (visited (a .x) .after .state)) ≡ visited (a .x) .after .state
   means-it = meaning-in (l .link) (visited (a .x) .after .state) kept

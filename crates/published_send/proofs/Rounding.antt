@@ -63,7 +63,7 @@ module _ (x₀ : Published) (size active rounds : ℕ) (shape balance residual q
       subst (λ (a : ℕ). CanResize t a size (zipAccounts balance residual)) (sym (u .taken))
       (subst (λ (s : Tree). CanResize s (roundActive shut) size (zipAccounts balance residual)) (u .lent .tree)
       (subst (λ (m : ℕ). CanResize (shut .tree) (roundActive shut) m (zipAccounts balance residual)) (u .sized)
-      (subst (CanResize (shut .tree) (roundActive shut) (shut .size)) (u .lent .accounts)
+      (subst (CanResize (shut .tree) (roundActive shut) (shut .round .size .0)) (u .lent .accounts)
       (can-resize shut (sound-shut .state) (wide-shut .state) (closing-covers shut (sound-shut .state) (wide-shut .state) none-left)))))
 
   -- one round more
@@ -90,7 +90,7 @@ module _ (x₀ : Published) (size active rounds : ℕ) (shape balance residual q
   -- they keep the tree, the size and the queues, so who is active in the round after it too
   kept : visited (openedPublished (visited (u .x) .after)) .after .state
       ≡ withAccounts (openedPublished (visited (u .x) .after) .state)
-      (visited (openedPublished (visited (u .x) .after)) .after .state .accounts)
+      (visited (openedPublished (visited (u .x) .after)) .after .state .round .accounts)
   kept = visited-well (openedPublished (visited (u .x) .after)) (way-of .sound) (way-of .wide) .same
 
   same-queues : visited (openedPublished (visited (u .x) .after)) .after .state .queues ≡ visited (u .x) .after .state .queues
@@ -121,22 +121,22 @@ module _ (x₀ : Published) (size active rounds : ℕ) (shape balance residual q
           tree = u .lent .tree;
           active-is = sym (u .taken);
           accounts =
-              ap₂ (λ (r : Tree) (a : ℕ). sharedFrom r a (s .size) (s .accounts)) (u .lent .tree) (sym (u .taken))
+              ap₂ (λ (r : Tree) (a : ℕ). sharedFrom r a (s .round .size .0) (s .round .accounts)) (u .lent .tree) (sym (u .taken))
               ∙ ap₂ (λ (m : ℕ) (xs : List Account). sharedFrom t active m xs) (u .sized) (u .lent .accounts)
               ∙ sym (is .accounts-are);
           asked-is =
-              ap₂ (λ (r : Tree) (a : ℕ). askedFirst (kindOf r a (s .accounts))) (u .lent .tree) (sym (u .taken))
+              ap₂ (λ (r : Tree) (a : ℕ). askedFirst (kindOf r a (s .round .accounts))) (u .lent .tree) (sym (u .taken))
               ∙ ap (λ (xs : List Account). askedFirst (kindOf t active xs)) (u .lent .accounts)
               ∙ sym (is .asked-is);
           quotas-are = ap (λ (qs : List ℕ). set qs 0 0) (u .lent .quotas-are) ∙ sym (is .quotas-are);
         }
 
-    sized-open : visited (openedPublished (visited (u .x) .after)) .after .state .size ≡ o .size .0
+    sized-open : visited (openedPublished (visited (u .x) .after)) .after .state .round .size .0 ≡ o .size .0
     unfolding openedPublished nextKind nextSize
     sized-open =
         let s = visited (u .x) .after .state in
-        ap (λ (s : State). s .size) kept
-        ∙ ap₂ (λ (r : Tree) (a : ℕ). sizeIn (kindOf r a (s .accounts)) r a (s .size)) (u .lent .tree) (sym (u .taken))
+        ap (λ (s : State). s .round .size .0) kept
+        ∙ ap₂ (λ (r : Tree) (a : ℕ). sizeIn (kindOf r a (s .round .accounts)) r a (s .round .size .0)) (u .lent .tree) (sym (u .taken))
         ∙ ap₂ (λ (m : ℕ) (xs : List Account). sizeIn (kindOf t active xs) t active m) (u .sized) (u .lent .accounts)
         ∙ sym (is .size-is)
 

@@ -65,7 +65,7 @@ module _ (l : Second) (r : Ready l) where
   way = way-starts (means l) (r .sound .state) wide-of waits-settled
 
   -- the visits keep the tree, the size and the queues
-  kept : visited (means l) .after .state ≡ withAccounts (meaning (l .link)) (visited (means l) .after .state .accounts)
+  kept : visited (means l) .after .state ≡ withAccounts (meaning (l .link)) (visited (means l) .after .state .round .accounts)
   kept = visited-well (means l) (r .sound .state) wide-of .same
 
   leaf-high : visited (means l) .leaf ≤ 64
@@ -112,7 +112,7 @@ module _ (stand : Stand) (asked : ℕ) (shape balance residual quotas start held
         way = way l r;
         leaf-is = leaf-of;
         found = h;
-        sized = ap (λ (z : State). z .size) (kept l r);
+        sized = ap (λ (z : State). z .round .size .0) (kept l r);
         lent = lent-of;
       }
 
@@ -150,7 +150,7 @@ module _ (l : Second) (size : Bytes) (shape balance residual quotas start held l
     x = means l;
     way = way l (h .ready);
     closed = h .closed;
-    sized = ap (λ (z : State). z .size) (kept l (h .ready)) ∙ ap (λ (b : Bytes). b .0) (h .size-is);
+    sized = ap (λ (z : State). z .round .size .0) (kept l (h .ready)) ∙ ap (λ (b : Bytes). b .0) (h .size-is);
     taken =
         is
         ∙ ap₂ (λ (s : Tree) (xs : List ℕ). upward s (holdsSome s xs)) (sym (h .tree-is)) (sym (h .helds))

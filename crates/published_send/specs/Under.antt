@@ -38,7 +38,7 @@ pub record Under (x₀ : Published) (size active rounds : ℕ) (shape balance re
   pub x : Published
   pub way : OnTheWay x₀ x rounds
   pub closed : visited x .leaf ≡ 64
-  pub sized : visited x .after .state .size ≡ size
+  pub sized : visited x .after .state .round .size .0 ≡ size
   pub taken : active ≡ roundActive (visited x .after .state)
   pub old : ℕ
   pub asked : ℕ
@@ -52,5 +52,5 @@ pub record Arrived (x₀ : Published) (r : Turned) (shape balance residual quota
   pub way : OnTheWay x₀ x (r .rounds)
   pub leaf-is : r .leaf ≡ visited x .leaf
   pub found : r .leaf < 64
-  pub sized : visited x .after .state .size ≡ r .size .0
+  pub sized : visited x .after .state .round .size .0 ≡ r .size .0
   pub lent : Lent (visited x .after) (r .active) (r .asked) shape balance residual quotas

@@ -32,7 +32,7 @@ pub record HasClosed (l : Second) (size : Bytes) (shape balance residual quotas 
   pub ready : Ready l
   pub closed : visited (means l) .leaf ≡ 64
   pub tree-is : l .link .tree ≡ treeIn shape
-  pub size-is : l .link .size ≡ size
+  pub size-is : l .link .round .size ≡ size
   pub starts : l .link .start ≡ start
   pub helds : l .link .held ≡ held
   pub lying : l .link .lengths ≡ lengths

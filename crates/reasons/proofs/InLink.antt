@@ -30,13 +30,13 @@ module _ (l : Link) (sound : SoundLink l) (i : ℕ) (leaf : isLeaf (l .tree) i �
   pub holds-none : heldOf l i ≡ 0 → HoldsNone (meaning l) i
   holds-none e = record { none = meaning-held l i leaf-low ∙ e }
 
-  pub not-in-round : 1 ≤ heldOf l i → has (l .active) i ≡ false → NotInRound (meaning l) i
+  pub not-in-round : 1 ≤ heldOf l i → has (l .round .active) i ≡ false → NotInRound (meaning l) i
   not-in-round some e = record { some = omega (arith, meaning-held l i leaf-low); out = e }
 
-  pub still-due : has (l .active) i ≡ true → l .place ≤ i → StillDue (meaning l) i
+  pub still-due : has (l .round .active) i ≡ true → l .round .place ≤ i → StillDue (meaning l) i
   still-due on ahead = record { in-round = on; ahead = ahead }
 
-  module _ (on : has (l .active) i ≡ true) (below : i < l .place) (at : ℕ) (here : at ≡ slot i (startOf l i)) where
+  module _ (on : has (l .round .active) i ≡ true) (below : i < l .round .place) (at : ℕ) (here : at ≡ slot i (startOf l i)) where
     -- its first packet is at the start of its queue
     first-is : getD (l .lengths) at 0 ≡ firstOf (meaning l) i .length
     first-is =
@@ -44,10 +44,10 @@ module _ (l : Link) (sound : SoundLink l) (i : ℕ) (leaf : isLeaf (l .tree) i �
         ap (λ (k : ℕ). getD (l .lengths) k 0) here
         ∙ sym (ap (λ (p : Waiting). p .length) (meaning-first l i leaf-low some ∙ packet-first l i start-low))
 
-    pub lacks-in : balanceOf (l .accounts) i < costOf (getD (l .lengths) at 0)
+    pub lacks-in : balanceOf (l .round .accounts) i < costOf (getD (l .lengths) at 0)
     lacks-in = rw first-is (lacks-some (meaning l) (sound .state) i leaf on below)
 
-    pub short-by : (n : ℕ) → balanceOf (l .accounts) i + n ≡ costOf (getD (l .lengths) at 0) → Lacks (meaning l) i n
+    pub short-by : (n : ℕ) → balanceOf (l .round .accounts) i + n ≡ costOf (getD (l .lengths) at 0) → Lacks (meaning l) i n
     short-by n e = record {
       in-round = on;
       below = below;

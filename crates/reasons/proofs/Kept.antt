@@ -47,11 +47,11 @@ use Rattle.reasons.specs.Promise.{SendsNone, OpensNone}
 -- leaf i has its account, is in the round or not as before, and no packet of it has gone; the place has not fallen
 pub record Kept (s r : State) (i : ℕ) : Type 0 where
   pub tree : r .tree ≡ s .tree
-  pub active : has (r .active) i ≡ has (s .active) i
-  pub balance : balanceOf (r .accounts) i ≡ balanceOf (s .accounts) i
+  pub active : has (r .round .active) i ≡ has (s .round .active) i
+  pub balance : balanceOf (r .round .accounts) i ≡ balanceOf (s .round .accounts) i
   pub more : length (queueAt s i) ≤ length (queueAt r i)
   pub first : 1 ≤ length (queueAt s i) → firstOf r i ≡ firstOf s i
-  pub onward : s .place ≤ r .place
+  pub onward : s .round .place ≤ r .round .place
 
 kept-same : (s : State) (i : ℕ) → Kept s s i
 kept-same s i = record { tree = refl; active = refl; balance = refl; more = omega arith; first = λ h. refl; onward = omega arith }

@@ -32,23 +32,24 @@ module _ (s : State) (sound : Sound s) (i : ℕ) (leaf : isLeaf (s .tree) i ≡ 
   number = leaf-number (s .tree) i (sound .fits .tree) leaf
 
   -- a leaf in the round holds a packet
-  holds : has (s .active) i ≡ true → 1 ≤ length (queueAt s i)
+  holds : has (s .round .active) i ≡ true → 1 ≤ length (queueAt s i)
   holds on = sound .waiting i number .waits leaf on
 
   -- what one that is in the round and below the place lacks
-  pub lacks-some : has (s .active) i ≡ true → i < s .place → balanceOf (s .accounts) i < costOf (firstOf s i .length)
+  pub lacks-some : has (s .round .active) i ≡ true → i < s .round .place → balanceOf (s .round .accounts) i < costOf (firstOf s i .length)
   lacks-some on below = sound .behind i number .lacks leaf on below
 
   -- one of the reasons is true
   some-reason : (r : Reason) × IsTrue s i r
-  some-reason = go (decLe 1 (length (queueAt s i))) (has (s .active) i) refl (decLe (s .place) i)
+  some-reason = go (decLe 1 (length (queueAt s i))) (has (s .round .active) i) refl (decLe (s .round .place) i)
     where
-      go : Dec (1 ≤ length (queueAt s i)) → (b : Bool) → has (s .active) i ≡ b → Dec (s .place ≤ i) → (r : Reason) × IsTrue s i r
+      go : Dec (1 ≤ length (queueAt s i)) → (b : Bool) → has (s .round .active) i ≡ b → Dec (s .round .place ≤ i)
+          → (r : Reason) × IsTrue s i r
       go (no h) b e d = (Empty, record { none = omega arith })
       go (yes h) false e d = (Waits, record { some = omega arith; out = e })
       go (yes h) true e (yes d) = (Due, record { in-round = e; ahead = d })
       go (yes h) true e (no d) =
-          let n : ℕ = costOf (firstOf s i .length) - balanceOf (s .accounts) i in
+          let n : ℕ = costOf (firstOf s i .length) - balanceOf (s .round .accounts) i in
           let lack = lacks-some e (omega arith) in
           (Short (record { 0 = n }), record { in-round = e; below = omega arith; some = omega arith; exact = omega arith })
 

@@ -76,7 +76,7 @@ pub waits-promise : (i : ℕ) (ms : List Made) (l : Link) → SoundLink l → is
     → Each OpensNone ms → Each (SendsNone i) ms
 waits-promise i =
     run-silent (λ s. NotInRound s i) i (waits-kept i)
-    (λ s sound w u e. not-true-and-false (subst (λ (k : ℕ). has (s .active) k ≡ true) e (next-sender s sound u .active)) (w .out))
+    (λ s sound w u e. not-true-and-false (subst (λ (k : ℕ). has (s .round .active) k ≡ true) e (next-sender s sound u .active)) (w .out))
 
 -- short: no call sends a packet of it before a round opens, and it lacks as many bytes all the while
 lacks-kept : (i n : ℕ) (s r : State) → Kept s r i → (1 ≤ length (queueAt s i)) × Lacks s i n → (1 ≤ length (queueAt r i)) × Lacks r i n
@@ -171,7 +171,7 @@ due-send l i d sound leaf due x before = go (someWaits (meaning l)) refl
         let now = sent-now l d sound x e (omega (arith, before, low)) in
         let other : d .answer .verdict ≡ Passed → d .answer .class ≡ i → ⊥ = λ passed at. omega (arith, before, now .1, at) in
         let k = quiet-kept l d sound x i leaf (now .2) other in
-        let place = ap (λ (s : State). s .place) (now .3) in (
+        let place = ap (λ (s : State). s .round .place) (now .3) in (
           now .2,
           record { in-round = k .active ∙ due .in-round; ahead = omega (arith, before, place) },
           ap (λ (t : Tree). isLeaf t i) (k .tree) ∙ leaf,
@@ -194,7 +194,11 @@ due-promise i (made send answer after ∷ ms) l sound leaf due run =
     go : Dec (nextLeaf (meaning l) < i) → (StillDue (meaning after) i → isLeaf (after .tree) i ≡ true → ReachedInTime i after ms)
         → ReachedInTime i l (made send answer after ∷ ms)
     go (no h) later =
-        inl (record { due = due; first = λ k lo hi. first-least (ready (meaning l)) (64 - l .place) (l .place) k lo (omega arith) })
+        inl (record {
+          due = due;
+          first = λ k lo hi. first-least (ready (meaning l)) (64 - l .round .place) (l .round .place) k lo
+              (omega arith);
+        })
     go (yes h) later =
         let on = due-send l i (sendLeaves answer after) sound leaf due (run .0) h in
         inr (on .0, later (on .1) (on .2))
@@ -202,7 +206,7 @@ due-promise i (made send answer after ∷ ms) l sound leaf due run =
 -- when the search comes to it, it sends, or its balance is smaller than what its first packet is charged
 pub reached-then : (i : ℕ) (l : Link) (d : AfterSend) → SoundLink l → isLeaf (l .tree) i ≡ true → CameTo (meaning l) i → Sends l d
     → d .answer .verdict ≡ Passed
-    → ((d .answer .class ≡ i) × (d .answer .rounds ≡ 0)) ⊎ (balanceOf (l .accounts) i < costOf (firstOf (meaning l) i .length))
+    → ((d .answer .class ≡ i) × (d .answer .rounds ≡ 0)) ⊎ (balanceOf (l .round .accounts) i < costOf (firstOf (meaning l) i .length))
 unfolding nextLeaf
 reached-then i l d sound leaf reached x passed = go (ready s i) refl
   where
@@ -216,7 +220,8 @@ reached-then i l d sound leaf reached x passed = go (ready s i) refl
     found e = past (decLt i (nextLeaf s))
       where
         past : Dec (i < nextLeaf s) → nextLeaf s ≡ i
-        past (yes h) = absurd (not-true-and-false e (first-least (ready s) (64 - s .place) (s .place) i (reached .due .ahead) h))
+        past (yes h) = absurd (not-true-and-false e (first-least (ready s) (64 - s .round .place) (s .round .place) i
+            (reached .due .ahead) h))
         past (no h) = short (decLt (nextLeaf s) i)
           where
             short : Dec (nextLeaf s < i) → nextLeaf s ≡ i
@@ -230,7 +235,7 @@ reached-then i l d sound leaf reached x passed = go (ready s i) refl
     waits false e = absurd (not-both passed (nothing l d sound x e .0))
 
     go : (b : Bool) → ready s i ≡ b
-        → ((d .answer .class ≡ i) × (d .answer .rounds ≡ 0)) ⊎ (balanceOf (l .accounts) i < costOf (firstOf s i .length))
+        → ((d .answer .class ≡ i) × (d .answer .rounds ≡ 0)) ⊎ (balanceOf (l .round .accounts) i < costOf (firstOf s i .length))
     go true e =
         let now = sent-now l d sound x (waits (someWaits s) refl) (omega (arith, found e, low)) in
         inl (now .1 ∙ found e, now .2)

@@ -35,7 +35,7 @@ Each P (m ∷ ms) = P m × Each P ms
 -- (R135 to R137, R217)
 pub record CameTo (s : State) (i : ℕ) : Type 0 where
   pub due : StillDue s i
-  pub first : (k : ℕ) → s .place ≤ k → k < i → ready s k ≡ false
+  pub first : (k : ℕ) → s .round .place ≤ k → k < i → ready s k ≡ false
 
 -- the search of the call comes to leaf i, in the round in which the call begins (R217)
 abbrev pub Reaches : ℕ → Link → Made → Type 0

@@ -19,19 +19,19 @@ pub record HoldsNone (s : State) (i : ℕ) : Type 0 where
 -- it holds some but is not in this round (R208)
 pub record NotInRound (s : State) (i : ℕ) : Type 0 where
   pub some : 1 ≤ length (queueAt s i)
-  pub out : has (s .active) i ≡ false
+  pub out : has (s .round .active) i ≡ false
 
 -- it is in the round, numbered below the place, and lacks n bytes, at least one, of what its first packet is charged (R16, R209)
 pub record Lacks (s : State) (i n : ℕ) : Type 0 where
-  pub in-round : has (s .active) i ≡ true
-  pub below : i < s .place
+  pub in-round : has (s .round .active) i ≡ true
+  pub below : i < s .round .place
   pub some : 1 ≤ n
-  pub exact : balanceOf (s .accounts) i + n ≡ costOf (firstOf s i .length)
+  pub exact : balanceOf (s .round .accounts) i + n ≡ costOf (firstOf s i .length)
 
 -- it is in the round, and its visit is under way or still to come: its number is the place or above it (R210)
 pub record StillDue (s : State) (i : ℕ) : Type 0 where
-  pub in-round : has (s .active) i ≡ true
-  pub ahead : s .place ≤ i
+  pub in-round : has (s .round .active) i ≡ true
+  pub ahead : s .round .place ≤ i
 
 -- a reason is true of leaf i (R207 to R210)
 abbrev pub IsTrue : State → ℕ → Reason → Type 0

@@ -49,14 +49,15 @@ fn reason_of(link: Link, class: usize) -> Reason
     if link.held[class] == 0 {
         return Reason::Empty;
     }
-    if !sets::has(link.active, class) {
+    if !sets::has(link.round.active, class) {
         return Reason::Waits;
     }
-    if link.place <= class {
+    if link.round.place <= class {
         return Reason::Due;
     }
     let at = slot(class, wide(link.start[class]));
-    let account = link.accounts[class];
+    let round = link.round;
+    let account = round.accounts[class];
     let balance = account.balance;
     let lacks = shortfall(balance, link.lengths[at]);
     Reason::Short(lacks)

@@ -39,30 +39,31 @@ pub class-few : (t : Tree) (i : ℕ) → PlanRules t → isClass t i ≡ true �
 class-few t i rules is = omega (arith, few-classes t rules, class-range t i is .1)
 
 -- an active leaf that the search passed has a balance smaller than its first packet
-passed-short : (s : State) (i : ℕ) → isLeaf (s .tree) i ≡ true → has (s .active) i ≡ true → ready s i ≡ false
-    → balanceOf (s .accounts) i < costOf (firstOf s i .length)
+passed-short : (s : State) (i : ℕ) → isLeaf (s .tree) i ≡ true → has (s .round .active) i ≡ true → ready s i ≡ false
+    → balanceOf (s .round .accounts) i < costOf (firstOf s i .length)
 unfolding ready
-passed-short s i leaf on e = leb-false (costOf (firstOf s i .length)) (balanceOf (s .accounts) i) (rw (on, leaf) at e)
+passed-short s i leaf on e = leb-false (costOf (firstOf s i .length)) (balanceOf (s .round .accounts) i) (rw (on, leaf) at e)
 
 module _ (s : State) (sound : Sound s) (closed : nextLeaf s ≡ 64) where
   rules : PlanRules (s .tree)
   rules = sound .fits .tree
 
   -- when the round has closed every active leaf has: below the place by soundness, from it on because the search passed it
-  pub closed-short : (i : ℕ) → isClass (s .tree) i ≡ true → isLeaf (s .tree) i ≡ true → has (s .active) i ≡ true
-      → balanceOf (s .accounts) i < costOf (firstOf s i .length)
+  pub closed-short : (i : ℕ) → isClass (s .tree) i ≡ true → isLeaf (s .tree) i ≡ true → has (s .round .active) i ≡ true
+      → balanceOf (s .round .accounts) i < costOf (firstOf s i .length)
   unfolding nextLeaf
-  closed-short i is leaf on = go (decLt i (s .place))
+  closed-short i is leaf on = go (decLt i (s .round .place))
     where
       u : i < 64
       u = class-few (s .tree) i rules is
 
-      go : Dec (i < s .place) → balanceOf (s .accounts) i < costOf (firstOf s i .length)
+      go : Dec (i < s .round .place) → balanceOf (s .round .accounts) i < costOf (firstOf s i .length)
       go (yes h) = sound .behind i u .lacks leaf on h
-      go (no h) = passed-short s i leaf on (first-least (ready s) (64 - s .place) (s .place) i (omega arith) (omega (arith, closed, u)))
+      go (no h) = passed-short s i leaf on (first-least (ready s) (64 - s .round .place) (s .round .place) i (omega arith)
+          (omega (arith, closed, u)))
 
   -- an active leaf's first packet costs at most its longest
-  first-most : (i : ℕ) → isClass (s .tree) i ≡ true → isLeaf (s .tree) i ≡ true → has (s .active) i ≡ true
+  first-most : (i : ℕ) → isClass (s .tree) i ≡ true → isLeaf (s .tree) i ≡ true → has (s .round .active) i ≡ true
       → costOf (firstOf s i .length) ≤ costOf (longestOf (s .tree) i)
   first-most i is leaf on =
       let u = class-few (s .tree) i rules is in
@@ -70,17 +71,17 @@ module _ (s : State) (sound : Sound s) (closed : nextLeaf s ≡ 64) where
 
   -- every leaf, active or not, holds less than its longest packet costs
   pub leaf-short : (i : ℕ) → isClass (s .tree) i ≡ true → isLeaf (s .tree) i ≡ true
-      → fundsOf (accountOf (s .accounts) i) < longestCost (s .tree) i
+      → fundsOf (accountOf (s .round .accounts) i) < longestCost (s .tree) i
   unfolding longestCost
-  leaf-short i is leaf = rw leaf (go (has (s .active) i) refl)
+  leaf-short i is leaf = rw leaf (go (has (s .round .active) i) refl)
     where
       u : i < 64
       u = class-few (s .tree) i rules is
 
-      none : fundsOf (accountOf (s .accounts) i) ≡ balanceOf (s .accounts) i
+      none : fundsOf (accountOf (s .round .accounts) i) ≡ balanceOf (s .round .accounts) i
       none = omega (arith, sound .zero i u .leaf leaf)
 
-      go : (b : Bool) → has (s .active) i ≡ b → fundsOf (accountOf (s .accounts) i) < costOf (longestOf (s .tree) i)
+      go : (b : Bool) → has (s .round .active) i ≡ b → fundsOf (accountOf (s .round .accounts) i) < costOf (longestOf (s .tree) i)
       go true on = omega (arith, none, closed-short i is leaf on, first-most i is leaf on)
       go false off =
           omega (
@@ -107,12 +108,12 @@ none-found f n i e l u = go (f i) refl
 
 -- so in a main round no active inner class has a surplus
 pub no-surplus : (s : State) → nextKind s ≡ main → (i : ℕ) → isClass (s .tree) i ≡ true → isLeaf (s .tree) i ≡ false
-    → has (roundActive s) i ≡ true → fundsOf (accountOf (s .accounts) i) < weightSum (s .tree) (roundActive s) i
+    → has (roundActive s) i ≡ true → fundsOf (accountOf (s .round .accounts) i) < weightSum (s .tree) (roundActive s) i
 unfolding nextKind kindOf hasSurplus surplusAt isInner
 no-surplus s kind i is inner on =
     let r = class-range (s .tree) i is in
     let e = none-found _ (s .tree .count) i (main-none _ kind) (r .0) (r .1) in
-    leb-false (weightSum (s .tree) (roundActive s) i) (fundsOf (accountOf (s .accounts) i)) (rw (is, inner, on) at e)
+    leb-false (weightSum (s .tree) (roundActive s) i) (fundsOf (accountOf (s .round .accounts) i)) (rw (is, inner, on) at e)
 
 -- an inner class is a class and no leaf
 inner-parts : (t : Tree) (i : ℕ) → isInner t i ≡ true → (isClass t i ≡ true) × (isLeaf t i ≡ false)
@@ -136,15 +137,15 @@ surplus-parts t active accounts i e =
 
 -- where no active inner class has a surplus, the round that opens is a main round
 pub main-where : (s : State) → ((i : ℕ) → isClass (s .tree) i ≡ true → isLeaf (s .tree) i ≡ false → has (roundActive s) i ≡ true
-    → fundsOf (accountOf (s .accounts) i) < weightSum (s .tree) (roundActive s) i) → nextKind s ≡ main
+    → fundsOf (accountOf (s .round .accounts) i) < weightSum (s .tree) (roundActive s) i) → nextKind s ≡ main
 unfolding nextKind kindOf
-main-where s short = go (someTo (hasSurplus (s .tree) (roundActive s) (s .accounts)) (s .tree .count)) refl
+main-where s short = go (someTo (hasSurplus (s .tree) (roundActive s) (s .round .accounts)) (s .tree .count)) refl
   where
-    go : (b : Bool) → someTo (hasSurplus (s .tree) (roundActive s) (s .accounts)) (s .tree .count) ≡ b → cond b surplus main ≡ main
+    go : (b : Bool) → someTo (hasSurplus (s .tree) (roundActive s) (s .round .accounts)) (s .tree .count) ≡ b → cond b surplus main ≡ main
     go false e = refl
     go true e =
-        let w = some-which (hasSurplus (s .tree) (roundActive s) (s .accounts)) (s .tree .count) e in
-        let h = surplus-parts (s .tree) (roundActive s) (s .accounts) (w .0) (w .3) in
+        let w = some-which (hasSurplus (s .tree) (roundActive s) (s .round .accounts)) (s .tree .count) e in
+        let h = surplus-parts (s .tree) (roundActive s) (s .round .accounts) (w .0) (w .3) in
         let d = inner-parts (s .tree) (w .0) (h .0) in
         absurd (omega (arith, short (w .0) (d .0) (d .1) (h .1), h .2))
 
@@ -170,13 +171,13 @@ sums-active t active rules =
 module _ (s : State) (sound : Sound s) (closed : nextLeaf s ≡ 64) (kind : nextKind s ≡ main) where
   -- at a closing without a surplus an active class holds at most its longest packet's cost, or its weight sum; any other nothing
   most : (i : ℕ) → isClass (s .tree) i ≡ true
-      → fundsOf (accountOf (s .accounts) i)
+      → fundsOf (accountOf (s .round .accounts) i)
       ≤ ifActive (roundActive s) (longestCost (s .tree)) i + weightSum (s .tree) (roundActive s) i
   unfolding ifActive
   most i is = go (has (roundActive s) i) (isLeaf (s .tree) i) refl refl
     where
       go : (d b : Bool) → has (roundActive s) i ≡ d → isLeaf (s .tree) i ≡ b
-          → fundsOf (accountOf (s .accounts) i) ≤ cond d (longestCost (s .tree) i) 0 + weightSum (s .tree) (roundActive s) i
+          → fundsOf (accountOf (s .round .accounts) i) ≤ cond d (longestCost (s .tree) i) 0 + weightSum (s .tree) (roundActive s) i
       go true true e leaf = omega (arith, leaf-short s sound closed i is leaf)
       go true false e leaf = omega (arith, no-surplus s kind i is leaf e)
       go false b e leaf =
@@ -186,13 +187,13 @@ module _ (s : State) (sound : Sound s) (closed : nextLeaf s ≡ 64) (kind : next
           omega (arith, sound .zero i u .balance l z, sound .zero i u .residual l z)
 
   -- a number past the last class holds nothing
-  past-none : (i : ℕ) → s .tree .count < i → i ≤ 63 → fundsOf (accountOf (s .accounts) i) ≡ 0
+  past-none : (i : ℕ) → s .tree .count < i → i ≤ 63 → fundsOf (accountOf (s .round .accounts) i) ≡ 0
   past-none i l u =
       let z = sound .past .past i l in
       omega (arith, sound .zero i (omega arith) .balance (omega arith) z, sound .zero i (omega arith) .residual (omega arith) z)
 
   -- so all but the root hold at most all active leaves' longest packets' cost and all weight sums
-  others-most : sumTo (λ i. fundsOf (accountOf (s .accounts) i)) 63
+  others-most : sumTo (λ i. fundsOf (accountOf (s .round .accounts) i)) 63
       ≤ activeLongest (s .tree) (roundActive s) + sumTo (weightSum (s .tree) (roundActive s)) (s .tree .count)
   unfolding activeLongest
   others-most =
@@ -202,20 +203,22 @@ module _ (s : State) (sound : Sound s) (closed : nextLeaf s ≡ 64) (kind : next
       few : s .tree .count ≤ 63
       few = few-classes (s .tree) (sound .fits .tree)
 
-      past : sumTo (λ i. fundsOf (accountOf (s .accounts) i)) 63 ≡ sumTo (λ i. fundsOf (accountOf (s .accounts) i)) (s .tree .count)
-      past = sum-longer (λ i. fundsOf (accountOf (s .accounts) i)) (s .tree .count) 63 few past-none
+      past : sumTo (λ i. fundsOf (accountOf (s .round .accounts) i)) 63
+          ≡ sumTo (λ i. fundsOf (accountOf (s .round .accounts) i)) (s .tree .count)
+      past = sum-longer (λ i. fundsOf (accountOf (s .round .accounts) i)) (s .tree .count) 63 few past-none
 
-      parts : sumTo (λ i. fundsOf (accountOf (s .accounts) i)) (s .tree .count)
+      parts : sumTo (λ i. fundsOf (accountOf (s .round .accounts) i)) (s .tree .count)
           ≤ sumTo (λ i. ifActive (roundActive s) (longestCost (s .tree)) i + weightSum (s .tree) (roundActive s) i) (s .tree .count)
       parts = sum-within _ _ (s .tree .count) (λ i l u. most i (class-in (s .tree) i l u))
 
   -- and with the root's weight sum that is within rule 2's size, whatever size is in force
-  pub others-less : weightSum (s .tree) (roundActive s) 0 + sumTo (λ i. fundsOf (accountOf (s .accounts) i)) 63
+  pub others-less : weightSum (s .tree) (roundActive s) 0 + sumTo (λ i. fundsOf (accountOf (s .round .accounts) i)) 63
       ≤ activeSize (s .tree) (roundActive s)
   unfolding activeSize
   others-less = omega (arith, others-most, sums-active (s .tree) (roundActive s) (sound .fits .tree))
 
   -- so where the size in force is no smaller, the root holds its weight sum at least
-  pub root-has : activeSize (s .tree) (roundActive s) ≤ s .size → weightSum (s .tree) (roundActive s) 0 ≤ fundsOf (accountOf (s .accounts) 0)
+  pub root-has : activeSize (s .tree) (roundActive s) ≤ s .round .size .0
+      → weightSum (s .tree) (roundActive s) 0 ≤ fundsOf (accountOf (s .round .accounts) 0)
   unfolding total
   root-has low = omega (arith, low, sound .adds .adds, others-less)

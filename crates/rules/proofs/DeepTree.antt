@@ -71,13 +71,13 @@ seenOf : Bool → ℕ → List (List ℕ)
 seenOf rule n =
     let t = traceOf (after rule n) in
     (t .class ∷ t .packet .length ∷ t .packet .tag ∷ length (t .turns) ∷ [])
-    ∷ (t .state .place ∷ t .state .active ∷ t .state .size ∷ [])
-    ∷ balances (t .state .accounts)
-    ∷ residuals (t .state .accounts)
+    ∷ (t .state .round .place ∷ t .state .round .active ∷ t .state .round .size .0 ∷ [])
+    ∷ balances (t .state .round .accounts)
+    ∷ residuals (t .state .round .accounts)
     ∷ shownIn (t .turns)
 
 -- the place becomes 1 when a round opens
-opens-at-1 : opened (start false) .place ≡ 1
+opens-at-1 : opened (start false) .round .place ≡ 1
 unfolding openedWith
 opens-at-1 = refl
 

@@ -72,7 +72,8 @@ module _
       → 1 ≤ share i
   unfolding share
   inner-share i is ab on up =
-      rw (quota-step main (s .tree) (roundActive s) (resizedAccounts size s) rules i (class-range (s .tree) i is .0) (class-few (s .tree) i rules is))
+      rw (quota-step main (s .tree) (roundActive s) (resizedAccounts size s) rules i (class-range (s .tree) i is .0)
+      (class-few (s .tree) i rules is))
       (one-each _ (weightSum (s .tree) (roundActive s) i) (sum-some s rules i ab on)
       (omega (arith, sum-weight (s .tree) (roundActive s) i rules is (ab .inner), le-mul-of-pos-right (weightOf (s .tree) i) up)))
 
@@ -92,18 +93,22 @@ module _
           (ih (parentOf (s .tree) p) (omega arith) (parent-above (s .tree) (roundActive s) rules p is) (taken-up s rules p is on))
 
   -- every active class above has a quota
-  pub main-quota : (p : ℕ) → Above (s .tree) p → has (roundActive s) p ≡ true → 1 ≤ quota main (s .tree) (roundActive s) (resizedAccounts size s) p
+  pub main-quota : (p : ℕ) → Above (s .tree) p → has (roundActive s) p ≡ true → 1 ≤ quota main (s .tree) (roundActive s)
+      (resizedAccounts size s) p
   unfolding share
   main-quota p ab on = share-down p p (omega arith) ab on
 
 -- and every active leaf gains at least its weight (R150)
-pub main-gains : (s : State) (size : ℕ) → Sound s → Wide s → Resizes s size → nextLeaf s ≡ 64 → nextKind s ≡ main → (i : ℕ) → isClass (s .tree) i ≡ true
+pub main-gains : (s : State) (size : ℕ) → Sound s → Wide s → Resizes s size → nextLeaf s ≡ 64 → nextKind s ≡ main → (i : ℕ) → isClass
+    (s .tree) i ≡ true
     → isLeaf (s .tree) i ≡ true
-    → has (roundActive s) i ≡ true → balanceOf (s .accounts) i + weightOf (s .tree) i ≤ balanceOf (openedWith size s .accounts) i
+    → has (roundActive s) i ≡ true → balanceOf (s .round .accounts) i + weightOf (s .tree) i
+    ≤ balanceOf (openedWith size s .round .accounts) i
 main-gains s size sound wide fit closed kind i is leaf on =
     let tree = sound .fits .tree in
     let up =
-    main-quota s size sound wide fit closed kind (parentOf (s .tree) i) (parent-above (s .tree) (roundActive s) tree i is) (taken-up s tree i is on)
+    main-quota s size sound wide fit closed kind (parentOf (s .tree) i) (parent-above (s .tree) (roundActive s) tree i is)
+    (taken-up s tree i is on)
     in
     let after = rw kind at (opened-leaf s size sound wide i is leaf on .1) in
     omega (arith, after, le-mul-of-pos-right (weightOf (s .tree) i) up)

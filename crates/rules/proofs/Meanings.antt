@@ -36,7 +36,7 @@ use Rattle.rules.specs.After.{linkIn, openedLink, sentLink}
 use Rattle.rules.specs.Steps.{Fit, SendsNext}
 
 -- there is an account and a queue for every class number
-pub meaning-wide : (l : Link) → length (l .accounts) ≡ 64 → Wide (meaning l)
+pub meaning-wide : (l : Link) → length (l .round .accounts) ≡ 64 → Wide (meaning l)
 meaning-wide l many = record { accounts = many; queues = table-length (queueOf l) 64 }
 
 -- the start kept for a queue is within its places
@@ -44,13 +44,13 @@ pub start-low : (l : Link) (k : ℕ) → SoundLink l → k < 64 → startOf l k 
 start-low l k sound u = omega (arith, sound .starts k u .start)
 
 -- all B and R are within the ceiling of Q
-pub sound-fit : (l : Link) → length (l .accounts) ≡ 64 → SoundLink l → Fit (l .accounts)
+pub sound-fit : (l : Link) → length (l .round .accounts) ≡ 64 → SoundLink l → Fit (l .round .accounts)
 sound-fit l many sound =
     let st = sound .state in
     record { many = many; small = omega (arith, st .adds .adds, st .fits .size .most, size-ceiling (l .tree) (st .fits .tree)) }
 
 -- a link in another state that is its own in a round means that state
-pub meaning-in : (l : Link) (s : State) → s ≡ inRound (meaning l) (s .size) (s .active) (s .place) (s .accounts) → meaning (linkIn l s) ≡ s
+pub meaning-in : (l : Link) (s : State) → s ≡ inRound (meaning l) (s .round) → meaning (linkIn l s) ≡ s
 unfolding queueOf
 meaning-in l s same = sym same
 
@@ -79,18 +79,19 @@ pub first-cost : (l : Link) (i : ℕ) (p : Waiting) (cost : ℕ) → SendsNext l
 first-cost l i p cost n e f =
     f ∙ ap (λ (q : Waiting). costOf (q .length)) (e ∙ sym (meaning-first l i (n .found) (sender-holds l i n)))
 
-pub paid-means : (l : Link) (i cost : ℕ) → cost ≡ costOf (firstOf (meaning l) i .length) → paidBy (l .accounts) i cost ≡ paid (meaning l) i
+pub paid-means : (l : Link) (i cost : ℕ) → cost ≡ costOf (firstOf (meaning l) i .length)
+    → paidBy (l .round .accounts) i cost ≡ paid (meaning l) i
 unfolding paid
-paid-means l i cost e = ap (paidBy (l .accounts) i) e
+paid-means l i cost e = ap (paidBy (l .round .accounts) i) e
 
 -- the books after a packet that was not the last, and after one that was
 pub books-more : (l : Link) (i : ℕ) → i < 64 → 1 < heldOf l i
-    → booksAfter (meaning l) i ≡ record { active = l .active; accounts = paid (meaning l) i }
+    → booksAfter (meaning l) i ≡ record { active = l .round .active; accounts = paid (meaning l) i }
 unfolding booksAfter
 books-more l i u h = rw (lt-leb (length (queueAt (meaning l) i)) 1 (omega (arith, meaning-held l i u)))
 
 pub books-last : (l : Link) (i : ℕ) → i < 64 → heldOf l i ≤ 1
-    → booksAfter (meaning l) i ≡ turnsOff 63 (l .tree) i (record { active = l .active; accounts = paid (meaning l) i })
+    → booksAfter (meaning l) i ≡ turnsOff 63 (l .tree) i (record { active = l .round .active; accounts = paid (meaning l) i })
 unfolding booksAfter
 books-last l i u h = rw (le-leb (length (queueAt (meaning l) i)) 1 (omega (arith, meaning-held l i u)))
 
@@ -101,7 +102,7 @@ sent-means l i shape n =
     let s = sentState (meaning l) i in
     let wide = wide-after (meaning l) i (n .sound .state) (meaning-wide l (shape .accounts)) (link-sender l i n) in
     meaning-take (linkIn l s) i
-    (shaped-in l (s .size) (s .active) (s .place) (s .accounts) shape (wide .accounts))
+    (shaped-in l (s .round) shape (wide .accounts))
     (record {
       rules = n .sound .state .fits .tree;
       leaf = link-sender l i n .leaf;

@@ -23,7 +23,7 @@ use Rattle.rules.specs.Steps.{SendsNext, OnTheWay}
 use Rattle.rules.proofs.Meanings.{meaning-wide, opened-means, opened-link-sound, sender-holds}
 
 -- at first none has opened
-pub way-starts : (l : Link) (at : ℕ) → length (l .accounts) ≡ 64 → SoundLink l → Waits (meaning l) → at ≡ nextLeaf (meaning l)
+pub way-starts : (l : Link) (at : ℕ) → length (l .round .accounts) ≡ 64 → SoundLink l → Waits (meaning l) → at ≡ nextLeaf (meaning l)
     → OnTheWay l at l 0
 unfolding traceOf
 way-starts l at many sound waits next = record {
@@ -60,7 +60,7 @@ way-on l₀ at l rounds l′ at′ w closed e next =
     let rest : 2 - rounds ≡ suc (2 - (rounds + 1)) = omega (arith, left) in
     record {
       sound = subst SoundLink (sym e) (opened-link-sound l wide (w .sound) (closing-covers (meaning l) (w .sound .state) wide shut));
-      many = ap (λ (x : Link). length (x .accounts)) e ∙ next-wide (meaning l) (w .sound .state) wide .accounts;
+      many = ap (λ (x : Link). length (x .round .accounts)) e ∙ next-wide (meaning l) (w .sound .state) wide .accounts;
       next = next;
       few = omega (arith, left);
       within =

@@ -32,7 +32,16 @@ use Rattle.rules.proofs.Shares.{quota-root, quota-step, quota-back, quo
 use Rattle.rules.proofs.Sums.{sum-without}
 use Rattle.rules.specs.Wide.{Wide}
 use Rattle.rules.specs.Sending.{nextLeaf}
-use Rattle.rules.proofs.Resized.{resized-surplus, resized-other, resized-length, root-most, resized-total, main-or-surplus, next-resizes, closing-covers}
+use Rattle.rules.proofs.Resized.{
+  resized-surplus,
+  resized-other,
+  resized-length,
+  root-most,
+  resized-total,
+  main-or-surplus,
+  next-resizes,
+  closing-covers,
+}
 use Rattle.rules.proofs.ByParent.{sum-by-parent}
 use Rattle.rules.proofs.Taken.{leaf-class, leaf-childless, taken-past, taken-fits, taken-waits, taken-up, taken-by-leaf, taken-off}
 use Rattle.rules.proofs.Taken.{sum-some}
@@ -194,7 +203,7 @@ module _ (s : State) (size : ℕ) (sound : Sound s) (wide : Wide s) where
           omega (
             arith,
             ap fundsOf (resized-other s size i (omega arith)),
-            total-part (s .accounts) i u,
+            total-part (s .round .accounts) i u,
             sound .adds .adds,
             sound .fits .size .most,
             size-ceiling (s .tree) (sound .fits .tree),
@@ -202,12 +211,12 @@ module _ (s : State) (size : ℕ) (sound : Sound s) (wide : Wide s) where
 
   -- the account of each class is what the rules say
   pub opened-account : (i : ℕ) → i < 64
-      → accountOf (openedWith size s .accounts) i ≡ openedAccount (nextKind s) (s .tree) (roundActive s) (resizedAccounts size s) i
+      → accountOf (openedWith size s .round .accounts) i ≡ openedAccount (nextKind s) (s .tree) (roundActive s) (resizedAccounts size s) i
   unfolding openedWith openedAccounts
   opened-account i u = table-at (openedAccount (nextKind s) (s .tree) (roundActive s) (resizedAccounts size s)) noAccount 64 i u
 
   -- all B and R add to the size that the round opens with
-  pub opened-total : Resizes s size → Covers s size → total (openedWith size s .accounts) ≡ size
+  pub opened-total : Resizes s size → Covers s size → total (openedWith size s .round .accounts) ≡ size
   unfolding openedWith
   opened-total fit covers =
       total-kept (nextKind s) (s .tree) (roundActive s) (resizedAccounts size s) (can-open fit) (taken-past s (sound .fits .tree))
@@ -222,14 +231,15 @@ module _ (s : State) (size : ℕ) (sound : Sound s) (wide : Wide s) where
   }
 
   -- an inactive class's account stays
-  pub opened-idle : (i : ℕ) → 1 ≤ i → i < 64 → has (roundActive s) i ≡ false → accountOf (openedWith size s .accounts) i ≡ accountOf (s .accounts) i
+  pub opened-idle : (i : ℕ) → 1 ≤ i → i < 64 → has (roundActive s) i ≡ false
+      → accountOf (openedWith size s .round .accounts) i ≡ accountOf (s .round .accounts) i
   opened-idle i l u off =
       opened-account i u
       ∙ idle-account (nextKind s) (s .tree) (roundActive s) (resizedAccounts size s) i l off
       ∙ resized-other s size i l
 
   -- in a surplus round the root's does too
-  pub opened-root-stays : nextKind s ≡ surplus → accountOf (openedWith size s .accounts) 0 ≡ accountOf (s .accounts) 0
+  pub opened-root-stays : nextKind s ≡ surplus → accountOf (openedWith size s .round .accounts) 0 ≡ accountOf (s .round .accounts) 0
   opened-root-stays e =
       opened-account 0 (omega arith)
       ∙ ap (λ (k : Kind). openedAccount k (s .tree) (roundActive s) (resizedAccounts size s) 0) e
@@ -238,7 +248,8 @@ module _ (s : State) (size : ℕ) (sound : Sound s) (wide : Wide s) where
 
   -- in a main round it has no residual left, and less than the weight sum of its active children
   pub opened-root-main : nextKind s ≡ main → has (roundActive s) 0 ≡ true
-      → (residualOf (openedWith size s .accounts) 0 ≡ 0) × (balanceOf (openedWith size s .accounts) 0 < weightSum (s .tree) (roundActive s) 0)
+      → (residualOf (openedWith size s .round .accounts) 0 ≡ 0)
+      × (balanceOf (openedWith size s .round .accounts) 0 < weightSum (s .tree) (roundActive s) 0)
   opened-root-main e on =
       let is =
       opened-account 0 (omega arith)
@@ -252,7 +263,8 @@ module _ (s : State) (size : ℕ) (sound : Sound s) (wide : Wide s) where
 
   -- an active inner class likewise, in both kinds of rounds
   pub opened-inner : (i : ℕ) → 1 ≤ i → Above (s .tree) i → has (roundActive s) i ≡ true
-      → (residualOf (openedWith size s .accounts) i ≡ 0) × (balanceOf (openedWith size s .accounts) i < weightSum (s .tree) (roundActive s) i)
+      → (residualOf (openedWith size s .round .accounts) i ≡ 0)
+      × (balanceOf (openedWith size s .round .accounts) i < weightSum (s .tree) (roundActive s) i)
   opened-inner i l ab on =
       let u : i < 64 = omega (arith, ab .class, few-classes (s .tree) (sound .fits .tree)) in
       let is = opened-account i u ∙ inner-account (nextKind s) (s .tree) (roundActive s) (resizedAccounts size s) i l on (ab .inner) in
@@ -262,9 +274,9 @@ module _ (s : State) (size : ℕ) (sound : Sound s) (wide : Wide s) where
 
   -- an active leaf gains its weight times its parent's quota, and has no residual
   pub opened-leaf : (i : ℕ) → isClass (s .tree) i ≡ true → isLeaf (s .tree) i ≡ true → has (roundActive s) i ≡ true
-      → (residualOf (openedWith size s .accounts) i ≡ 0)
-      × (balanceOf (openedWith size s .accounts) i
-      ≡ balanceOf (s .accounts) i + weightOf (s .tree) i * quota (nextKind s) (s .tree) (roundActive s) (resizedAccounts size s)
+      → (residualOf (openedWith size s .round .accounts) i ≡ 0)
+      × (balanceOf (openedWith size s .round .accounts) i
+      ≡ balanceOf (s .round .accounts) i + weightOf (s .tree) i * quota (nextKind s) (s .tree) (roundActive s) (resizedAccounts size s)
       (parentOf (s .tree) i))
   opened-leaf i is leaf on =
       let r = class-range (s .tree) i is in
@@ -310,7 +322,7 @@ module _ (s : State) (size : ℕ) (sound : Sound s) (wide : Wide s) where
     leaf = λ leaf. go leaf (has (roundActive s) i) refl;
   }
     where
-      go : isLeaf (s .tree) i ≡ true → (b : Bool) → has (roundActive s) i ≡ b → residualOf (openedWith size s .accounts) i ≡ 0
+      go : isLeaf (s .tree) i ≡ true → (b : Bool) → has (roundActive s) i ≡ b → residualOf (openedWith size s .round .accounts) i ≡ 0
       go leaf true on = opened-leaf i (leaf-class (s .tree) i (sound .fits .tree) u leaf) leaf on .0
       go leaf false off =
           let is = leaf-class (s .tree) i (sound .fits .tree) u leaf in
@@ -351,7 +363,8 @@ pub next-wide : (s : State) → Sound s → Wide s → Wide (opened s)
 next-wide s sound wide = opened-wide s (nextSize s) sound wide
 
 -- what the code that opens a round asks
-pub can-resize : (s : State) → Sound s → Wide s → Covers s (nextSize s) → CanResize (s .tree) (roundActive s) (s .size) (s .accounts)
+pub can-resize : (s : State) → Sound s → Wide s → Covers s (nextSize s)
+    → CanResize (s .tree) (roundActive s) (s .round .size .0) (s .round .accounts)
 unfolding nextKind nextSize resizedAccounts
 can-resize s sound wide covers =
     let fit = next-resizes s sound in
@@ -363,7 +376,7 @@ can-resize s sound wide covers =
             small =
                 λ i u. omega (
                   arith,
-                  total-part (s .accounts) i u,
+                  total-part (s .round .accounts) i u,
                   sound .adds .adds,
                   sound .fits .size .most,
                   size-ceiling (s .tree) (sound .fits .tree),

@@ -37,37 +37,41 @@ next-resizes s sound = record {
 
 module _ (s : State) (size : ℕ) where
   -- in a surplus round the accounts stay
-  pub resized-surplus : nextKind s ≡ surplus → resizedAccounts size s ≡ s .accounts
+  pub resized-surplus : nextKind s ≡ surplus → resizedAccounts size s ≡ s .round .accounts
   unfolding resizedAccounts
   resized-surplus e = rw e refl
 
   -- in a main round all but the root's
-  pub resized-main : nextKind s ≡ main → resizedAccounts size s ≡ set (s .accounts) 0 (tookSize (accountOf (s .accounts) 0) (s .size) size)
+  pub resized-main : nextKind s ≡ main → resizedAccounts size s
+      ≡ set (s .round .accounts) 0 (tookSize (accountOf (s .round .accounts) 0) (s .round .size .0) size)
   unfolding resizedAccounts
   resized-main e = rw e refl
 
-  pub resized-other : (i : ℕ) → 1 ≤ i → accountOf (resizedAccounts size s) i ≡ accountOf (s .accounts) i
+  pub resized-other : (i : ℕ) → 1 ≤ i → accountOf (resizedAccounts size s) i ≡ accountOf (s .round .accounts) i
   resized-other i l =
       main-or-surplus s
       (λ e. ap (λ (xs : List Account). accountOf xs i) (resized-main e)
-      ∙ getD-set-other (s .accounts) 0 i (tookSize (accountOf (s .accounts) 0) (s .size) size) noAccount (λ z. omega arith))
+      ∙ getD-set-other (s .round .accounts) 0 i (tookSize (accountOf (s .round .accounts) 0) (s .round .size .0) size) noAccount
+      (λ z. omega arith))
       (λ e. ap (λ (xs : List Account). accountOf xs i) (resized-surplus e))
 
-  pub resized-length : length (resizedAccounts size s) ≡ length (s .accounts)
+  pub resized-length : length (resizedAccounts size s) ≡ length (s .round .accounts)
   resized-length =
       main-or-surplus s
-      (λ e. ap length (resized-main e) ∙ length-set (s .accounts) 0 (tookSize (accountOf (s .accounts) 0) (s .size) size))
+      (λ e. ap length (resized-main e) ∙ length-set (s .round .accounts) 0
+      (tookSize (accountOf (s .round .accounts) 0) (s .round .size .0) size))
       (λ e. ap length (resized-surplus e))
 
   -- the root takes the difference
   pub resized-account : Wide s → nextKind s ≡ main
-      → accountOf (resizedAccounts size s) 0 ≡ tookSize (accountOf (s .accounts) 0) (s .size) size
+      → accountOf (resizedAccounts size s) 0 ≡ tookSize (accountOf (s .round .accounts) 0) (s .round .size .0) size
   resized-account wide e =
       ap (λ (xs : List Account). accountOf xs 0) (resized-main e)
-      ∙ getD-set-same (s .accounts) 0 (tookSize (accountOf (s .accounts) 0) (s .size) size) noAccount (omega (arith, wide .accounts))
+      ∙ getD-set-same (s .round .accounts) 0 (tookSize (accountOf (s .round .accounts) 0) (s .round .size .0) size) noAccount
+      (omega (arith, wide .accounts))
 
   pub resized-root : Wide s → nextKind s ≡ main
-      → fundsOf (accountOf (resizedAccounts size s) 0) ≡ fundsOf (accountOf (s .accounts) 0) + size - s .size
+      → fundsOf (accountOf (resizedAccounts size s) 0) ≡ fundsOf (accountOf (s .round .accounts) 0) + size - s .round .size .0
   resized-root wide e = omega (arith, ap fundsOf (resized-account wide e))
 
 module _ (s : State) (size : ℕ) (sound : Sound s) (wide : Wide s) (fit : Resizes s size) where
@@ -84,7 +88,8 @@ module _ (s : State) (size : ℕ) (sound : Sound s) (wide : Wide s) (fit : Resiz
   resized-total covers =
       main-or-surplus s
       (λ e.
-      let stored = total-set (s .accounts) 0 (tookSize (accountOf (s .accounts) 0) (s .size) size) (wide .accounts) (omega arith) in
+      let stored = total-set (s .round .accounts) 0 (tookSize (accountOf (s .round .accounts) 0) (s .round .size .0) size)
+      (wide .accounts) (omega arith) in
       ap total (resized-main s size e) ∙ omega (arith, stored, covers e, sound .adds .adds))
       (λ e. ap total (resized-surplus s size e) ∙ sound .adds .adds ∙ sym (fit .kept e))
 

@@ -43,14 +43,14 @@ pub opened-sum : (size : ℕ) (s : State) (i : ℕ)
 opened-sum size s i = ap₂ (λ (t : Tree) (active : ℕ). weightSum t active i) (opened-tree size s) (taken-same size s)
 
 opened-low : (size : ℕ) (s : State) → activeSize (s .tree) (roundActive s) ≤ size
-    → activeSize (openedWith size s .tree) (roundActive (openedWith size s)) ≤ openedWith size s .size
+    → activeSize (openedWith size s .tree) (roundActive (openedWith size s)) ≤ openedWith size s .round .size .0
 unfolding openedWith
 opened-low size s low = subst (λ (active : ℕ). activeSize (s .tree) active ≤ size) (sym (taken-same size s)) low
 
 module _ (s : State) (size : ℕ) (sound : Sound s) (wide : Wide s) where
   -- after an opening no active inner class has a surplus, so the next round is a main round
   inner-less : (i : ℕ) → isClass (s .tree) i ≡ true → isLeaf (s .tree) i ≡ false → has (roundActive s) i ≡ true
-      → fundsOf (accountOf (openedWith size s .accounts) i) < weightSum (openedWith size s .tree) (roundActive (openedWith size s)) i
+      → fundsOf (accountOf (openedWith size s .round .accounts) i) < weightSum (openedWith size s .tree) (roundActive (openedWith size s)) i
   inner-less i is inner on =
       let r = class-range (s .tree) i is in
       let h = opened-inner s size sound wide i (r .0) (record { class = r .1; inner = inner }) on in
@@ -68,7 +68,7 @@ module _ (s : State) (size : ℕ) (sound : Sound s) (wide : Wide s) where
 -- the search ends at a class, or at 64
 pub leaf-most : (s : State) → Sound s → nextLeaf s ≤ 64
 unfolding nextLeaf
-leaf-most s sound = omega (arith, first-range (ready s) (64 - s .place) (s .place) .1, sound .place .high)
+leaf-most s sound = omega (arith, first-range (ready s) (64 - s .round .place) (s .round .place) .1, sound .place .high)
 
 -- what a state has waiting, it has waiting when a round has opened
 pub opened-waits : (size : ℕ) (s : State) → Waits s → Waits (openedWith size s)
@@ -121,7 +121,7 @@ Rounds s [] after = s ≡ after
 Rounds s (turn ∷ turns) after = (nextLeaf s ≡ 64) × (turn ≡ turnOf s) × Rounds (opened s) turns after
 
 -- an opening leaves all else of a state as it was
-pub opened-same : (s : State) → opened s ≡ inRound s (opened s .size) (opened s .active) (opened s .place) (opened s .accounts)
+pub opened-same : (s : State) → opened s ≡ inRound s (opened s .round)
 unfolding openedWith
 opened-same s = refl
 
@@ -131,7 +131,7 @@ pub record Goes (s : State) : Type 0 where
   pub more : List Turn
   pub sound : Sound after
   pub wide : Wide after
-  pub same : after ≡ inRound s (after .size) (after .active) (after .place) (after .accounts)
+  pub same : after ≡ inRound s (after .round)
   pub leaf : nextLeaf after < 64
   pub few : length more ≤ 2
   pub rounds : Rounds s more after
@@ -190,7 +190,7 @@ module _ (s : State) (sound : Sound s) (wide : Wide s) where
     wide = next-wide (opened s) (next-sound s sound wide closed) (next-wide s sound wide);
     same =
         opened-same (opened s)
-        ∙ ap (λ (x : State). inRound x (after .size) (after .active) (after .place) (after .accounts)) (opened-same s);
+        ∙ ap (λ (x : State). inRound x (after .round)) (opened-same s);
     leaf = found;
     few = omega arith;
     rounds = (closed, refl, (again, refl, refl));

@@ -65,29 +65,29 @@ first-pass f p h e =
     rw (n, n′) (first-over f (64 - suc p) p e)
 
 -- a class that is no active leaf does not send
-pub ready-unset : (s : State) (k : ℕ) → (has (s .active) k && isLeaf (s .tree) k) ≡ false → ready s k ≡ false
+pub ready-unset : (s : State) (k : ℕ) → (has (s .round .active) k && isLeaf (s .tree) k) ≡ false → ready s k ≡ false
 unfolding ready
 ready-unset s k e = rw e
 
 -- an active leaf sends where its balance covers its first packet
-pub ready-is : (s : State) (k : ℕ) → (has (s .active) k && isLeaf (s .tree) k) ≡ true
-    → ready s k ≡ leb (costOf (firstOf s k .length)) (balanceOf (s .accounts) k)
+pub ready-is : (s : State) (k : ℕ) → (has (s .round .active) k && isLeaf (s .tree) k) ≡ true
+    → ready s k ≡ leb (costOf (firstOf s k .length)) (balanceOf (s .round .accounts) k)
 unfolding ready
 ready-is s k e = rw e
 
 -- in a sound link its first packet lies at its start
-pub ready-at : (l : Link) (k : ℕ) → SoundLink l → k < 64 → (has (l .active) k && isLeaf (l .tree) k) ≡ true
-    → ready (meaning l) k ≡ leb (costOf (getD (l .lengths) (slot k (startOf l k)) 0)) (balanceOf (l .accounts) k)
+pub ready-at : (l : Link) (k : ℕ) → SoundLink l → k < 64 → (has (l .round .active) k && isLeaf (l .tree) k) ≡ true
+    → ready (meaning l) k ≡ leb (costOf (getD (l .lengths) (slot k (startOf l k)) 0)) (balanceOf (l .round .accounts) k)
 ready-at l k s u e =
-    let w = both-true (has (l .active) k) (isLeaf (l .tree) k) e in
+    let w = both-true (has (l .round .active) k) (isLeaf (l .tree) k) e in
     let held : 1 ≤ heldOf l k = rw (meaning-held l k u) at (s .state .waiting k u .waits (w .1) (w .0)) in
     let start : (startOf l k + 0) % 32 ≡ startOf l k = omega (arith, s .starts k u .start) in
     ready-is (meaning l) k e
-    ∙ ap (λ (p : Waiting). leb (costOf (p .length)) (balanceOf (l .accounts) k)) (meaning-first l k u held)
-    ∙ ap (λ (n : ℕ). leb (costOf (getD (l .lengths) (slot k n) 0)) (balanceOf (l .accounts) k)) start
+    ∙ ap (λ (p : Waiting). leb (costOf (p .length)) (balanceOf (l .round .accounts) k)) (meaning-first l k u held)
+    ∙ ap (λ (n : ℕ). leb (costOf (getD (l .lengths) (slot k n) 0)) (balanceOf (l .round .accounts) k)) start
 
 -- the next class i, from a place on, of the set of the active leaves
-module _ (l : Link) (leaves p i : ℕ) (b : Both (l .active) (l .tree .leaves) leaves) (n : Next leaves p i) where
+module _ (l : Link) (leaves p i : ℕ) (b : Both (l .round .active) (l .tree .leaves) leaves) (n : Next leaves p i) where
   -- the search passes what is before it
   pub leaf-skip : firstFrom (ready (meaning l)) (64 - p) p ≡ firstFrom (ready (meaning l)) (64 - i) i
   unfolding isLeaf
@@ -96,6 +96,6 @@ module _ (l : Link) (leaves p i : ℕ) (b : Both (l .active) (l .tree .leaves) l
 
   -- and it sends where its balance covers the packet at its start
   pub leaf-ready : SoundLink l → i < 64
-      → ready (meaning l) i ≡ leb (costOf (getD (l .lengths) (slot i (startOf l i)) 0)) (balanceOf (l .accounts) i)
+      → ready (meaning l) i ≡ leb (costOf (getD (l .lengths) (slot i (startOf l i)) 0)) (balanceOf (l .round .accounts) i)
   unfolding isLeaf
   leaf-ready s u = ready-at l i s u (sym (b .both i) ∙ n .found u)

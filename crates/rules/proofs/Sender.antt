@@ -20,17 +20,18 @@ use Rattle.rules.proofs.Searches.{first-range, first-least, first-holds
 
 -- an active leaf whose balance covers its first packet, and nothing less
 pub ready-parts : (s : State) (i : ℕ) → ready s i ≡ true
-    → (has (s .active) i ≡ true) × (isLeaf (s .tree) i ≡ true) × (costOf (firstOf s i .length) ≤ balanceOf (s .accounts) i)
+    → (has (s .round .active) i ≡ true) × (isLeaf (s .tree) i ≡ true) × (costOf (firstOf s i .length) ≤ balanceOf (s .round .accounts) i)
 unfolding ready
 ready-parts s i e =
-    let w = both-true (has (s .active) i && isLeaf (s .tree) i) (leb (costOf (firstOf s i .length)) (balanceOf (s .accounts) i)) e in
-    let v = both-true (has (s .active) i) (isLeaf (s .tree) i) (w .0) in
-    (v .0, v .1, leb-true (costOf (firstOf s i .length)) (balanceOf (s .accounts) i) (w .1))
+    let w = both-true (has (s .round .active) i && isLeaf (s .tree) i)
+    (leb (costOf (firstOf s i .length)) (balanceOf (s .round .accounts) i)) e in
+    let v = both-true (has (s .round .active) i) (isLeaf (s .tree) i) (w .0) in
+    (v .0, v .1, leb-true (costOf (firstOf s i .length)) (balanceOf (s .round .accounts) i) (w .1))
 
-pub ready-lacks : (s : State) (i : ℕ) → ready s i ≡ false → has (s .active) i ≡ true → isLeaf (s .tree) i ≡ true
-    → balanceOf (s .accounts) i < costOf (firstOf s i .length)
+pub ready-lacks : (s : State) (i : ℕ) → ready s i ≡ false → has (s .round .active) i ≡ true → isLeaf (s .tree) i ≡ true
+    → balanceOf (s .round .accounts) i < costOf (firstOf s i .length)
 unfolding ready
-ready-lacks s i e a f = leb-false (costOf (firstOf s i .length)) (balanceOf (s .accounts) i) (rw (a, f) at e)
+ready-lacks s i e a f = leb-false (costOf (firstOf s i .length)) (balanceOf (s .round .accounts) i) (rw (a, f) at e)
 
 -- the class with a number is the next to send
 pub record Sender (s : State) (i : ℕ) : Type 0 where
@@ -39,16 +40,16 @@ pub record Sender (s : State) (i : ℕ) : Type 0 where
   pub low : 1 ≤ i
   pub high : i < 64
   pub leaf : isLeaf (s .tree) i ≡ true
-  pub active : has (s .active) i ≡ true
+  pub active : has (s .round .active) i ≡ true
   pub holds : 1 ≤ length (queueAt s i)
-  pub covers : costOf (firstOf s i .length) ≤ balanceOf (s .accounts) i
-  pub onward : s .place ≤ i
-  pub passed : (k : ℕ) → s .place ≤ k → k < i → ready s k ≡ false
+  pub covers : costOf (firstOf s i .length) ≤ balanceOf (s .round .accounts) i
+  pub onward : s .round .place ≤ i
+  pub passed : (k : ℕ) → s .round .place ≤ k → k < i → ready s k ≡ false
 
 -- where the search finds a leaf, its balance covers its first packet
 pub next-ready : (s : State) → Sound s → nextLeaf s < 64 → ready s (nextLeaf s) ≡ true
 unfolding nextLeaf
-next-ready s sound u = first-holds (ready s) (64 - s .place) (s .place) (omega (arith, sound .place .high))
+next-ready s sound u = first-holds (ready s) (64 - s .round .place) (s .round .place) (omega (arith, sound .place .high))
 
 pub next-sender : (s : State) → Sound s → nextLeaf s < 64 → Sender s (nextLeaf s)
 unfolding nextLeaf
@@ -62,17 +63,18 @@ next-sender s sound u = record {
   holds = sound .waiting i u .waits (parts .1) (parts .0);
   covers = parts .2;
   onward = range .0;
-  passed = λ k l v. first-least (ready s) (64 - s .place) (s .place) k l v;
+  passed = λ k l v. first-least (ready s) (64 - s .round .place) (s .round .place) k l v;
 }
   where
     i : ℕ
-    i = firstFrom (ready s) (64 - s .place) (s .place)
+    i = firstFrom (ready s) (64 - s .round .place) (s .round .place)
 
-    parts : (has (s .active) i ≡ true) × (isLeaf (s .tree) i ≡ true) × (costOf (firstOf s i .length) ≤ balanceOf (s .accounts) i)
+    parts : (has (s .round .active) i ≡ true) × (isLeaf (s .tree) i ≡ true)
+        × (costOf (firstOf s i .length) ≤ balanceOf (s .round .accounts) i)
     parts = ready-parts s i (next-ready s sound u)
 
-    range : (s .place ≤ i) × (i ≤ s .place + (64 - s .place))
-    range = first-range (ready s) (64 - s .place) (s .place)
+    range : (s .round .place ≤ i) × (i ≤ s .round .place + (64 - s .round .place))
+    range = first-range (ready s) (64 - s .round .place) (s .round .place)
 
     low : 1 ≤ i
     low = omega (arith, range .0, sound .place .low)
@@ -82,11 +84,12 @@ next-sender s sound u = record {
     last (no l) = absurd (not-true-and-false (parts .0) (sound .past .past i (omega arith)))
 
 -- every active leaf before it has a balance smaller than its first packet
-pub before-lacks : (s : State) (i : ℕ) → Sound s → Sender s i → (k : ℕ) → k < 64 → isLeaf (s .tree) k ≡ true → has (s .active) k ≡ true
+pub before-lacks : (s : State) (i : ℕ) → Sound s → Sender s i → (k : ℕ) → k < 64 → isLeaf (s .tree) k ≡ true
+    → has (s .round .active) k ≡ true
     → k < i
-    → balanceOf (s .accounts) k < costOf (firstOf s k .length)
-before-lacks s i sound is k u f a l = go (decLe (s .place) k)
+    → balanceOf (s .round .accounts) k < costOf (firstOf s k .length)
+before-lacks s i sound is k u f a l = go (decLe (s .round .place) k)
   where
-    go : Dec (s .place ≤ k) → balanceOf (s .accounts) k < costOf (firstOf s k .length)
+    go : Dec (s .round .place ≤ k) → balanceOf (s .round .accounts) k < costOf (firstOf s k .length)
     go (yes p) = ready-lacks s k (is .passed k p l) a f
     go (no p) = sound .behind k u .lacks f a (omega arith)

@@ -30,67 +30,69 @@ use Rattle.rules.proofs.TurnedOff.{BooksRight, TurnedOff, leaf-off}
 use Rattle.rules.proofs.Sender.{Sender}
 
 -- what the leaf loses the root gains: nothing is lost, and there are as many accounts
-pub paid-length : (s : State) (i : ℕ) → length (paid s i) ≡ length (s .accounts)
+pub paid-length : (s : State) (i : ℕ) → length (paid s i) ≡ length (s .round .accounts)
 unfolding paid
 paid-length s i =
     let cost = costOf (firstOf s i .length) in
-    let less = set (s .accounts) i (sentFrom (accountOf (s .accounts) i) cost) in
-    length-set less 0 (gained (accountOf less 0) cost) ∙ length-set (s .accounts) i (sentFrom (accountOf (s .accounts) i) cost)
+    let less = set (s .round .accounts) i (sentFrom (accountOf (s .round .accounts) i) cost) in
+    length-set less 0 (gained (accountOf less 0) cost) ∙ length-set (s .round .accounts) i
+    (sentFrom (accountOf (s .round .accounts) i) cost)
 
-pub paid-total : (s : State) (i : ℕ) → Wide s → i < 64 → costOf (firstOf s i .length) ≤ balanceOf (s .accounts) i
-    → total (paid s i) ≡ total (s .accounts)
+pub paid-total : (s : State) (i : ℕ) → Wide s → i < 64 → costOf (firstOf s i .length) ≤ balanceOf (s .round .accounts) i
+    → total (paid s i) ≡ total (s .round .accounts)
 unfolding paid
 paid-total s i wide u covers =
     let cost = costOf (firstOf s i .length) in
-    let out = sentFrom (accountOf (s .accounts) i) cost in
-    let less = set (s .accounts) i out in
-    let one = total-set (s .accounts) i out (wide .accounts) u in
-    let two = total-set less 0 (gained (accountOf less 0) cost) (length-set (s .accounts) i out ∙ wide .accounts) (omega arith) in
+    let out = sentFrom (accountOf (s .round .accounts) i) cost in
+    let less = set (s .round .accounts) i out in
+    let one = total-set (s .round .accounts) i out (wide .accounts) u in
+    let two = total-set less 0 (gained (accountOf less 0) cost) (length-set (s .round .accounts) i out ∙ wide .accounts) (omega arith) in
     omega (arith, one, two, covers)
 
 -- the leaf's account, the root's, and any other
 pub paid-leaf : (s : State) (i : ℕ) → Wide s → 1 ≤ i → i < 64
-    → accountOf (paid s i) i ≡ sentFrom (accountOf (s .accounts) i) (costOf (firstOf s i .length))
+    → accountOf (paid s i) i ≡ sentFrom (accountOf (s .round .accounts) i) (costOf (firstOf s i .length))
 unfolding paid
 paid-leaf s i wide l u =
     let cost = costOf (firstOf s i .length) in
-    let out = sentFrom (accountOf (s .accounts) i) cost in
-    let less = set (s .accounts) i out in
+    let out = sentFrom (accountOf (s .round .accounts) i) cost in
+    let less = set (s .round .accounts) i out in
     getD-set-other less 0 i (gained (accountOf less 0) cost) noAccount (λ z. omega arith)
-    ∙ getD-set-same (s .accounts) i out noAccount (omega (arith, wide .accounts))
+    ∙ getD-set-same (s .round .accounts) i out noAccount (omega (arith, wide .accounts))
 
 pub paid-root : (s : State) (i : ℕ) → Wide s → 1 ≤ i
-    → accountOf (paid s i) 0 ≡ gained (accountOf (s .accounts) 0) (costOf (firstOf s i .length))
+    → accountOf (paid s i) 0 ≡ gained (accountOf (s .round .accounts) 0) (costOf (firstOf s i .length))
 unfolding paid
 paid-root s i wide l =
     let cost = costOf (firstOf s i .length) in
-    let out = sentFrom (accountOf (s .accounts) i) cost in
-    let less = set (s .accounts) i out in
-    getD-set-same less 0 (gained (accountOf less 0) cost) noAccount (omega (arith, length-set (s .accounts) i out, wide .accounts))
-    ∙ ap (λ (a : Account). gained a cost) (getD-set-other (s .accounts) i 0 out noAccount (λ z. omega arith))
+    let out = sentFrom (accountOf (s .round .accounts) i) cost in
+    let less = set (s .round .accounts) i out in
+    getD-set-same less 0 (gained (accountOf less 0) cost) noAccount (omega (arith, length-set (s .round .accounts) i out, wide .accounts))
+    ∙ ap (λ (a : Account). gained a cost) (getD-set-other (s .round .accounts) i 0 out noAccount (λ z. omega arith))
 
-pub paid-other : (s : State) (i k : ℕ) → (k ≡ i → ⊥) → (k ≡ 0 → ⊥) → accountOf (paid s i) k ≡ accountOf (s .accounts) k
+pub paid-other : (s : State) (i k : ℕ) → (k ≡ i → ⊥) → (k ≡ 0 → ⊥) → accountOf (paid s i) k ≡ accountOf (s .round .accounts) k
 unfolding paid
 paid-other s i k ne nz =
     let cost = costOf (firstOf s i .length) in
-    let out = sentFrom (accountOf (s .accounts) i) cost in
-    let less = set (s .accounts) i out in
-    getD-set-other less 0 k (gained (accountOf less 0) cost) noAccount nz ∙ getD-set-other (s .accounts) i k out noAccount ne
+    let out = sentFrom (accountOf (s .round .accounts) i) cost in
+    let less = set (s .round .accounts) i out in
+    getD-set-other less 0 k (gained (accountOf less 0) cost) noAccount nz ∙ getD-set-other (s .round .accounts) i k out noAccount ne
 
 -- the total and the number of accounts after the send
-pub books-total : (s : State) (i : ℕ) → PlanRules (s .tree) → Wide s → i < 64 → costOf (firstOf s i .length) ≤ balanceOf (s .accounts) i
-    → (total (booksAfter s i .accounts) ≡ total (s .accounts)) × (length (booksAfter s i .accounts) ≡ 64)
+pub books-total : (s : State) (i : ℕ) → PlanRules (s .tree) → Wide s → i < 64
+    → costOf (firstOf s i .length) ≤ balanceOf (s .round .accounts) i
+    → (total (booksAfter s i .accounts) ≡ total (s .round .accounts)) × (length (booksAfter s i .accounts) ≡ 64)
 unfolding booksAfter
 books-total s i rules wide u covers = go (leb (length (queueAt s i)) 1)
   where
     b : Books
-    b = record { active = s .active; accounts = paid s i }
+    b = record { active = s .round .active; accounts = paid s i }
 
     many : length (paid s i) ≡ 64
     many = paid-length s i ∙ wide .accounts
 
     Kept : Books → Type 0
-    Kept r = (total (r .accounts) ≡ total (s .accounts)) × (length (r .accounts) ≡ 64)
+    Kept r = (total (r .accounts) ≡ total (s .round .accounts)) × (length (r .accounts) ≡ 64)
 
     go : (x : Bool) → Kept (cond x (turnsOff 63 (s .tree) i b) b)
     go true =
@@ -99,9 +101,9 @@ books-total s i rules wide u covers = go (leb (length (queueAt s i)) 1)
     go false = (paid-total s i wide u covers, many)
 
 -- in a sound state a class above is active exactly when a child of it is
-pub sound-by-child : (s : State) → Sound s → ByChild (s .tree) (s .active)
+pub sound-by-child : (s : State) → Sound s → ByChild (s .tree) (s .round .active)
 sound-by-child s sound =
-    leaf-to-child (s .tree) (s .active) (sound .fits .tree)
+    leaf-to-child (s .tree) (s .round .active) (sound .fits .tree)
     (record {
       has-leaf = λ i ab. sound .above i (omega (arith, ab .class, few-classes (s .tree) (sound .fits .tree))) .leaf-below ab;
       from-leaf = λ i ab. sound .above i (omega (arith, ab .class, few-classes (s .tree) (sound .fits .tree))) .active ab;
@@ -116,19 +118,19 @@ pub record SentBooks (s : State) (i : ℕ) (r : Books) : Type 0 where
   pub right : BooksRight (s .tree) r
   pub by-child : ByChild (s .tree) (r .active)
   pub more : has (r .active) i ≡ true → 2 ≤ length (queueAt s i)
-  pub leaves : (k : ℕ) → isLeaf (s .tree) k ≡ true → (k ≡ i → ⊥) → has (r .active) k ≡ has (s .active) k
-  pub accounts : (k : ℕ) → isLeaf (s .tree) k ≡ true → (k ≡ i → ⊥) → accountOf (r .accounts) k ≡ accountOf (s .accounts) k
+  pub leaves : (k : ℕ) → isLeaf (s .tree) k ≡ true → (k ≡ i → ⊥) → has (r .active) k ≡ has (s .round .active) k
+  pub accounts : (k : ℕ) → isLeaf (s .tree) k ≡ true → (k ≡ i → ⊥) → accountOf (r .accounts) k ≡ accountOf (s .round .accounts) k
 
 module _ (s : State) (i : ℕ) (sound : Sound s) (wide : Wide s) (is : Sender s i) where
   -- paying keeps what soundness says of the books
-  paid-right : BooksRight (s .tree) (record { active = s .active; accounts = paid s i })
+  paid-right : BooksRight (s .tree) (record { active = s .round .active; accounts = paid s i })
   paid-right = record {
     many = paid-length s i ∙ wide .accounts;
     word = sound .past .word;
     past = sound .past .past;
     empty =
         λ k l u a.
-        let same = paid-other s i k (λ e. not-true-and-false (is .active) (ap (has (s .active)) (sym e) ∙ a)) (λ z. omega arith) in
+        let same = paid-other s i k (λ e. not-true-and-false (is .active) (ap (has (s .round .active)) (sym e) ∙ a)) (λ z. omega arith) in
         ap fundsOf same ∙ omega (arith, sound .zero k u .balance l a, sound .zero k u .residual l a);
     leaf = λ k u f. leaf k u f (ℕ-discrete k i);
   }
@@ -142,7 +144,7 @@ module _ (s : State) (i : ℕ) (sound : Sound s) (wide : Wide s) (is : Sender s 
           ap (λ (a : Account). a .residual .0) (paid-other s i k ne (root-no-leaf (s .tree) (sound .fits .tree) k f))
           ∙ sound .zero k u .leaf f
 
-  paid-leaves : (k : ℕ) → isLeaf (s .tree) k ≡ true → (k ≡ i → ⊥) → accountOf (paid s i) k ≡ accountOf (s .accounts) k
+  paid-leaves : (k : ℕ) → isLeaf (s .tree) k ≡ true → (k ≡ i → ⊥) → accountOf (paid s i) k ≡ accountOf (s .round .accounts) k
   paid-leaves k f ne = paid-other s i k ne (root-no-leaf (s .tree) (sound .fits .tree) k f)
 
   -- and so does turning inactive where the packet was the leaf's last
@@ -151,9 +153,9 @@ module _ (s : State) (i : ℕ) (sound : Sound s) (wide : Wide s) (is : Sender s 
   sent-books = go (leb (length (queueAt s i)) 1) refl
     where
       b : Books
-      b = record { active = s .active; accounts = paid s i }
+      b = record { active = s .round .active; accounts = paid s i }
 
-      by : ByChild (s .tree) (s .active)
+      by : ByChild (s .tree) (s .round .active)
       by = sound-by-child s sound
 
       o : TurnedOff (s .tree) i b (turnsOff 63 (s .tree) i b)

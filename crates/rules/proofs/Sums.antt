@@ -61,7 +61,9 @@ sum-without t active p none =
 
 -- what the classes above class k add to the weight sum of class p
 abbrev pub sumAbove : Tree → ℕ → ℕ → ℕ → Weight
-sumAbove t active k p = record { 0 = sumTo (ofChild t (activeWeight t active) p) (t .count) - sumTo (ofChild t (activeWeight t active) p) k }
+sumAbove t active k p = record {
+  0 = sumTo (ofChild t (activeWeight t active) p) (t .count) - sumTo (ofChild t (activeWeight t active) p) k;
+}
 
 module _ (t : Tree) (active : ℕ) where
   -- the table of them is the sums of a pass downward, and the only one
@@ -71,7 +73,8 @@ module _ (t : Tree) (active : ℕ) where
     at = λ p u. ap (λ (w : Weight). w .0) (table-at (sumAbove t active k) noWeight 64 p u);
   }
 
-  sums-table : (sums : List Weight) (k : ℕ) → SumsAbove (t .count) 64 (ofChild t (activeWeight t active)) sums k → sums ≡ table (sumAbove t active k) 64
+  sums-table : (sums : List Weight) (k : ℕ) → SumsAbove (t .count) 64 (ofChild t (activeWeight t active)) sums k → sums ≡ table
+      (sumAbove t active k) 64
   sums-table sums k s =
       ext-getD noWeight sums (table (sumAbove t active k) 64) (s .many ∙ sym (table-length (sumAbove t active k) 64))
       (λ p m.
@@ -106,7 +109,8 @@ module _ (t : Tree) (active : ℕ) where
         sums-table _ (i - 1)
         (sums-more (t .count) 64 (ofChild t (activeWeight t active)) (table (sumAbove t active i) 64) i (parentOf t i) (cond (has active i)
         (weightOf t i) 0) x
-        (table-sums i) l m low (child-own t (activeWeight t active) i ∙ active-is t active i) (λ k ne. child-other t (activeWeight t active) i k ne) e)
+        (table-sums i) l m low (child-own t (activeWeight t active) i ∙ active-is t active i)
+        (λ k ne. child-other t (activeWeight t active) i k ne) e)
 
     -- which fits its number
     pub sums-fit : Light t → getD (table (sumAbove t active i) 64) (parentOf t i) noWeight .0 + weightOf t i < 2 ^ 32

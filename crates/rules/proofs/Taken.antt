@@ -179,13 +179,14 @@ module _ (s : State) (rules : PlanRules (s .tree)) where
       omega (arith, within, same, weight-range (s .tree) (c .child′) (rules .each .weights (c .child′) (c .class)) .0)
 
 -- the active set only grows at an opening: an active leaf holds a packet
-pub taken-grows : (s : State) → Sound s → (i : ℕ) → has (s .active) i ≡ true → has (roundActive s) i ≡ true
+pub taken-grows : (s : State) → Sound s → (i : ℕ) → has (s .round .active) i ≡ true → has (roundActive s) i ≡ true
 taken-grows s sound i e = go (decLe i (s .tree .count)) (isLeaf (s .tree) i) refl
   where
     rules : PlanRules (s .tree)
     rules = sound .fits .tree
 
-    leaf-in : (k : ℕ) → isClass (s .tree) k ≡ true → isLeaf (s .tree) k ≡ true → has (s .active) k ≡ true → has (roundActive s) k ≡ true
+    leaf-in : (k : ℕ) → isClass (s .tree) k ≡ true → isLeaf (s .tree) k ≡ true → has (s .round .active) k ≡ true
+        → has (roundActive s) k ≡ true
     leaf-in k is leaf on =
         waits-taken s rules k is leaf
         (sound .waiting k (omega (arith, class-range (s .tree) k is .1, few-classes (s .tree) rules)) .waits leaf on)
@@ -205,10 +206,10 @@ taken-grows s sound i e = go (decLe i (s .tree .count)) (isLeaf (s .tree) i) ref
         })
 
 -- so who is not active in it was not active before
-pub taken-off : (s : State) → Sound s → (i : ℕ) → has (roundActive s) i ≡ false → has (s .active) i ≡ false
-taken-off s sound i off = go (has (s .active) i) refl
+pub taken-off : (s : State) → Sound s → (i : ℕ) → has (roundActive s) i ≡ false → has (s .round .active) i ≡ false
+taken-off s sound i off = go (has (s .round .active) i) refl
   where
-    go : (b : Bool) → has (s .active) i ≡ b → b ≡ false
+    go : (b : Bool) → has (s .round .active) i ≡ b → b ≡ false
     go true on = absurd (not-true-and-false (taken-grows s sound i on) off)
     go false e = refl
 

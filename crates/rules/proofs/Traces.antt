@@ -32,11 +32,11 @@ first-and-rest [] h = absurd (omega arith)
 first-and-rest (p ∷ q) h = refl
 
 -- every class number keeps an account through a whole send
-pub trace-wide : (s : State) → Sound s → Wide s → Waits s → length (traceOf s .state .accounts) ≡ 64
+pub trace-wide : (s : State) → Sound s → Wide s → Waits s → length (traceOf s .state .round .accounts) ≡ 64
 unfolding traceOf
 trace-wide s sound wide waits =
     let g = two-rounds s sound wide waits in
-    ap (λ (x : Trace). length (x .state .accounts)) (g .gives 62 []) ∙ sent-wide (g .after) (g .sound) (g .wide) (g .leaf) .accounts
+    ap (λ (x : Trace). length (x .state .round .accounts)) (g .gives 62 []) ∙ sent-wide (g .after) (g .sound) (g .wide) (g .leaf) .accounts
 
 module _ (l : Link) (shape : Shaped l) (sound : SoundLink l) (waits : someWaits (meaning l) ≡ true) where
   -- how the send goes
@@ -69,7 +69,7 @@ module _ (l : Link) (shape : Shaped l) (sound : SoundLink l) (waits : someWaits 
   unfolding last
   last-shaped =
       let s = goes .after in
-      shaped-in l (s .size) (s .active) (s .place) (s .accounts) shape (goes .wide .accounts)
+      shaped-in l (s .round) shape (goes .wide .accounts)
 
   last-next : SendsNext last leaf
   unfolding last leaf

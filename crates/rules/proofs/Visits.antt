@@ -66,6 +66,6 @@ visits-from (suc n) s place h few =
         later u ∙ sym (passed ∙ first-pass (ready s) i u (by-cover s i (active u) ∙ f))
 
 -- step 1, told either way
-pub visits-next : (s : State) → s .place ≤ 64 → visits 64 s (s .place) ≡ nextLeaf s
+pub visits-next : (s : State) → s .round .place ≤ 64 → visits 64 s (s .round .place) ≡ nextLeaf s
 unfolding nextLeaf
-visits-next s h = visits-from 64 s (s .place) h (omega arith)
+visits-next s h = visits-from 64 s (s .round .place) h (omega arith)

@@ -12,7 +12,7 @@ use Rattle.tree.specs.Class.{parentOf, weightOf}
 use Rattle.state.specs.declared.Account.{Account}
 use Rattle.state.specs.Account.{account, accountOf, fundsOf, noAccount}
 use Rattle.tree.specs.Sum.{table}
-use Rattle.state.specs.State.{State, inRound}
+use Rattle.state.specs.State.{State, roundOf, inRound}
 use Rattle.tree.proofs.Tables.{table-same}
 use Rattle.sound.specs.Sound.{Sound}
 use Rattle.rules.specs.Active.{roundActive, weightSum}
@@ -44,39 +44,39 @@ module _ (t : Tree) (active : ℕ) (xs ys : List Account) (same : (i : ℕ) → 
 
 module _ (s : State) (sound : Sound s) (wide : Wide s) (rule : s .tree .follows ≡ false) where
   -- the size stays
-  pub size-stays : nextSize s ≡ s .size
+  pub size-stays : nextSize s ≡ s .round .size .0
   size-stays = next-resizes s sound .right .whole rule ∙ sym (sound .fits .size .whole rule)
 
   module _ (kind : nextKind s ≡ main) where
-    root-is : accountOf (resizedAccounts (nextSize s) s) 0 ≡ account (fundsOf (accountOf (s .accounts) 0)) 0
+    root-is : accountOf (resizedAccounts (nextSize s) s) 0 ≡ account (fundsOf (accountOf (s .round .accounts) 0)) 0
     root-is =
         resized-account s (nextSize s) wide kind ∙ ap (λ (n : ℕ). account n 0) (omega (arith, size-stays))
 
-    holds-same : (i : ℕ) → fundsOf (accountOf (resizedAccounts (nextSize s) s) i) ≡ fundsOf (accountOf (s .accounts) i)
+    holds-same : (i : ℕ) → fundsOf (accountOf (resizedAccounts (nextSize s) s) i) ≡ fundsOf (accountOf (s .round .accounts) i)
     holds-same zero = omega (arith, ap fundsOf root-is)
     holds-same (suc i) = ap fundsOf (resized-other s (nextSize s) (suc i) (omega arith))
 
     each-same : (i : ℕ) → openedAccount main (s .tree) (roundActive s) (resizedAccounts (nextSize s) s) i
-        ≡ openedAccount main (s .tree) (roundActive s) (s .accounts) i
+        ≡ openedAccount main (s .tree) (roundActive s) (s .round .accounts) i
     unfolding openedAccount
     each-same zero =
         ap₂ (λ (n q : ℕ). account (n - weightSum (s .tree) (roundActive s) 0 * q) 0)
         (omega (arith, ap fundsOf root-is))
-        (root-same (s .tree) (roundActive s) (resizedAccounts (nextSize s) s) (s .accounts) holds-same)
+        (root-same (s .tree) (roundActive s) (resizedAccounts (nextSize s) s) (s .round .accounts) holds-same)
     each-same (suc i) =
-        other-same (s .tree) (roundActive s) (resizedAccounts (nextSize s) s) (s .accounts) holds-same (suc i) (omega arith)
+        other-same (s .tree) (roundActive s) (resizedAccounts (nextSize s) s) (s .round .accounts) holds-same (suc i) (omega arith)
         (resized-other s (nextSize s) (suc i) (omega arith))
 
   -- so under rule 1 the accounts are shared out as they are
   accounts-same : openedAccounts (nextKind s) (s .tree) (roundActive s) (resizedAccounts (nextSize s) s)
-      ≡ openedAccounts (nextKind s) (s .tree) (roundActive s) (s .accounts)
+      ≡ openedAccounts (nextKind s) (s .tree) (roundActive s) (s .round .accounts)
   unfolding openedAccounts
   accounts-same =
       main-or-surplus s
       (λ e. rw e (table-same _ _ 64 (λ i u. each-same e i)))
       (λ e. ap (openedAccounts (nextKind s) (s .tree) (roundActive s)) (resized-surplus s (nextSize s) e))
 
-  pub rule-1-as-before : opened s ≡ inRound s (s .size) (roundActive s) 1
-      (openedAccounts (nextKind s) (s .tree) (roundActive s) (s .accounts))
+  pub rule-1-as-before : opened s ≡ inRound s
+      (roundOf (s .round .size .0) (roundActive s) 1 (openedAccounts (nextKind s) (s .tree) (roundActive s) (s .round .accounts)))
   unfolding openedWith
-  rule-1-as-before = ap₂ (λ (n : ℕ) (xs : List Account). inRound s n (roundActive s) 1 xs) size-stays accounts-same
+  rule-1-as-before = ap₂ (λ (n : ℕ) (xs : List Account). inRound s (roundOf n (roundActive s) 1 xs)) size-stays accounts-same

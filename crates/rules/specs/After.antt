@@ -10,7 +10,7 @@ use Rattle.rules.specs.Sending.{sentState, Trace}
 
 -- the link in another state that has the same tree and queues
 abbrev pub linkIn : Link → State → Link
-linkIn l s = linkInRound l (s .size) (s .active) (s .place) (s .accounts)
+linkIn l s = linkInRound l (s .round)
 
 -- the link when a round has opened
 abbrev pub openedLink : Link → Link

@@ -13,7 +13,7 @@ use Rattle.tree.specs.Size.{SizeRight}
 use Rattle.tree.specs.Sum.{someTo, table}
 use Rattle.state.specs.declared.Account.{Account}
 use Rattle.state.specs.Account.{accountOf, fundsOf, tookSize, tookQuota, handedDown}
-use Rattle.state.specs.State.{State, inRound}
+use Rattle.state.specs.State.{State, roundOf, inRound}
 use Rattle.rules.specs.Active.{roundActive, weightSum}
 use Rattle.rules.specs.Sizes.{activeSize, mainSize}
 
@@ -105,20 +105,20 @@ openedAccounts kind t active accounts = table (openedAccount kind t active accou
 
 -- the kind of the round that opens on a state (R125)
 unfoldable pub nextKind : State → Kind
-nextKind s = kindOf (s .tree) (roundActive s) (s .accounts)
+nextKind s = kindOf (s .tree) (roundActive s) (s .round .accounts)
 
 -- the size in force when it has opened (R229)
 unfoldable pub nextSize : State → ℕ
-nextSize s = sizeIn (nextKind s) (s .tree) (roundActive s) (s .size)
+nextSize s = sizeIn (nextKind s) (s .tree) (roundActive s) (s .round .size .0)
 
 -- the accounts that it shares out with this size in force (R230)
 unfoldable pub resizedAccounts : ℕ → State → List Account
-resizedAccounts size s = resized (nextKind s) (s .size) size (s .accounts)
+resizedAccounts size s = resized (nextKind s) (s .round .size .0) size (s .round .accounts)
 
 -- the state when the round has opened with this size in force: the place becomes 1 (R133, R134, R229)
 unfoldable pub openedWith : ℕ → State → State
 openedWith size s =
-    inRound s size (roundActive s) 1 (openedAccounts (nextKind s) (s .tree) (roundActive s) (resizedAccounts size s))
+    inRound s (roundOf size (roundActive s) 1 (openedAccounts (nextKind s) (s .tree) (roundActive s) (resizedAccounts size s)))
 
 -- and with the size that the tree's rule gives (R133, R134)
 abbrev pub opened : State → State
@@ -129,8 +129,8 @@ opened s = openedWith (nextSize s) s
 pub record Resizes (s : State) (size : ℕ) : Type 0 where
   pub right : SizeRight (s .tree) size
   pub low : nextKind s ≡ main → activeSize (s .tree) (roundActive s) ≤ size
-  pub kept : nextKind s ≡ surplus → size ≡ s .size
+  pub kept : nextKind s ≡ surplus → size ≡ s .round .size .0
 
 -- the root can take the difference: B + R + new is not below old (at every closing, `never-below`, proofs/Resized) (R231)
 abbrev pub Covers : State → ℕ → Type 0
-Covers s size = nextKind s ≡ main → s .size ≤ fundsOf (accountOf (s .accounts) 0) + size
+Covers s size = nextKind s ≡ main → s .round .size .0 ≤ fundsOf (accountOf (s .round .accounts) 0) + size

@@ -13,7 +13,7 @@ use Rattle.state.specs.declared.Account.{Account}
 use Rattle.state.specs.declared.Waiting.{Waiting}
 use Rattle.state.specs.Account.{accountOf, balanceOf, fundsOf, sentFrom, gained, returned, received}
 use Rattle.state.specs.Queue.{noPacket}
-use Rattle.state.specs.State.{State, queueAt, withQueue, withCharge, inRound}
+use Rattle.state.specs.State.{State, queueAt, withQueue, withCharge, roundOf, inRound}
 use Rattle.rules.specs.Active.{activeChild, roundActive}
 use Rattle.rules.specs.Opening.{Kind, nextKind, nextSize, resizedAccounts, quota, opened}
 
@@ -23,7 +23,7 @@ firstOf s i = getD (queueAt s i) 0 noPacket
 
 -- class i is an active leaf whose balance covers its first packet (R16, R136)
 unfoldable pub ready : State → ℕ → Bool
-ready s i = has (s .active) i && isLeaf (s .tree) i && leb (costOf (firstOf s i .length)) (balanceOf (s .accounts) i)
+ready s i = has (s .round .active) i && isLeaf (s .tree) i && leb (costOf (firstOf s i .length)) (balanceOf (s .round .accounts) i)
 
 -- the first of the n numbers from p on for which f holds, or the number after them (R135)
 unfoldable pub firstFrom : (ℕ → Bool) → ℕ → ℕ → ℕ
@@ -32,15 +32,15 @@ firstFrom f (suc n) p = elim (f p) [ true ↦ p | false ↦ firstFrom f n (suc p
 
 -- step 1: the lowest-numbered active leaf not below the place whose balance covers its first packet; 64 where the round has closed (R136)
 unfoldable pub nextLeaf : State → ℕ
-nextLeaf s = firstFrom (ready s) (64 - s .place) (s .place)
+nextLeaf s = firstFrom (ready s) (64 - s .round .place) (s .round .place)
 
 -- class i is an active leaf (R135)
 unfoldable pub activeLeaf : State → ℕ → Bool
-activeLeaf s i = has (s .active) i && isLeaf (s .tree) i
+activeLeaf s i = has (s .round .active) i && isLeaf (s .tree) i
 
 -- its balance covers its first packet (R16, R136)
 unfoldable pub covers : State → ℕ → Bool
-covers s i = leb (costOf (firstOf s i .length)) (balanceOf (s .accounts) i)
+covers s i = leb (costOf (firstOf s i .length)) (balanceOf (s .round .accounts) i)
 
 -- the same step visit by visit from a place on: find the lowest-numbered active leaf not below the place. If its balance covers its first
 -- packet, it sends. Otherwise the place becomes the leaf plus 1 and the search goes on. n is as many visits as there can be (R135, R137;
@@ -88,19 +88,19 @@ paidBy accounts i cost =
 
 -- it pays for its first packet (R16, R138)
 unfoldable pub paid : State → ℕ → List Account
-paid s i = paidBy (s .accounts) i (costOf (firstOf s i .length))
+paid s i = paidBy (s .round .accounts) i (costOf (firstOf s i .length))
 
 -- the books when leaf i has sent its first packet: if that was its last, the leaf turns inactive at once (R140)
 unfoldable pub booksAfter : State → ℕ → Books
 booksAfter s i =
-    let b : Books = record { active = s .active; accounts = paid s i } in
+    let b : Books = record { active = s .round .active; accounts = paid s i } in
     cond (leb (length (queueAt s i)) 1) (turnsOff 63 (s .tree) i b) b
 
 -- leaf i sends its first packet, and the place becomes that leaf (R139); the packet's charge joins the running total (R310)
 unfoldable pub sentState : State → ℕ → State
 sentState s i =
     let b = booksAfter s i in
-    let went = inRound s (s .size) (b .active) i (b .accounts) in
+    let went = inRound s (roundOf (s .round .size .0) (b .active) i (b .accounts)) in
     withQueue (withCharge went (costOf (firstOf s i .length))) i (drop 1 (queueAt s i))
 
 -- the state in which a round closed, and the round that opened in its place: its kind, the size in force, the quotas, and the accounts
@@ -118,7 +118,7 @@ turnOf s = record {
   kind = nextKind s;
   size = nextSize s;
   quotas = quota (nextKind s) (s .tree) (roundActive s) (resizedAccounts (nextSize s) s);
-  after = opened s .accounts;
+  after = opened s .round .accounts;
 }
 
 -- the trace of a send: the rounds closed and opened in the call, then the packet (R146)

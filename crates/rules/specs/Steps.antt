@@ -21,8 +21,8 @@ use Rattle.rules.specs.Sending.{nextLeaf, Turn, sends, traceOf}
 use Rattle.rules.specs.Within.{Within}
 use Rattle.rules.specs.After.{linkIn}
 
--- accounts on which a round can open: a plan's tree, no class holds more than the ceiling of Q, the parent of an active class is active, and
--- no number past the last class is
+-- accounts on which a round can open: a plan's tree, no class holds more than the ceiling of Q, the parent of an active class is active,
+-- and no number past the last class is
 pub record CanOpen (t : Tree) (active : ℕ) (accounts : List Account) : Type 0 where
   pub rules : PlanRules t
   pub many : length accounts ≡ 64
@@ -55,7 +55,7 @@ pub record SendsNext (l : Link) (i : ℕ) : Type 0 where
 -- link l is link l₀ after some rounds have opened; leaf `at` is found in it, or 64
 pub record OnTheWay (l₀ : Link) (at : ℕ) (l : Link) (rounds : ℕ) : Type 0 where
   pub sound : SoundLink l
-  pub many : length (l .accounts) ≡ 64
+  pub many : length (l .round .accounts) ≡ 64
   pub next : at ≡ nextLeaf (meaning l)
   pub few : rounds ≤ 2
   pub within : Within (2 - rounds) (meaning l)

@@ -4,5 +4,5 @@ use lib.ListN.{length}
 use Rattle.state.specs.State.{State}
 
 pub record Wide (s : State) : Type 0 where
-  pub accounts : length (s .accounts) ≡ 64
+  pub accounts : length (s .round .accounts) ≡ 64
   pub queues : length (s .queues) ≡ 64

@@ -212,7 +212,8 @@ lines-begin input = ap (λ (rest : List Line). beginOf input .line ∷ rest) (go
     go false = refl
 
 -- what a program prints is the line of its first step and, where the run goes on, the lines from there
-pub lines-first : (input : List ℕ) → programLines input ≡ programBegins input .line ∷ following (programBegins input .link) input (programBegins input .place)
+pub lines-first : (input : List ℕ) → programLines input ≡ programBegins input .line ∷ following (programBegins input .link) input
+    (programBegins input .place)
     (programBegins input .more)
 unfolding programLines programBegins following
 lines-first input = go (firstBroken (inputChecks (length input)))

@@ -134,7 +134,7 @@ fn linked(read: PlanRead) -> Step
     let tree = read.tree;
     let made = link::fresh(tree);
     let link = made.link;
-    let size = link.size;
+    let size = link.round.size;
     let line = Line::Link(tree.count as u64, size.0);
     Step {
         line,

@@ -1,2 +1,3 @@
 -- A tree as numbers that can be lent.
 pub mod Shape
+pub mod Steps

@@ -4,7 +4,11 @@ mod back;
 mod size;
 
 pub use back::tree_of;
+pub use size::PlanSize;
+pub use size::is_plan;
 pub use size::plan_size;
+pub use size::plan_size_at;
+pub use size::round_size;
 ghost use mathlib.Core.Path.{_≡_};
 ghost use Prim.Native.Nat.{_<_};
 ghost use Rattle.tree.specs.Class.{parentOf, weightOf, longestOf};

@@ -1,4 +1,5 @@
-// The plan rules decided for the numbers of any shape whatever, and with them the round size. Named for specs/Size of the tree.
+// The plan rules decided for the numbers of any shape whatever, and with them the round size; so of any tree, over its shape. Named for
+// specs/Size of the tree.
 // Serves demand 1 (numbers 3 to 9) and demand 3 (Q).
 ghost use mathlib.Core.Path.{_≡_};
 ghost use mathlib.Core.Bool.{true, false};
@@ -7,16 +8,17 @@ ghost use Rattle.checks.specs.Check.{Exactly};
 ghost use Rattle.tree.specs.declared.Tree.{Tree};
 ghost use Rattle.tree.specs.Class.{parentOf, weightOf, longestOf, isLeaf};
 ghost use Rattle.tree.specs.Rules.{badParent, badWeight, badLongest};
-ghost use Rattle.tree.specs.Size.{allWeights, allLongest, longestCost};
-ghost use Rattle.tree.specs.Steps.{Sizes, Numbers, NumberUnset, RestUnset, InnerRight, ClassObeys, ClassesObey};
+ghost use Rattle.tree.specs.Rules.{PlanRules};
+ghost use Rattle.tree.specs.Size.{roundSize, allWeights, allLongest, longestCost};
+ghost use Rattle.shape.specs.Steps.{Sizes, Numbers, NumberUnset, RestUnset, InnerRight, ClassObeys, ClassesObey};
 ghost use Rattle.shape.specs.Shape.{treeIn, Families};
 use crate::COUNT;
 use crate::LEAVES;
 use crate::LONGEST;
 use crate::WEIGHTS;
-use tree::PlanSize;
 use tree::Tree;
 use units::Bytes;
+use units::Weight;
 
 // What a walk over the classes gives: whether all are right, and if so all weights and what all leaves' longest packets cost.
 pub struct Walked {
@@ -29,6 +31,12 @@ pub struct Walked {
 pub struct ClassJudged {
     pub right: bool,
     pub cost: u64,
+}
+
+// Whether a tree obeys the plan rules, and if so its round size, otherwise 0.
+pub struct PlanSize {
+    pub right: bool,
+    pub size: Bytes,
 }
 
 // Number 4: parent not lower than the class, or a leaf.
@@ -219,7 +227,7 @@ fn no_size() -> PlanSize
 }
 
 // Whether a shape, any numbers whatever, obeys the plan rules, and then its round size and the sets of children of its class numbers.
-pub fn plan_size(shape: &[u64; 195], children: &mut [u64; 64]) -> PlanSize
+pub fn plan_size_at(shape: &[u64; 195], children: &mut [u64; 64]) -> PlanSize
     ensures { λ r. ⌜ Sizes (treeIn (now (shape .entry))) r
         × (r .right ≡ true → Families (treeIn (now (shape .entry))) (now (children .exit))) ⌝ }
 {
@@ -237,6 +245,33 @@ pub fn plan_size(shape: &[u64; 195], children: &mut [u64; 64]) -> PlanSize
     if !walked.right {
         return no_size();
     }
-    let size = Bytes(walked.weights + walked.packets);
+    let weights = Weight(walked.weights as u32);
+    let packets = Bytes(walked.packets);
+    let size = units::size(weights, packets);
     PlanSize { right: true, size }
+}
+
+// Whether a tree, any tree whatever, obeys the plan rules, and then its round size.
+pub fn plan_size(tree: Tree) -> PlanSize
+    ensures { λ r. ⌜ Sizes tree r ⌝ }
+{
+    let shape = crate::shape_of(tree);
+    let mut children = [0u64; 64];
+    plan_size_at(&shape, &mut children)
+}
+
+// Whether a tree, any tree whatever, obeys the plan rules.
+pub fn is_plan(tree: Tree) -> bool
+    ensures { λ r. ⌜ Exactly r (PlanRules tree) ⌝ }
+{
+    plan_size(tree).right
+}
+
+// The round size Q.
+pub fn round_size(tree: Tree) -> Bytes
+    requires { ⌜ PlanRules tree ⌝ }
+    ensures { λ r. ⌜ r .0 ≡ roundSize tree ⌝ }
+{
+    let judged = plan_size(tree);
+    judged.size
 }

@@ -31,35 +31,35 @@ module _
   leaf-here : isLeaf (s .tree) k ≡ true
   leaf-here = ap (λ (x : Tree). isLeaf x k) tree ∙ leaf
 
-  turn-closes : balanceOf (turn .closed .accounts) k ≡ balanceOf (s .accounts) k
+  turn-closes : balanceOf (turn .closed .round .accounts) k ≡ balanceOf (s .round .accounts) k
   unfolding turnOf
-  turn-closes = ap (λ (x : Turn). balanceOf (x .closed .accounts) k) (c .is)
+  turn-closes = ap (λ (x : Turn). balanceOf (x .closed .round .accounts) k) (c .is)
 
-  turn-short : balanceOf (turn .closed .accounts) k < costOf (longestOf t k)
+  turn-short : balanceOf (turn .closed .round .accounts) k < costOf (longestOf t k)
   turn-short =
       let short = closing-short s k (c .sound) leaf-here (c .ends) in
       omega (arith, short, turn-closes, ap (λ (x : Tree). costOf (longestOf x k)) tree)
 
-  turn-takes : 1 ≤ length (queueAt s k) → has (opened s .active) k ≡ true
+  turn-takes : 1 ≤ length (queueAt s k) → has (opened s .round .active) k ≡ true
   turn-takes held = opening-takes s k (c .sound) leaf-here held
 
   turn-gains : 1 ≤ length (queueAt s k)
-      → balanceOf (opened s .accounts) k ≡ balanceOf (turn .closed .accounts) k + weightOf t k * turn .quotas (parentOf t k)
+      → balanceOf (opened s .round .accounts) k ≡ balanceOf (turn .closed .round .accounts) k + weightOf t k * turn .quotas (parentOf t k)
   turn-gains held =
       opening-gains s k (c .sound) leaf-here (c .wide) held
-      ∙ ap₂ (λ (x : Tree) (u : Turn). balanceOf (s .accounts) k + weightOf x k * u .quotas (parentOf x k)) tree (sym (c .is))
+      ∙ ap₂ (λ (x : Tree) (u : Turn). balanceOf (s .round .accounts) k + weightOf x k * u .quotas (parentOf x k)) tree (sym (c .is))
       ∙ ap (λ (b : ℕ). b + weightOf t k * turn .quotas (parentOf t k)) (sym turn-closes)
 
   -- a leaf that is in the round that closes does
-  in-round : has (s .active) k ≡ true → 1 ≤ length (queueAt s k)
+  in-round : has (s .round .active) k ≡ true → 1 ≤ length (queueAt s k)
   in-round on = c .sound .waiting k (leaf-number (s .tree) k (c .sound .fits .tree) leaf-here) .waits leaf-here on
 
 -- from a moment in a round that leaf k is in, to a closing
 from-within : (between : List Moment) (t : Tree) (k : ℕ) (s : State) (second : Turn) (after : List Moment) → s .tree ≡ t
     → isLeaf t k ≡ true
-    → Steps k s (between ++ (closed second ∷ after)) → has (s .active) k ≡ true → Holding k between
-    → balanceOf (second .closed .accounts) k + chargesOf k between
-    ≡ balanceOf (s .accounts) k + weightOf t k * quotasOf (parentOf t k) (closedIn between)
+    → Steps k s (between ++ (closed second ∷ after)) → has (s .round .active) k ≡ true → Holding k between
+    → balanceOf (second .closed .round .accounts) k + chargesOf k between
+    ≡ balanceOf (s .round .accounts) k + weightOf t k * quotasOf (parentOf t k) (closedIn between)
 unfolding Steps Holding closedIn chargesOf quotasOf
 from-within [] t k s second after tree leaf steps on held =
     omega (arith, turn-closes t k s second after tree leaf (steps .0), mul-zero (weightOf t k))
@@ -113,19 +113,20 @@ module _
   upto = steps-later (closed (c .first) ∷ c .between) k (from .0) _ (from .2)
 
   -- at a closing a leaf has less than its longest packet costs
-  pub first-short : balanceOf (c .first .closed .accounts) k < costOf (longestOf (l .tree) k)
+  pub first-short : balanceOf (c .first .closed .round .accounts) k < costOf (longestOf (l .tree) k)
   unfolding Steps
   first-short = turn-short (l .tree) k (from .0) (c .first) _ (from .1) leaf (from .2 .0)
 
-  pub second-short : balanceOf (c .second .closed .accounts) k < costOf (longestOf (l .tree) k)
+  pub second-short : balanceOf (c .second .closed .round .accounts) k < costOf (longestOf (l .tree) k)
   unfolding Steps
   second-short = turn-short (l .tree) k (upto .0) (c .second) _ (upto .1 ∙ from .1) leaf (upto .2 .0)
 
   -- what it has at the second, and was charged between, is what it had at the first, and its weight times its parent's quota in each round
   -- that opened between
   pub leaf-law : 1 ≤ length (madeIn (c .between)) → Holding k (c .between)
-      → balanceOf (c .second .closed .accounts) k + chargesOf k (c .between)
-      ≡ balanceOf (c .first .closed .accounts) k + weightOf (l .tree) k * quotasOf (parentOf (l .tree) k) (c .first ∷ closedIn (c .between))
+      → balanceOf (c .second .closed .round .accounts) k + chargesOf k (c .between)
+      ≡ balanceOf (c .first .closed .round .accounts) k + weightOf (l .tree) k * quotasOf (parentOf (l .tree) k)
+      (c .first ∷ closedIn (c .between))
   unfolding Steps quotasOf
   leaf-law some held =
       let t = l .tree in

@@ -31,7 +31,7 @@ use Rattle.rules.proofs.Taken.{leaf-class, waits-taken}
 -- ---- a round closes and another opens
 
 -- the classes that are active then are those of the new round
-pub opened-active : (s : State) → opened s .active ≡ roundActive s
+pub opened-active : (s : State) → opened s .round .active ≡ roundActive s
 unfolding openedWith
 opened-active s = refl
 
@@ -40,19 +40,20 @@ module _ (s : State) (k : ℕ) (sound : Sound s) (leaf : isLeaf (s .tree) k ≡ 
   class = leaf-class (s .tree) k (sound .fits .tree) (leaf-number (s .tree) k (sound .fits .tree) leaf) leaf
 
   -- when a round has closed a leaf has less than its longest packet costs
-  pub closing-short : nextLeaf s ≡ 64 → balanceOf (s .accounts) k < costOf (longestOf (s .tree) k)
+  pub closing-short : nextLeaf s ≡ 64 → balanceOf (s .round .accounts) k < costOf (longestOf (s .tree) k)
   unfolding longestCost
   closing-short ends =
       let short = leaf-short s sound ends k class leaf in
       omega (arith, rw leaf at short)
 
   -- one that holds a packet is in the round that opens
-  pub opening-takes : 1 ≤ length (queueAt s k) → has (opened s .active) k ≡ true
+  pub opening-takes : 1 ≤ length (queueAt s k) → has (opened s .round .active) k ≡ true
   opening-takes held = ap (λ (a : ℕ). has a k) (opened-active s) ∙ waits-taken s (sound .fits .tree) k class leaf held
 
   -- and gains its weight times its parent's quota
   pub opening-gains : Wide s → 1 ≤ length (queueAt s k)
-      → balanceOf (opened s .accounts) k ≡ balanceOf (s .accounts) k + weightOf (s .tree) k * turnOf s .quotas (parentOf (s .tree) k)
+      → balanceOf (opened s .round .accounts) k ≡ balanceOf (s .round .accounts) k + weightOf (s .tree) k * turnOf s .quotas
+      (parentOf (s .tree) k)
   unfolding turnOf
   opening-gains wide held = opened-leaf s (nextSize s) sound wide k class leaf (waits-taken s (sound .fits .tree) k class leaf held) .1
 
@@ -79,7 +80,7 @@ module _ (s : State) (n k : ℕ) (sound : Sound s) (wide : Wide s) (is : Sender 
       go (no ne) = omega (arith, more, ap length (sent-other s n k ne))
 
   -- and stays in its round
-  pub sending-stays : 1 ≤ length (queueAt (sentState s n) k) → has (s .active) k ≡ true → has (sentState s n .active) k ≡ true
+  pub sending-stays : 1 ≤ length (queueAt (sentState s n) k) → has (s .round .active) k ≡ true → has (sentState s n .round .active) k ≡ true
   unfolding sentState booksAfter
   sending-stays more on = go (ℕ-discrete k n)
     where
@@ -89,17 +90,18 @@ module _ (s : State) (n k : ℕ) (sound : Sound s) (wide : Wide s) (is : Sender 
 
   -- the one that sends pays for its packet, any other keeps its balance
   pub sending-pays : 1 ≤ length (queueAt (sentState s n) k)
-      → balanceOf (sentState s n .accounts) k + cond (eqb n k) (costOf (firstOf s n .length)) 0 ≡ balanceOf (s .accounts) k
+      → balanceOf (sentState s n .round .accounts) k + cond (eqb n k) (costOf (firstOf s n .length)) 0 ≡ balanceOf (s .round .accounts) k
   unfolding sentState booksAfter
   sending-pays more = go (ℕ-discrete k n)
     where
-      own : 1 < length (queueAt s n) → balanceOf (booksAfter s n .accounts) n + costOf (firstOf s n .length) ≡ balanceOf (s .accounts) n
+      own : 1 < length (queueAt s n) → balanceOf (booksAfter s n .accounts) n + costOf (firstOf s n .length)
+          ≡ balanceOf (s .round .accounts) n
       own many =
           rw (lt-leb (length (queueAt s n)) 1 many)
           (omega (arith, ap (λ (a : Account). a .balance .0) (paid-leaf s n wide (is .low) (is .high)), is .covers))
 
       go : Dec (k ≡ n)
-          → balanceOf (booksAfter s n .accounts) k + cond (eqb n k) (costOf (firstOf s n .length)) 0 ≡ balanceOf (s .accounts) k
+          → balanceOf (booksAfter s n .accounts) k + cond (eqb n k) (costOf (firstOf s n .length)) 0 ≡ balanceOf (s .round .accounts) k
       go (yes e) = rw (e, eq-eqb n n refl) (own (two e more))
       go (no ne) =
           let same = ap (λ (a : Account). a .balance .0) (sent-books s n sound wide is .accounts k leaf ne) in

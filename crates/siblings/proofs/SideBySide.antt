@@ -1,8 +1,8 @@
 -- Two siblings, side by side (R255). Take two leaves i and j of one parent and two moments of a run at which a round has closed, both
 -- leaves holding a packet at every moment between: the charges sent by i times j's weight and those sent by j times i's weight differ by
--- at most w_j × (L_i − 1) + w_i × (L_j − 1). It speaks of the library: of any run of its calls, under either size rule, whatever the other classes
--- do. Nothing is asked of the link that the run starts from: where a round has closed it was sound. Of a round's opening only this is used,
--- that a leaf which holds a packet gains its weight times its parent's quota, so how large the round is plays no part. Demand 2.
+-- at most w_j × (L_i − 1) + w_i × (L_j − 1). It speaks of the library: of any run of its calls, under either size rule, whatever the other
+-- classes do. Nothing is asked of the link that the run starts from: where a round has closed it was sound. Of a round's opening only this
+-- is used, that a leaf which holds a packet gains its weight times its parent's quota, so how large the round is plays no part. Demand 2.
 use mathlib.Core.List.{List, [], _∷_}
 use mathlib.Core.Path.{_≡_, refl, sym, ap, subst, _∙_}
 use Prim.Native.Nat.{ℕ, _+_, _*_, _-_, _≤_, _<_}
@@ -75,15 +75,15 @@ module _
   -- where calls were made between: the two have the same quotas
   some-apart : 1 ≤ length (madeIn (c .between)) → apart (l .tree) i j (c .between) ≤ mostApart (l .tree) i j
   some-apart some =
-      close (balanceOf (c .first .closed .accounts) i) (balanceOf (c .first .closed .accounts) j)
-      (balanceOf (c .second .closed .accounts) i) (balanceOf (c .second .closed .accounts) j) (chargesOf i (c .between))
+      close (balanceOf (c .first .closed .round .accounts) i) (balanceOf (c .first .closed .round .accounts) j)
+      (balanceOf (c .second .closed .round .accounts) i) (balanceOf (c .second .closed .round .accounts) j) (chargesOf i (c .between))
       (chargesOf j (c .between)) (weightOf (l .tree) i) (weightOf (l .tree) j)
       (quotasOf (parentOf (l .tree) i) (c .first ∷ closedIn (c .between))) (costOf (longestOf (l .tree) i))
       (costOf (longestOf (l .tree) j))
       (leaf-law l run i sound is (s .leaf) c some held)
       (subst
-      (λ (p : ℕ). balanceOf (c .second .closed .accounts) j + chargesOf j (c .between)
-      ≡ balanceOf (c .first .closed .accounts) j + weightOf (l .tree) j * quotasOf p (c .first ∷ closedIn (c .between)))
+      (λ (p : ℕ). balanceOf (c .second .closed .round .accounts) j + chargesOf j (c .between)
+      ≡ balanceOf (c .first .closed .round .accounts) j + weightOf (l .tree) j * quotasOf p (c .first ∷ closedIn (c .between)))
       (s .parent) (leaf-law l run j sound is (s .other) c some held′))
       (first-short l run i sound is (s .leaf) c)
       (second-short l run i sound is (s .leaf) c)

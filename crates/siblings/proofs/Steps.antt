@@ -62,9 +62,9 @@ pub record Closes (k : ℕ) (s : State) (turn : Turn) (later : List Moment) : Ty
 -- a call is made on a state: where class k still holds a packet it stays in its round, and its balance falls by what it is charged
 pub record Charges (k : ℕ) (s : State) (m : Made) : Type 0 where
   pub tree : linkLeft m .tree ≡ s .tree
-  pub stays : has (s .active) k ≡ true → 1 ≤ heldOf (linkLeft m) k → has (linkLeft m .active) k ≡ true
-  pub pays : has (s .active) k ≡ true → 1 ≤ heldOf (linkLeft m) k
-      → balanceOf (linkLeft m .accounts) k + chargeOf k m ≡ balanceOf (s .accounts) k
+  pub stays : has (s .round .active) k ≡ true → 1 ≤ heldOf (linkLeft m) k → has (linkLeft m .round .active) k ≡ true
+  pub pays : has (s .round .active) k ≡ true → 1 ≤ heldOf (linkLeft m) k
+      → balanceOf (linkLeft m .round .accounts) k + chargeOf k m ≡ balanceOf (s .round .accounts) k
 
 -- these moments follow on a state
 unfoldable pub Steps : ℕ → State → List Moment → Type 0
@@ -87,8 +87,8 @@ steps-later (called m ∷ before) k s later steps =
 -- ---- one call
 
 -- a call that leaves the active set and the accounts as they were and charges nothing
-none-charged : (k : ℕ) (s : State) (m : Made) → linkLeft m .tree ≡ s .tree → linkLeft m .active ≡ s .active
-    → linkLeft m .accounts ≡ s .accounts → chargeOf k m ≡ 0 → Charges k s m
+none-charged : (k : ℕ) (s : State) (m : Made) → linkLeft m .tree ≡ s .tree → linkLeft m .round .active ≡ s .round .active
+    → linkLeft m .round .accounts ≡ s .round .accounts → chargeOf k m ≡ 0 → Charges k s m
 none-charged k s m tree active accounts none = record {
   tree = tree;
   stays = λ on held. ap (λ (a : ℕ). has a k) active ∙ on;
@@ -105,12 +105,12 @@ arrival-charges k l i p a sound x = go (refused-or-passed (firstBroken (arrivalC
         → Charges k (meaning l) (made (arrival i p) (a .answer) (a .link))
     go (inl e) =
         let same = left-taken l i p a sound x e in
-        none-charged k (meaning l) _ (ap (λ (s : State). s .tree) same) (ap (λ (s : State). s .active) same)
-        (ap (λ (s : State). s .accounts) same) refl
+        none-charged k (meaning l) _ (ap (λ (s : State). s .tree) same) (ap (λ (s : State). s .round .active) same)
+        (ap (λ (s : State). s .round .accounts) same) refl
     go (inr r) =
         let same = left-refused l i p a sound x (r .2) in
-        none-charged k (meaning l) _ (ap (λ (m : Link). m .tree) same) (ap (λ (m : Link). m .active) same)
-        (ap (λ (m : Link). m .accounts) same) refl
+        none-charged k (meaning l) _ (ap (λ (m : Link). m .tree) same) (ap (λ (m : Link). m .round .active) same)
+        (ap (λ (m : Link). m .round .accounts) same) refl
 
 -- the leaf that is found sends its first packet
 module _
@@ -138,11 +138,11 @@ module _
     tree = ap (λ (t : State). t .tree) means;
     stays =
         λ on held.
-        ap (λ (t : State). has (t .active) k) means ∙ sending-stays s (nextLeaf s) k sound wide sender leaf (still held) on;
+        ap (λ (t : State). has (t .round .active) k) means ∙ sending-stays s (nextLeaf s) k sound wide sender leaf (still held) on;
     pays =
         λ on held.
         let charge = ap (λ (d : Departure). cond (passed (d .verdict) && eqb (d .class) k) (costOf (d .length)) 0) is in
-        let left = ap (λ (t : State). balanceOf (t .accounts) k) means in
+        let left = ap (λ (t : State). balanceOf (t .round .accounts) k) means in
         omega (arith, charge, left, sending-pays s (nextLeaf s) k sound wide sender leaf (still held));
   }
 
@@ -213,8 +213,9 @@ module _
   refused-steps none =
       subst (λ (turns : List Turn). Steps k (meaning l) (map closed turns ++ (called this ∷ later)))
       (sym (ap (λ (d : AfterSend). turnsBy (d .answer .verdict) l) this-is)) (
-        none-charged k (meaning l) this (ap (λ (d : AfterSend). d .link .tree) this-is) (ap (λ (d : AfterSend). d .link .active) this-is)
-            (ap (λ (d : AfterSend). d .link .accounts) this-is)
+        none-charged k (meaning l) this (ap (λ (d : AfterSend). d .link .tree) this-is)
+            (ap (λ (d : AfterSend). d .link .round .active) this-is)
+            (ap (λ (d : AfterSend). d .link .round .accounts) this-is)
             (ap (λ (d : AfterSend). cond (passed (d .answer .verdict) && eqb (d .answer .class) k) (costOf (d .answer .length)) 0) this-is),
         steps,
       )

@@ -34,35 +34,35 @@ use Rattle.sound.proofs.Totals.{total-part}
 module _ (l : Link) (rules : PlanRules (l .tree)) where
   -- the parents of the active classes after class i
   abbrev after : ℕ → ℕ
-  after i = parentsAfter (l .tree) (l .active) i
+  after i = parentsAfter (l .tree) (l .round .active) i
 
   -- no number past the last class is active
   NoneActive : Type 0
-  NoneActive = (i : ℕ) → l .tree .count < i → has (l .active) i ≡ false
+  NoneActive = (i : ℕ) → l .tree .count < i → has (l .round .active) i ≡ false
 
   -- class i is among them exactly when a child of it is active
-  after-child : NoneActive → (i : ℕ) → i < 64 → has (after i) i ≡ true → ActiveChild (l .tree) (l .active) i
+  after-child : NoneActive → (i : ℕ) → i < 64 → has (after i) i ≡ true → ActiveChild (l .tree) (l .round .active) i
   unfolding NoneActive
   after-child none i u h =
-      let w = parents-only (l .tree) (l .active) (63 - i) i h in
+      let w = parents-only (l .tree) (l .round .active) (63 - i) i h in
       go (w .0) (omega (arith, w .1)) (w .3) (w .4) (decLe (w .0) (l .tree .count))
     where
-      go : (k : ℕ) → 1 ≤ k → has (l .active) k ≡ true → parentOf (l .tree) k ≡ i → Dec (k ≤ l .tree .count)
-          → ActiveChild (l .tree) (l .active) i
+      go : (k : ℕ) → 1 ≤ k → has (l .round .active) k ≡ true → parentOf (l .tree) k ≡ i → Dec (k ≤ l .tree .count)
+          → ActiveChild (l .tree) (l .round .active) i
       go k low a p (yes m) = record { child′ = k; class = class-in (l .tree) k low m; parent = p; is-active = a }
       go k low a p (no m) = absurd (not-true-and-false a (none k (omega arith)))
 
-  pub child-after : (i : ℕ) → ActiveChild (l .tree) (l .active) i → has (after i) i ≡ true
+  pub child-after : (i : ℕ) → ActiveChild (l .tree) (l .round .active) i → has (after i) i ≡ true
   child-after i c =
       let k = c .child′ in
       let range = class-range (l .tree) k (c .class) in
       let low : i < k = omega (arith, parent-lower (l .tree) k rules (c .class), c .parent) in
       let few : k < 64 = omega (arith, range .1, few-classes (l .tree) rules) in
-      ap (has (after i)) (sym (c .parent)) ∙ parents-in (l .tree) (l .active) (63 - i) k (omega (arith, low, few)) few (c .is-active)
+      ap (has (after i)) (sym (c .parent)) ∙ parents-in (l .tree) (l .round .active) (63 - i) k (omega (arith, low, few)) few (c .is-active)
 
   -- by the numbers, a class above is active exactly when a child of it is
-  by-child : NoneActive → ((i : ℕ) → i < 64 → isLeaf (l .tree) i ≡ false → has (l .active) i ≡ has (after i) i)
-      → ByChild (l .tree) (l .active)
+  by-child : NoneActive → ((i : ℕ) → i < 64 → isLeaf (l .tree) i ≡ false → has (l .round .active) i ≡ has (after i) i)
+      → ByChild (l .tree) (l .round .active)
   by-child none same = record {
     has-child = λ i ab a. let u = number i ab in after-child none i u (sym (same i u (ab .inner)) ∙ a);
     from-child = λ i ab c. same i (number i ab) (ab .inner) ∙ child-after i c;
@@ -72,14 +72,14 @@ module _ (l : Link) (rules : PlanRules (l .tree)) where
       number i ab = omega (arith, ab .class, few-classes (l .tree) rules)
 
   -- and the other way
-  by-numbers : NoneActive → ByChild (l .tree) (l .active) → (i : ℕ) → i ≤ l .tree .count → isLeaf (l .tree) i ≡ false
-      → has (l .active) i ≡ has (after i) i
-  by-numbers none by i u f = go (has (l .active) i) (has (after i) i) refl refl
+  by-numbers : NoneActive → ByChild (l .tree) (l .round .active) → (i : ℕ) → i ≤ l .tree .count → isLeaf (l .tree) i ≡ false
+      → has (l .round .active) i ≡ has (after i) i
+  by-numbers none by i u f = go (has (l .round .active) i) (has (after i) i) refl refl
     where
       ab : Above (l .tree) i
       ab = record { class = u; inner = f }
 
-      go : (x y : Bool) → has (l .active) i ≡ x → has (after i) i ≡ y → x ≡ y
+      go : (x y : Bool) → has (l .round .active) i ≡ x → has (after i) i ≡ y → x ≡ y
       go true true a p = refl
       go false false a p = refl
       go true false a p = absurd (not-true-and-false (child-after i (by .has-child i ab a)) p)
@@ -94,7 +94,7 @@ module _ (l : Link) (rules : PlanRules (l .tree)) where
       go : (b : Bool) → has (after i) i ≡ b → has (after i) i ≡ false
       go false p = p
       go true p =
-          let w = parents-only (l .tree) (l .active) (63 - i) i p in
+          let w = parents-only (l .tree) (l .round .active) (63 - i) i p in
           absurd (omega (
             arith,
             rules .unset .at (w .0) (w .2) .past (class-past (l .tree) (w .0) (omega (arith, w .1))) .parent,
@@ -118,12 +118,13 @@ module _ (l : Link) (rules : PlanRules (l .tree)) where
   packet-is : (i j : ℕ) → i < 64 → j < heldOf l i → getD (queueAt (meaning l) i) j noPacket ≡ packetAt l i j
   packet-is i j u h = ap (λ (q : List Waiting). getD q j noPacket) (meaning-queue l i u) ∙ queue-at l i j h
 
-  pub right-to-sound : SizeRight (l .tree) (l .size .0) → PlaceRight (meaning l) → l .active < 2 ^ 64 → ClassesRight l
+  pub right-to-sound : SizeRight (l .tree) (l .round .size .0) → PlaceRight (meaning l) → l .round .active < 2 ^ 64 → ClassesRight l
       → SoundLink l
   unfolding viewOf NoneActive
   right-to-sound size place word right =
       let view : (i : ℕ) → i < 64 → ViewRight (viewOf l i) = λ i u. right .at i u .view in
-      let by = child-to-leaf (l .tree) (l .active) rules (by-child (λ i h. none i h (decLt i 64)) (λ i u f. view i u .other f .above)) in
+      let by = child-to-leaf (l .tree) (l .round .active) rules
+      (by-child (λ i h. none i h (decLt i 64)) (λ i u f. view i u .other f .above)) in
       record {
         state =
             record {
@@ -157,17 +158,17 @@ module _ (l : Link) (rules : PlanRules (l .tree)) where
         starts = λ i u. record { start = view i u .start };
       }
     where
-      none : (i : ℕ) → l .tree .count < i → Dec (i < 64) → has (l .active) i ≡ false
+      none : (i : ℕ) → l .tree .count < i → Dec (i < 64) → has (l .round .active) i ≡ false
       none i h (yes u) = right .at i u .view .other (past-leaf i u h) .above ∙ past-parent i u h
-      none i h (no u) = has-past (l .active) i word (omega arith)
+      none i h (no u) = has-past (l .round .active) i word (omega arith)
 
-      balance : (i : ℕ) (u : i < 64) → 1 ≤ i → has (l .active) i ≡ false → (b : Bool) → isLeaf (l .tree) i ≡ b → balanceOf
-          (l .accounts) i ≡ 0
+      balance : (i : ℕ) (u : i < 64) → 1 ≤ i → has (l .round .active) i ≡ false → (b : Bool) → isLeaf (l .tree) i ≡ b → balanceOf
+          (l .round .accounts) i ≡ 0
       balance i u p a true f = right .at i u .view .leaf f .balance a
       balance i u p a false f = right .at i u .view .other f .balance p a
 
-      residual : (i : ℕ) (u : i < 64) → 1 ≤ i → has (l .active) i ≡ false → (b : Bool) → isLeaf (l .tree) i ≡ b → residualOf
-          (l .accounts) i ≡ 0
+      residual : (i : ℕ) (u : i < 64) → 1 ≤ i → has (l .round .active) i ≡ false → (b : Bool) → isLeaf (l .tree) i ≡ b → residualOf
+          (l .round .accounts) i ≡ 0
       residual i u p a true f = right .at i u .view .leaf f .residual
       residual i u p a false f = right .at i u .view .other f .residual p a
 
@@ -180,9 +181,9 @@ module _ (l : Link) (rules : PlanRules (l .tree)) where
       st : Sound (meaning l)
       st = s .state
 
-      by : ByChild (l .tree) (l .active)
+      by : ByChild (l .tree) (l .round .active)
       by =
-          leaf-to-child (l .tree) (l .active) rules
+          leaf-to-child (l .tree) (l .round .active) rules
           (record {
             has-leaf = λ i ab. st .above i (omega (arith, ab .class, few-classes (l .tree) rules)) .leaf-below ab;
             from-leaf = λ i ab. st .above i (omega (arith, ab .class, few-classes (l .tree) rules)) .active ab;
@@ -191,7 +192,7 @@ module _ (l : Link) (rules : PlanRules (l .tree)) where
       range : (i : ℕ) (u : i < 64) → isLeaf (l .tree) i ≡ true → (j : ℕ) → j < heldOf l i → InRange (l .tree) i (packetAt l i j)
       range i u f j h = rw (packet-is i j u h) at (st .holds i u .range f j (rw (meaning-held l i u) h))
 
-      same : (i : ℕ) → i < 64 → isLeaf (l .tree) i ≡ false → Dec (i ≤ l .tree .count) → has (l .active) i ≡ has (after i) i
+      same : (i : ℕ) → i < 64 → isLeaf (l .tree) i ≡ false → Dec (i ≤ l .tree .count) → has (l .round .active) i ≡ has (after i) i
       same i u f (yes m) = by-numbers (st .past .past) by i m f
       same i u f (no m) = st .past .past i (omega arith) ∙ sym (past-parent i u (omega arith))
 
@@ -200,8 +201,8 @@ module _ (l : Link) (rules : PlanRules (l .tree)) where
         view =
             record {
               start = s .starts i u .start;
-              balance = omega (arith, total-part (l .accounts) i u, st .adds .adds);
-              residual = omega (arith, total-part (l .accounts) i u, st .adds .adds);
+              balance = omega (arith, total-part (l .round .accounts) i u, st .adds .adds);
+              residual = omega (arith, total-part (l .round .accounts) i u, st .adds .adds);
               leaf = λ f. record {
                 few = rw (meaning-held l i u) at (st .holds i u .few f);
                 packets = totals-packets l rules (st .totals) i u .leaf f;

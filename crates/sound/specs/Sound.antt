@@ -22,7 +22,7 @@ use Rattle.tree.specs.Below.{Below, Above}
 -- its tree obeys the plan rules, and its size is one that may be in force (R101, R102)
 pub record TreeFits (s : State) : Type 0 where
   pub tree : PlanRules (s .tree)
-  pub size : SizeRight (s .tree) (s .size)
+  pub size : SizeRight (s .tree) (s .round .size .0)
 
 -- a packet is within the range of class i (R17, R104)
 pub record InRange (t : Tree) (i : ℕ) (p : Waiting) : Type 0 where
@@ -37,7 +37,7 @@ pub record HoldsRight (s : State) (i : ℕ) : Type 0 where
 
 -- active leaves hold a packet (R106)
 pub record ActiveHolds (s : State) (i : ℕ) : Type 0 where
-  pub waits : isLeaf (s .tree) i ≡ true → has (s .active) i ≡ true → 1 ≤ length (queueAt s i)
+  pub waits : isLeaf (s .tree) i ≡ true → has (s .round .active) i ≡ true → 1 ≤ length (queueAt s i)
 
 -- any start kept for a queue is 0 to 31 (R107)
 pub record StartRight (l : Link) (i : ℕ) : Type 0 where
@@ -45,8 +45,8 @@ pub record StartRight (l : Link) (i : ℕ) : Type 0 where
 
 -- no number past the last class is active, nor any that has no place in a 64-bit number (R108)
 pub record NonePast (s : State) : Type 0 where
-  pub word : s .active < 2 ^ 64
-  pub past : (i : ℕ) → s .tree .count < i → has (s .active) i ≡ false
+  pub word : s .round .active < 2 ^ 64
+  pub past : (i : ℕ) → s .tree .count < i → has (s .round .active) i ≡ false
 
 -- an active leaf is below class i (R109)
 pub record ActiveLeafBelow (t : Tree) (active i : ℕ) : Type 0 where
@@ -57,15 +57,15 @@ pub record ActiveLeafBelow (t : Tree) (active i : ℕ) : Type 0 where
 
 -- a class above is active exactly when an active leaf is below it (R109)
 pub record AboveActive (s : State) (i : ℕ) : Type 0 where
-  pub leaf-below : Above (s .tree) i → has (s .active) i ≡ true → ActiveLeafBelow (s .tree) (s .active) i
-  pub active : Above (s .tree) i → ActiveLeafBelow (s .tree) (s .active) i → has (s .active) i ≡ true
+  pub leaf-below : Above (s .tree) i → has (s .round .active) i ≡ true → ActiveLeafBelow (s .tree) (s .round .active) i
+  pub active : Above (s .tree) i → ActiveLeafBelow (s .tree) (s .round .active) i → has (s .round .active) i ≡ true
 
 -- every inactive class except the root has B = R = 0, and leaves have R = 0; so have numbers past the last class, which are never active
 -- (R35, R110, R111)
 pub record ZeroWhere (s : State) (i : ℕ) : Type 0 where
-  pub balance : 1 ≤ i → has (s .active) i ≡ false → balanceOf (s .accounts) i ≡ 0
-  pub residual : 1 ≤ i → has (s .active) i ≡ false → residualOf (s .accounts) i ≡ 0
-  pub leaf : isLeaf (s .tree) i ≡ true → residualOf (s .accounts) i ≡ 0
+  pub balance : 1 ≤ i → has (s .round .active) i ≡ false → balanceOf (s .round .accounts) i ≡ 0
+  pub residual : 1 ≤ i → has (s .round .active) i ≡ false → residualOf (s .round .accounts) i ≡ 0
+  pub leaf : isLeaf (s .tree) i ≡ true → residualOf (s .round .accounts) i ≡ 0
 
 -- all B and R, of the root and of the classes 1 to 63 (R112)
 unfoldable pub total : List Account → ℕ
@@ -73,17 +73,17 @@ total xs = fundsOf (accountOf xs 0) + sumTo (λ i. fundsOf (accountOf xs i)) 63
 
 -- all B and R add to the size in force (R112)
 pub record AddsUp (s : State) : Type 0 where
-  pub adds : total (s .accounts) ≡ s .size
+  pub adds : total (s .round .accounts) ≡ s .round .size .0
 
 -- the place is 1 to 64 (R113)
 pub record PlaceRight (s : State) : Type 0 where
-  pub low : 1 ≤ s .place
-  pub high : s .place ≤ 64
+  pub low : 1 ≤ s .round .place
+  pub high : s .round .place ≤ 64
 
 -- every active leaf numbered below the place has a balance smaller than its first packet (R16, R114)
 pub record BehindPlace (s : State) (i : ℕ) : Type 0 where
-  pub lacks : isLeaf (s .tree) i ≡ true → has (s .active) i ≡ true → i < s .place
-      → balanceOf (s .accounts) i < costOf (getD (queueAt s i) 0 noPacket .length)
+  pub lacks : isLeaf (s .tree) i ≡ true → has (s .round .active) i ≡ true → i < s .round .place
+      → balanceOf (s .round .accounts) i < costOf (getD (queueAt s i) 0 noPacket .length)
 
 -- a state is sound when all of this holds, and its totals are right (R115, R278)
 pub record Sound (s : State) : Type 0 where

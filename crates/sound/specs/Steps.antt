@@ -16,7 +16,7 @@ use Rattle.state.specs.declared.Link.{Link}
 use Rattle.shape.specs.Shape.{treeIn}
 use Rattle.state.specs.Account.{accountOf, zipAccounts}
 use Rattle.state.specs.Queue.{startOf, heldOf, slot}
-use Rattle.state.specs.State.{linkOf}
+use Rattle.state.specs.State.{linkOf, roundOf}
 use Rattle.sound.specs.declared.View.{View}
 use Rattle.sound.specs.Sound.{total}
 
@@ -44,15 +44,15 @@ bytesOf l i = getD (l .totals .bytes) i 0
 unfoldable pub viewOf : Link → ℕ → View
 viewOf l i = record {
   class = i;
-  place = l .place;
-  size = l .size;
+  place = l .round .place;
+  size = l .round .size;
   leaf = isLeaf (l .tree) i;
-  active = has (l .active) i;
-  child = has (parentsAfter (l .tree) (l .active) i) i;
+  active = has (l .round .active) i;
+  child = has (parentsAfter (l .tree) (l .round .active) i) i;
   start = startOf l i;
   held = heldOf l i;
   first = getD (l .lengths) (slot i (startOf l i % 32)) 0;
-  account = accountOf (l .accounts) i;
+  account = accountOf (l .round .accounts) i;
   packets = packetsOf l i;
   bytes = bytesOf l i;
   waiting = addedAfter (l .tree) (packetsOf l) i i;
@@ -127,10 +127,10 @@ pub record ClassRight (v : View) (lengths : List ℕ) (longest : ℕ) : Type 0 w
 -- every class of a link is, and all B and R add to the size
 pub record ClassesRight (l : Link) : Type 0 where
   pub at : (i : ℕ) → i < 64 → ClassRight (viewOf l i) (l .lengths) (longestOf (l .tree) i)
-  pub adds : total (l .accounts) ≡ l .size .0
+  pub adds : total (l .round .accounts) ≡ l .round .size .0
 
 -- the link that lent numbers make up
 abbrev pub linkIn : List ℕ → Bytes → ℕ → ℕ → List ℕ → List ℕ → List ℕ → List ℕ → List ℕ → List ℕ → List ℕ → List ℕ → List ℕ → ℕ → Link
 linkIn shape size active place balance residual start held lengths tags marks packets bytes charged =
-    linkOf (treeIn shape) size active place (zipAccounts balance residual) start held lengths tags marks
-    (record { packets = packets; bytes = bytes; charged = charged })
+    linkOf (treeIn shape) lengths tags marks start held (record { packets = packets; bytes = bytes; charged = charged })
+    (roundOf (size .0) active place (zipAccounts balance residual))

@@ -12,13 +12,14 @@ ghost use Rattle.checks.specs.Check.{Exactly};
 ghost use Rattle.tree.specs.Rules.{PlanRules};
 ghost use Rattle.shape.specs.Shape.{treeIn, Families};
 ghost use Rattle.state.specs.Account.{zipAccounts};
-ghost use Rattle.state.specs.State.{linkOf};
+ghost use Rattle.state.specs.State.{linkOf, roundOf};
 ghost use Rattle.sound.specs.Sound.{SoundLink};
 ghost use Rattle.sound.specs.Steps.{LeafRight, OtherRight, ViewRight, ClassRight};
 ghost use Rattle.sound.specs.Steps.{linkIn, ClassesRight, SizeWithin};
 use queue::queue_right;
 use state::Account;
 use state::Link;
+use state::Round;
 use state::Totals;
 use state::lent_accounts::account_of;
 use state::lent_accounts::balances;
@@ -235,14 +236,14 @@ pub fn is_sound_at(
     children: &mut [u64; 64],
 ) -> bool
     ensures { λ r. ⌜ ((tags marks : List ℕ) (charged : ℕ)
-        → Exactly r (SoundLink (linkOf (treeIn (now (shape .entry))) size active place
-        (zipAccounts (now (balance .entry)) (now (residual .entry))) (now (start .entry)) (now (held .entry)) (now (lengths .entry)) tags
-        marks (record { packets = now (packets .entry); bytes = now (bytes .entry); charged = charged })))) ⌝ }
+        → Exactly r (SoundLink (linkOf (treeIn (now (shape .entry))) (now (lengths .entry)) tags marks (now (start .entry))
+        (now (held .entry)) (record { packets = now (packets .entry); bytes = now (bytes .entry); charged = charged })
+        (roundOf (size .0) active place (zipAccounts (now (balance .entry)) (now (residual .entry))))))) ⌝ }
     ensures { λ r. ⌜ (r ≡ true → Families (treeIn (now (shape .entry))) (now (children .exit))) ⌝ }
 {
     let balances = lent_64(balance);
     let residuals = lent_64(residual);
-    let plan = shape::plan_size(shape, children);
+    let plan = shape::plan_size_at(shape, children);
     if !plan.right {
         return false;
     }
@@ -275,19 +276,18 @@ pub fn is_sound_at(
 // Whether the link that these fields make up is sound; its tags and its marks have no say.
 pub fn is_sound_of(
     tree: Tree,
-    size: Bytes,
-    active: u64,
-    place: usize,
-    accounts: [Account; Link::CLASSES],
     start: [u8; Link::CLASSES],
     held: [u8; Link::CLASSES],
-    lengths: &[u16; 2048],
     totals: Totals,
+    round: Round,
+    lengths: &[u16; 2048],
 ) -> bool
     ensures { λ r. ⌜ ((tags marks : List ℕ)
-        → Exactly r (SoundLink (linkOf tree size active place accounts start held (now (lengths .entry)) tags marks totals))) ⌝ }
+        → Exactly r (SoundLink (linkOf tree (now (lengths .entry)) tags marks start held totals round))) ⌝ }
 {
     let shape = shape::shape_of(tree);
+    let size = round.size;
+    let accounts = round.accounts;
     let balance = balances(accounts);
     let residual = residuals(accounts);
     let packets = totals.packets;
@@ -296,8 +296,8 @@ pub fn is_sound_of(
     is_sound_at(
         &shape,
         size,
-        active,
-        place,
+        round.active,
+        round.place,
         &balance,
         &residual,
         &start,
@@ -314,21 +314,10 @@ pub fn is_sound(link: Link) -> bool
     ensures { λ r. ⌜ Exactly r (SoundLink link) ⌝ }
 {
     let tree = link.tree;
-    let size = link.size;
-    let accounts = link.accounts;
+    let lengths = link.lengths;
     let start = link.start;
     let held = link.held;
-    let lengths = link.lengths;
     let totals = link.totals;
-    is_sound_of(
-        tree,
-        size,
-        link.active,
-        link.place,
-        accounts,
-        start,
-        held,
-        &lengths,
-        totals,
-    )
+    let round = link.round;
+    is_sound_of(tree, start, held, totals, round, &lengths)
 }

@@ -13,7 +13,7 @@ use Rattle.tree.specs.declared.Tree.{Tree}
 use Rattle.state.specs.declared.Account.{Account}
 use Rattle.state.specs.Account.{balanceOf, residualOf}
 use Rattle.tree.specs.Sum.{table}
-use Rattle.state.specs.State.{meaning, linkOf}
+use Rattle.state.specs.State.{meaning, roundOf, linkOf}
 use Rattle.steps.specs.Fields.{lentLink}
 use Rattle.steps.specs.Rounds.{InFields}
 use Rattle.steps.proofs.Wholes.{in-lists}
@@ -47,19 +47,20 @@ offered-more l₀ l n r sound same gives =
 -- link l is link l₀ when n rounds have been opened on it
 pub record Opened (l₀ : Link) (n : ℕ) (l : Link) : Type 0 where
   pub sound : SoundLink l
-  pub many : length (l .accounts) ≡ 64
+  pub many : length (l .round .accounts) ≡ 64
   pub same : l ≡ openedTimes n l₀
 
 -- its accounts taken apart
-pub opened-apart : (l : Link) → SoundLink l → length (l .accounts) ≡ 64 → (t : Tree) → t ≡ l .tree → (b r : List ℕ)
-    → b ≡ table (balanceOf (l .accounts)) 64 → r ≡ table (residualOf (l .accounts)) 64
-    → Opened l 0 (lentLink t (l .size) (l .active) (l .place) b r (l .start) (l .held) (l .lengths) (l .tags) (l .marks) (l .totals))
+pub opened-apart : (l : Link) → SoundLink l → length (l .round .accounts) ≡ 64 → (t : Tree) → t ≡ l .tree → (b r : List ℕ)
+    → b ≡ table (balanceOf (l .round .accounts)) 64 → r ≡ table (residualOf (l .round .accounts)) 64
+    → Opened l 0 (lentLink t (l .round .size) (l .round .active) (l .round .place) b r (l .start) (l .held) (l .lengths) (l .tags)
+    (l .marks) (l .totals))
 unfolding openedTimes
 opened-apart l sound many t tree b r x y =
-    let same = ap₂ (λ (t : Tree) (xs : List Account). linkOf t (l .size) (l .active) (l .place) xs (l .start) (l .held) (l .lengths)
-    (l .tags) (l .marks) (l .totals)) tree
-    (in-lists (l .accounts) many b r x y) in
-    record { sound = subst SoundLink (sym same) sound; many = ap (λ (k : Link). length (k .accounts)) same ∙ many; same = same }
+    let same = ap₂ (λ (t : Tree) (xs : List Account). linkOf t (l .lengths) (l .tags) (l .marks) (l .start) (l .held) (l .totals)
+    (roundOf (l .round .size .0) (l .round .active) (l .round .place) xs)) tree
+    (in-lists (l .round .accounts) many b r x y) in
+    record { sound = subst SoundLink (sym same) sound; many = ap (λ (k : Link). length (k .round .accounts)) same ∙ many; same = same }
 
 pub opened-fields : (l₀ : Link) (b r : List ℕ) {n : ℕ} {t : Tree} {size : Bytes} {active place : ℕ}
     {start held lengths tags marks : List ℕ} {totals : Totals}
@@ -68,7 +69,7 @@ pub opened-fields : (l₀ : Link) (b r : List ℕ) {n : ℕ} {t : Tree} {size : 
 opened-fields l₀ b r o = record { sound = o .sound; wide = o .many }
 
 -- under rule 1 a round may open at any moment, and the size stays
-pub opened-covers : (l : Link) → SoundLink l → length (l .accounts) ≡ 64 → l .tree .follows ≡ false → CoversNext l
+pub opened-covers : (l : Link) → SoundLink l → length (l .round .accounts) ≡ 64 → l .tree .follows ≡ false → CoversNext l
 opened-covers l sound many rule = rule-1-covers (meaning l) (sound .state) (meaning-wide l many) rule
 
 pub same-size : {t : Tree} {size new : Bytes} {active place on : ℕ} {start held lengths tags marks : List ℕ} {totals : Totals}
@@ -81,7 +82,7 @@ unfolding openedWith
 same-size {t} {size} {new} {active} {place} {on} {start} {held} {lengths} {tags} {marks} {totals} b r b′ r′ s rule e =
     let l = lentLink t size active place b r start held lengths tags marks totals in
     let same : new .0 ≡ size .0 =
-    ap (λ (x : Link). x .size .0) e ∙ size-stays (meaning l) (s .sound .state) (meaning-wide l (s .wide)) rule in
+    ap (λ (x : Link). x .round .size .0) e ∙ size-stays (meaning l) (s .sound .state) (meaning-wide l (s .wide)) rule in
     ap (λ (n : ℕ). lentLink t (record { 0 = n }) on 1 b′ r′ start held lengths tags marks totals) (sym same) ∙ e
 
 -- no arrival changes the tree
@@ -99,6 +100,6 @@ pub opened-more : (l₀ l : Link) (n : ℕ) (r : Link) → Opened l₀ n l → l
 unfolding openedTimes openedWith openedAccounts
 opened-more l₀ l n r o rule e = record {
   sound = subst SoundLink (sym e) (opened-link-sound l (meaning-wide l (o .many)) (o .sound) (opened-covers l (o .sound) (o .many) rule));
-  many = ap (λ (x : Link). length (x .accounts)) e ∙ table-length _ 64;
+  many = ap (λ (x : Link). length (x .round .accounts)) e ∙ table-length _ 64;
   same = e ∙ ap (λ (x : Link). openedLink x) (o .same) ∙ rw (add-one n) refl;
 }

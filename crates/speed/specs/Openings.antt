@@ -26,7 +26,7 @@ openedTimes (suc n) l = openedLink (openedTimes n l)
 
 -- the root's balance when a packet has been offered to every class and then n rounds have been opened
 unfoldable pub rootLeft : Link → ℕ → ℕ
-rootLeft l n = balanceOf (openedTimes n (offeredTo 63 l) .accounts) 0
+rootLeft l n = balanceOf (openedTimes n (offeredTo 63 l) .round .accounts) 0
 
 -- the same on the fresh link of a plan; 0 where the plan is refused, or is one of rule 2
 abbrev pub leftAfter : Step → ℕ → ℕ

@@ -242,7 +242,7 @@ pub extern "C" fn speed_fresh(input: &[u8], at: usize) -> u64
     }
     let made = link::fresh(read.tree);
     let link = made.link;
-    let size = link.size;
+    let size = link.round.size;
     std::num::wrapping_add_u64(size.0, wide(link.lengths[at % 2048]))
 }
 

@@ -12,6 +12,7 @@ ghost use Rattle.run.specs.Run.{beginOf};
 ghost use Rattle.speed.specs.Openings.{Rest, offeredTo, openedTimes, rootLeft, leftAfter};
 use state::Link;
 use state::Packet;
+use state::Round;
 use units::Bytes;
 
 // A packet is offered to every class: each leaf takes it.
@@ -64,13 +65,13 @@ fn open_times(link: Link, times: usize) -> Link
     let tree = link.tree;
     let shape = shape::shape_of(tree);
     let mut kept = [0u32; Link::CLASSES];
-    let size = link.size;
+    let size = link.round.size;
     let held = link.held;
-    let before = link.accounts;
+    let before = link.round.accounts;
     let mut balance = state::lent_accounts::balances(before);
     let mut residual = state::lent_accounts::residuals(before);
-    let mut active = link.active;
-    let mut place = link.place;
+    let mut active = link.round.active;
+    let mut place = link.round.place;
     let mut n: usize = 0;
     while n < times {
         active = open_next(&shape, &mut kept, size, &held, &mut balance, &mut residual);
@@ -78,10 +79,14 @@ fn open_times(link: Link, times: usize) -> Link
         n += 1;
     }
     let accounts = state::lent_accounts::zipped(&balance, &residual);
+    let round = Round {
+        size,
+        active,
+        place,
+        accounts,
+    };
     let mut after = link;
-    after.active = active;
-    after.place = place;
-    after.accounts = accounts;
+    after.round = round;
     after
 }
 
@@ -91,7 +96,8 @@ fn root_left(link: Link, times: usize) -> u64
     ensures { λ r. ⌜ r ≡ rootLeft link times ⌝ }
 {
     let after = open_times(backlogged(link), times);
-    let root = after.accounts[0];
+    let round = after.round;
+    let root = round.accounts[0];
     root.balance.0
 }
 

@@ -61,29 +61,18 @@ pub record Counts (l : Link) (i : ℕ) : Type 0 where
 
 -- the state of a link with these queues and this running total
 abbrev waitingIn : Link → List (List Waiting) → ℕ → State
-waitingIn l queues charged = record {
-  tree = l .tree;
-  size = l .size .0;
-  active = l .active;
-  place = l .place;
-  accounts = l .accounts;
-  queues = queues;
-  totals = totalsOf (l .tree) queues charged;
-}
+waitingIn l queues charged = record { tree = l .tree; queues = queues; totals = totalsOf (l .tree) queues charged; round = l .round }
 
 -- the link's queues and totals changed, that is what it means
 with-queues : (l l′ : Link) (queues : List (List Waiting)) (charged : ℕ)
-    → linkInRound l′ (l .size .0) (l .active) (l .place) (l .accounts) ≡ l′
+    → linkInRound l′ (l .round) ≡ l′
     → l′ .tree ≡ l .tree → table (queueOf l′) 64 ≡ queues → l′ .totals ≡ totalsOf (l .tree) queues charged
     → meaning l′ ≡ waitingIn l queues charged
 with-queues l l′ queues charged same tree waits totals = λ k. record {
   tree = tree k;
-  size = sym same k .size .0;
-  active = sym same k .active;
-  place = sym same k .place;
-  accounts = sym same k .accounts;
   queues = waits k;
   totals = totals k;
+  round = sym same k .round;
 }
 
 -- a packet put last in a leaf changes the meaning of that leaf's queue, and the totals with it
@@ -219,16 +208,13 @@ module _ (l l′ : Link) (same : meaning l ≡ meaning l′) where
     same-link : l ≡ l′
     same-link = λ i. record {
       tree = same i .tree;
-      size = record { 0 = same i .size };
-      active = same i .active;
-      place = same i .place;
-      accounts = same i .accounts;
-      start = same-start i;
-      held = same-helds i;
       lengths = same-lengths i;
       tags = same-tags i;
       marks = same-marks i;
+      start = same-start i;
+      held = same-helds i;
       totals = same i .totals;
+      round = same i .round;
     }
 
 -- the meaning leaves out the starts and the free places, and nothing else
@@ -239,14 +225,11 @@ pub nothing-forgotten : (l l′ : Link) → Shaped l → Shaped l′ → meaning
 nothing-forgotten l l′ s s′ same starts free = same-link l l′ same s s′ starts free
 
 -- two states are equal when all else agrees and each class's packets agree in order (R98)
-pub same-meaning : (l l′ : Link) → l .tree ≡ l′ .tree → l .size ≡ l′ .size → l .active ≡ l′ .active → l .place ≡ l′ .place
-    → l .accounts ≡ l′ .accounts → ((i : ℕ) → i < 64 → queueOf l i ≡ queueOf l′ i) → l .totals ≡ l′ .totals → meaning l ≡ meaning l′
-same-meaning l l′ tree size active place accounts queues totals = λ i. record {
+pub same-meaning : (l l′ : Link) → l .tree ≡ l′ .tree → ((i : ℕ) → i < 64 → queueOf l i ≡ queueOf l′ i) → l .totals ≡ l′ .totals
+    → l .round ≡ l′ .round → meaning l ≡ meaning l′
+same-meaning l l′ tree queues totals round = λ i. record {
   tree = tree i;
-  size = size i .0;
-  active = active i;
-  place = place i;
-  accounts = accounts i;
   queues = table-same (queueOf l) (queueOf l′) 64 queues i;
   totals = totals i;
+  round = round i;
 }

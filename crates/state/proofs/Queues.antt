@@ -9,8 +9,8 @@ use lib.ListN.{getD, length, length-set}
 use lib.Seq.{getD-set-same, getD-set-other}
 use Rattle.tree.proofs.Changes.{changed-length}
 use Rattle.units.specs.Cost.{costOf}
-use Rattle.state.specs.declared.Account.{Account}
 use Rattle.state.specs.declared.Link.{Link}
+use Rattle.state.specs.declared.Round.{Round}
 use Rattle.state.specs.declared.Waiting.{Waiting}
 use Rattle.state.specs.State.{linkInRound}
 use Rattle.state.specs.WayUp.{changed}
@@ -141,9 +141,8 @@ shaped-take l i s = record {
   bytes = changed-length (l .tree) (changed true (costOf (packetAt l i 0 .length))) i (l .totals .bytes) ∙ s .bytes;
 }
 
-pub shaped-in : (l : Link) (size active place : ℕ) (accounts : List Account) → Shaped l → length accounts ≡ 64
-    → Shaped (linkInRound l size active place accounts)
-shaped-in l size active place accounts s many = record {
+pub shaped-in : (l : Link) (round : Round) → Shaped l → length (round .accounts) ≡ 64 → Shaped (linkInRound l round)
+shaped-in l round s many = record {
   accounts = many;
   start = s .start;
   held = s .held;

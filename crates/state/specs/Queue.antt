@@ -52,32 +52,26 @@ bytesIn (p ∷ ps) = costOf (p .length) + bytesIn ps
 abbrev pub queued : Link → List ℕ → List ℕ → List ℕ → List ℕ → List ℕ → Link
 queued l start held lengths tags marks = record {
   tree = l .tree;
-  size = l .size;
-  active = l .active;
-  place = l .place;
-  accounts = l .accounts;
-  start = start;
-  held = held;
   lengths = lengths;
   tags = tags;
   marks = marks;
+  start = start;
+  held = held;
   totals = l .totals;
+  round = l .round;
 }
 
 -- the link with these totals
 abbrev pub withTotals : Link → Totals → Link
 withTotals l totals = record {
   tree = l .tree;
-  size = l .size;
-  active = l .active;
-  place = l .place;
-  accounts = l .accounts;
-  start = l .start;
-  held = l .held;
   lengths = l .lengths;
   tags = l .tags;
   marks = l .marks;
+  start = l .start;
+  held = l .held;
   totals = totals;
+  round = l .round;
 }
 
 -- a packet laid last in class i's places, and not counted yet (R93)
@@ -104,7 +98,7 @@ takenFirst l i =
 
 -- the lists of a link have the lengths of its arrays (R94)
 pub record Shaped (l : Link) : Type 0 where
-  pub accounts : length (l .accounts) ≡ 64
+  pub accounts : length (l .round .accounts) ≡ 64
   pub start : length (l .start) ≡ 64
   pub held : length (l .held) ≡ 64
   pub lengths : length (l .lengths) ≡ 2_048

@@ -3,13 +3,13 @@ use mathlib.Core.List.{List, []}
 use mathlib.Core.Path.{_≡_}
 use Prim.Native.Nat.{ℕ}
 use lib.ListN.{length, getD, set, replicate}
-use Rattle.units.specs.declared.Bytes.{Bytes}
 use Rattle.tree.specs.declared.Tree.{Tree}
 use Rattle.tree.specs.Below.{leavesSum}
 use Rattle.tree.specs.Class.{noTree}
 use Rattle.tree.specs.Size.{roundSize}
 use Rattle.state.specs.declared.Account.{Account}
 use Rattle.state.specs.declared.Link.{Link}
+use Rattle.state.specs.declared.Round.{Round}
 use Rattle.state.specs.declared.Totals.{Totals}
 use Rattle.state.specs.declared.Waiting.{Waiting}
 use Rattle.state.specs.Account.{account, noAccount}
@@ -17,28 +17,17 @@ use Rattle.state.specs.Mark.{chargedMore}
 use Rattle.state.specs.Queue.{queueOf, bytesIn}
 use Rattle.tree.specs.Sum.{table}
 
--- the tree, the round size in force, the set of active classes, the place in the round, each class's account and each class's queue (R96),
--- and its totals by class number, and the running total (R276, R308)
+-- the tree, each class's queue (R96), its totals by class number and the running total (R276, R308), and where it stands in its round: the
+-- round size in force, the set of active classes, the place and each class's account (R96)
 pub record State : Type 0 where
   pub tree : Tree
-  pub size : ℕ
-  pub active : ℕ
-  pub place : ℕ
-  pub accounts : List Account
   pub queues : List (List Waiting)
   pub totals : Totals
+  pub round : Round
 
 -- What a place without a packet holds, and where in its 32 places a queue starts, are no part of a state's meaning (R97, R98).
 abbrev pub meaning : Link → State
-meaning l = record {
-  tree = l .tree;
-  size = l .size .0;
-  active = l .active;
-  place = l .place;
-  accounts = l .accounts;
-  queues = table (queueOf l) 64;
-  totals = l .totals;
-}
+meaning l = record { tree = l .tree; queues = table (queueOf l) 64; totals = l .totals; round = l .round }
 
 -- the packets of class i in order
 abbrev pub queueAt : State → ℕ → List Waiting
@@ -65,12 +54,9 @@ pub record TotalsRight (s : State) (i : ℕ) : Type 0 where
 abbrev pub withQueues : State → List (List Waiting) → State
 withQueues s queues = record {
   tree = s .tree;
-  size = s .size;
-  active = s .active;
-  place = s .place;
-  accounts = s .accounts;
   queues = queues;
   totals = totalsOf (s .tree) queues (s .totals .charged);
+  round = s .round;
 }
 
 abbrev pub withQueue : State → ℕ → List Waiting → State
@@ -78,49 +64,32 @@ withQueue s i q = withQueues s (set (s .queues) i q)
 
 -- the state when a charge has joined the running total (R310)
 abbrev pub withCharge : State → ℕ → State
-withCharge s charge = record {
-  tree = s .tree;
-  size = s .size;
-  active = s .active;
-  place = s .place;
-  accounts = s .accounts;
-  queues = s .queues;
-  totals = chargedMore (s .totals) charge;
-}
+withCharge s charge = record { tree = s .tree; queues = s .queues; totals = chargedMore (s .totals) charge; round = s .round }
 
--- the state in a round: with this size in force, these active classes, this place and these accounts
-abbrev pub inRound : State → ℕ → ℕ → ℕ → List Account → State
-inRound s size active place accounts = record {
-  tree = s .tree;
-  size = size;
-  active = active;
-  place = place;
-  accounts = accounts;
-  queues = s .queues;
-  totals = s .totals;
-}
+-- with this size in force, these active classes, this place and these accounts
+abbrev pub roundOf : ℕ → ℕ → ℕ → List Account → Round
+roundOf size active place accounts = record { size = record { 0 = size }; active = active; place = place; accounts = accounts }
+
+-- the state in a round
+abbrev pub inRound : State → Round → State
+inRound s round = record { tree = s .tree; queues = s .queues; totals = s .totals; round = round }
 
 -- the link that its fields make up
-abbrev pub linkOf : Tree → Bytes → ℕ → ℕ → List Account → List ℕ → List ℕ → List ℕ → List ℕ → List ℕ → Totals → Link
-linkOf tree size active place accounts start held lengths tags marks totals = record {
+abbrev pub linkOf : Tree → List ℕ → List ℕ → List ℕ → List ℕ → List ℕ → Totals → Round → Link
+linkOf tree lengths tags marks start held totals round = record {
   tree = tree;
-  size = size;
-  active = active;
-  place = place;
-  accounts = accounts;
-  start = start;
-  held = held;
   lengths = lengths;
   tags = tags;
   marks = marks;
+  start = start;
+  held = held;
   totals = totals;
+  round = round;
 }
 
 -- the link in a round, as a state is
-abbrev pub linkInRound : Link → ℕ → ℕ → ℕ → List Account → Link
-linkInRound l size active place accounts =
-    linkOf (l .tree) (record { 0 = size }) active place accounts (l .start) (l .held) (l .lengths) (l .tags) (l .marks)
-    (l .totals)
+abbrev pub linkInRound : Link → Round → Link
+linkInRound l round = linkOf (l .tree) (l .lengths) (l .tags) (l .marks) (l .start) (l .held) (l .totals) round
 
 -- nothing waits, and nothing was charged (R99, R100, R308)
 abbrev pub noTotals : Totals
@@ -130,30 +99,24 @@ noTotals = record { packets = replicate 64 0; bytes = replicate 64 0; charged = 
 abbrev pub freshLink : Tree → Link
 freshLink t = record {
   tree = t;
-  size = record { 0 = roundSize t };
-  active = 0;
-  place = 64;
-  accounts = set (replicate 64 noAccount) 0 (account (roundSize t) 0);
-  start = replicate 64 0;
-  held = replicate 64 0;
   lengths = replicate 2_048 0;
   tags = replicate 2_048 0;
   marks = replicate 2_048 0;
+  start = replicate 64 0;
+  held = replicate 64 0;
   totals = noTotals;
+  round = roundOf (roundSize t) 0 64 (set (replicate 64 noAccount) 0 (account (roundSize t) 0));
 }
 
 -- the link without classes, all its numbers 0 (R100)
 abbrev pub noLink : Link
 noLink = record {
   tree = noTree;
-  size = record { 0 = 0 };
-  active = 0;
-  place = 0;
-  accounts = replicate 64 noAccount;
-  start = replicate 64 0;
-  held = replicate 64 0;
   lengths = replicate 2_048 0;
   tags = replicate 2_048 0;
   marks = replicate 2_048 0;
+  start = replicate 64 0;
+  held = replicate 64 0;
   totals = noTotals;
+  round = roundOf 0 0 0 (replicate 64 noAccount);
 }

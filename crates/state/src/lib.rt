@@ -39,19 +39,25 @@ pub struct Totals {
     pub charged: u64,
 }
 
-// The link: class i's packets lie in the 32 places from i * 32 on, the first of them at its start, and the others follow round the 32.
-pub struct Link {
-    pub tree: Tree,
+// Where a link stands in its round: the round size in force, the set of active classes, the place, and each class's account.
+pub struct Round {
     pub size: Bytes,
     pub active: u64,
     pub place: usize,
     pub accounts: [Account; Link::CLASSES],
-    pub start: [u8; Link::CLASSES],
-    pub held: [u8; Link::CLASSES],
+}
+
+// The link: class i's packets lie in the 32 places from i * 32 on, the first of them at its start, and the others follow round the 32.
+// Its round stands last: a small field that joins it moves no other.
+pub struct Link {
+    pub tree: Tree,
     pub lengths: [u16; 2048],
     pub tags: [u32; 2048],
     pub marks: [u64; 2048],
+    pub start: [u8; Link::CLASSES],
+    pub held: [u8; Link::CLASSES],
     pub totals: Totals,
+    pub round: Round,
 }
 
 impl Totals {
@@ -80,7 +86,7 @@ impl Link {
         requires { ⌜ PlanRules tree ⌝ }
         ensures { λ r. ⌜ r ≡ freshLink tree ⌝ }
     {
-        let size = tree::round_size(tree);
+        let size = shape::round_size(tree);
         let none = Account::none();
         let root = Account {
             balance: size,
@@ -88,23 +94,26 @@ impl Link {
         };
         let mut accounts = [none; Link::CLASSES];
         accounts[0] = root;
-        let start = [0u8; Link::CLASSES];
-        let held = [0u8; Link::CLASSES];
         let lengths = [0u16; 2048];
         let tags = [0u32; 2048];
         let marks = [0u64; 2048];
-        Link {
-            tree,
+        let start = [0u8; Link::CLASSES];
+        let held = [0u8; Link::CLASSES];
+        let round = Round {
             size,
             active: 0,
             place: Link::CLASSES,
             accounts,
-            start,
-            held,
+        };
+        Link {
+            tree,
             lengths,
             tags,
             marks,
+            start,
+            held,
             totals: Totals::none(),
+            round,
         }
     }
 
@@ -114,23 +123,26 @@ impl Link {
     {
         let none = Account::none();
         let accounts = [none; Link::CLASSES];
-        let start = [0u8; Link::CLASSES];
-        let held = [0u8; Link::CLASSES];
         let lengths = [0u16; 2048];
         let tags = [0u32; 2048];
         let marks = [0u64; 2048];
-        Link {
-            tree: Tree::none(),
+        let start = [0u8; Link::CLASSES];
+        let held = [0u8; Link::CLASSES];
+        let round = Round {
             size: Bytes(0),
             active: 0,
             place: 0,
             accounts,
-            start,
-            held,
+        };
+        Link {
+            tree: Tree::none(),
             lengths,
             tags,
             marks,
+            start,
+            held,
             totals: Totals::none(),
+            round,
         }
     }
 }

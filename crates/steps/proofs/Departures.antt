@@ -34,7 +34,20 @@ use Rattle.steps.specs.declared.leaf.Gone.{Gone}
 use Rattle.steps.specs.declared.Stand.{Stand}
 use Rattle.steps.specs.Fields.{lentLink, lentTotals, linkAt, GoesNext}
 use Rattle.steps.specs.declared.reopening.Found.{Found}
-use Rattle.steps.specs.Rounds.{InFields, Going, Unseen, Closed, Opens, Finds, closedLink, openLink, sentWhere, Departs, wentBy, nothingGoes}
+use Rattle.steps.specs.Rounds.{
+  InFields,
+  Going,
+  Unseen,
+  Closed,
+  Opens,
+  Finds,
+  closedLink,
+  openLink,
+  sentWhere,
+  Departs,
+  wentBy,
+  nothingGoes,
+}
 use Rattle.steps.specs.Rounds.{answerOf, wentAnswers}
 
 -- a leaf is found at once, on a link in fields

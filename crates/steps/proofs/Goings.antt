@@ -19,7 +19,7 @@ use Rattle.state.specs.declared.Totals.{Totals}
 use Rattle.state.specs.Queue.{packetAt, queued, withTotals, liftedFirst}
 use Rattle.state.specs.Mark.{wrapped, chargedMore}
 use Rattle.state.specs.WayUp.{recounted, Climbs, CountsIt}
-use Rattle.state.specs.State.{meaning, linkInRound}
+use Rattle.state.specs.State.{meaning, roundOf, linkInRound}
 use Rattle.rules.specs.Sending.{Books, firstOf, paidBy, booksAfter, sentState, turnsOff}
 use Rattle.rules.specs.Steps.{Fit}
 use Rattle.rules.specs.After.{sentLink}
@@ -34,10 +34,12 @@ sent-by : (l : Link) (i : ℕ) (b : Books) (start held : List ℕ) (totals : Tot
     → ((k : Link) → queued k start held (l .lengths) (l .tags) (l .marks)
     ≡ liftedFirst (queued k (l .start) (l .held) (l .lengths) (l .tags) (l .marks)) i)
     → totals ≡ chargedMore (recounted true (l .tree) i (costOf (packetAt l i 0 .length)) (l .totals)) (costOf (packetAt l i 0 .length))
-    → withTotals (queued (linkInRound l (l .size .0) (b .active) i (b .accounts)) start held (l .lengths) (l .tags) (l .marks)) totals
+    → withTotals (queued (linkInRound l (roundOf (l .round .size .0) (b .active) i (b .accounts))) start held (l .lengths) (l .tags)
+    (l .marks)) totals
     ≡ sentLink l i
 unfolding sentState
-sent-by l i b start held totals e q n = ap₂ withTotals (q (linkInRound l (l .size .0) (b .active) i (b .accounts))) n ∙ rw e refl
+sent-by l i b start held totals e q n = ap₂ withTotals (q (linkInRound l (roundOf (l .round .size .0) (b .active) i (b .accounts)))) n
+    ∙ rw e refl
 
 module _
     {t : Tree} {size : Bytes} {place i active : ℕ} {balance residual start held lengths tags marks : List ℕ} {totals : Totals}

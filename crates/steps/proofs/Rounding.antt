@@ -14,7 +14,7 @@ use Rattle.tree.specs.declared.Tree.{Tree}
 use Rattle.tree.specs.Rules.{PlanRules}
 use Rattle.state.specs.declared.Link.{Link}
 use Rattle.state.specs.declared.Totals.{Totals}
-use Rattle.state.specs.State.{meaning, linkOf}
+use Rattle.state.specs.State.{meaning, roundOf, linkOf}
 use Rattle.tree.proofs.Tables.{table-length}
 use Rattle.rules.specs.Active.{upward, roundActive, weightSum}
 use Rattle.rules.specs.Steps.{holdsSome}
@@ -93,7 +93,7 @@ module _
       ≡ openedLink (lentLink t size active place balance residual start held lengths tags marks totals)
   unfolding openedWith nextKind nextSize resizedAccounts
   fields-opened on new b r is o =
-      ap₂ (λ (n : ℕ) (xs : List Account). linkOf t (record { 0 = n }) on 1 xs start held lengths tags marks totals)
+      ap₂ (λ (n : ℕ) (xs : List Account). linkOf t lengths tags marks start held totals (roundOf n on 1 xs))
       (o .size-is) (o .accounts-are)
       ∙ rw is refl
 
@@ -108,7 +108,7 @@ module _
       let wide = meaning-wide l (s .wide) in
       record {
         sound = subst SoundLink (sym e) (opened-link-sound l wide (s .sound) covers);
-        wide = ap (λ (x : Link). length (x .accounts)) e ∙ next-wide (meaning l) (s .sound .state) wide .accounts;
+        wide = ap (λ (x : Link). length (x .round .accounts)) e ∙ next-wide (meaning l) (s .sound .state) wide .accounts;
       }
 
 -- ---- rounds are opened until a leaf sends

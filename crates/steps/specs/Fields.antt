@@ -9,7 +9,7 @@ use Rattle.tree.specs.declared.Tree.{Tree}
 use Rattle.state.specs.declared.Link.{Link}
 use Rattle.state.specs.declared.Totals.{Totals}
 use Rattle.state.specs.Account.{balanceOf}
-use Rattle.state.specs.State.{linkOf}
+use Rattle.state.specs.State.{linkOf, roundOf}
 pub use Rattle.state.specs.Queue.{queued}
 use Rattle.sound.specs.Sound.{SoundLink}
 use Rattle.rules.specs.Sending.{Books}
@@ -24,7 +24,7 @@ lentTotals packets bytes charged = record { packets = packets; bytes = bytes; ch
 -- the link with these fields
 abbrev pub lentLink : Tree → Bytes → ℕ → ℕ → List ℕ → List ℕ → List ℕ → List ℕ → List ℕ → List ℕ → List ℕ → Totals → Link
 lentLink tree size active place balance residual start held lengths tags marks totals =
-    linkOf tree size active place (zipAccounts balance residual) start held lengths tags marks totals
+    linkOf tree lengths tags marks start held totals (roundOf (size .0) active place (zipAccounts balance residual))
 
 -- the link with this tree, standing here, with these arrays
 abbrev pub linkAt : Tree → Stand → List ℕ → List ℕ → List ℕ → List ℕ → List ℕ → List ℕ → List ℕ → List ℕ → List ℕ → Link
@@ -39,9 +39,9 @@ booksOf active balance residual = record { active = active; accounts = zipAccoun
 -- what a search reads of a link
 pub record Searched (l : Link) (leaves place : ℕ) (balance start lengths : List ℕ) : Type 0 where
   pub sound : SoundLink l
-  pub both : Both (l .active) (l .tree .leaves) leaves
-  pub at : l .place ≡ place
-  pub balances : (i : ℕ) → i < 64 → balanceOf (l .accounts) i ≡ getD balance i 0
+  pub both : Both (l .round .active) (l .tree .leaves) leaves
+  pub at : l .round .place ≡ place
+  pub balances : (i : ℕ) → i < 64 → balanceOf (l .round .accounts) i ≡ getD balance i 0
   pub starts : l .start ≡ start
   pub lying : l .lengths ≡ lengths
 

@@ -30,7 +30,7 @@ use Rattle.steps.specs.Fields.{lentLink}
 -- a sound link whose accounts are as many as the class numbers
 pub record InFields (l : Link) : Type 0 where
   pub sound : SoundLink l
-  pub wide : length (l .accounts) ≡ 64
+  pub wide : length (l .round .accounts) ≡ 64
 
 -- one in which a packet waits
 pub record Going (t : Tree) (size : Bytes) (active place : ℕ)

@@ -103,8 +103,8 @@ pub fn goes(
         × (lentLink (treeIn (now (shape .entry))) size (r .active) i (now (balance .exit)) (now (residual .exit)) (now (start .exit))
         (now (held .exit)) (now (lengths .entry)) (now (tags .entry)) (now (marks .entry))
         (lentTotals (now (packets .exit)) (now (bytes .exit)) (r .charged))
-        ≡ sentLink (lentLink (treeIn (now (shape .entry))) size active place (now (balance .entry)) (now (residual .entry)) (now (start
-        .entry))
+        ≡ sentLink (lentLink (treeIn (now (shape .entry))) size active place (now (balance .entry)) (now (residual .entry))
+        (now (start .entry))
         (now (held .entry)) (now (lengths .entry)) (now (tags .entry)) (now (marks .entry))
         (lentTotals (now (packets .entry)) (now (bytes .entry)) charged)) i)) ⌝ }
 {

@@ -103,8 +103,8 @@ fn next_sender(
     ensures { λ r. ⌜ ((tags marks : List ℕ) (totals : Totals)
         → Going (treeIn (now (shape .entry))) (stand .size) (stand .active) (stand .place) (now (balance .entry)) (now (residual .entry))
         (now (start .entry)) (now (held .entry)) (now (lengths .entry)) tags marks totals
-        → Finds (lentLink (treeIn (now (shape .entry))) (stand .size) (stand .active) (stand .place) (now (balance .entry)) (now (residual
-        .entry))
+        → Finds (lentLink (treeIn (now (shape .entry))) (stand .size) (stand .active) (stand .place) (now (balance .entry))
+        (now (residual .entry))
         (now (start .entry)) (now (held .entry)) (now (lengths .entry)) tags marks totals) r
         (λ after active place. lentLink (treeIn (now (shape .entry))) after active place (now (balance .exit)) (now (residual .exit))
         (now (start .entry)) (now (held .entry)) (now (lengths .entry)) tags marks totals)) ⌝ }
@@ -157,8 +157,8 @@ pub fn send(
         × Families (treeIn (now shape)) (now children) × Kept (treeIn (now shape)) (stand .known) (now kept) ⌝ }
     ensures { λ r. ⌜ Departs (linkAt (treeIn (now (shape .entry))) stand (now (balance .entry)) (now (residual .entry)) (now (start .entry))
         (now (held .entry)) (now (lengths .entry)) (now (tags .entry)) (now (marks .entry)) (now (packets .entry)) (now (bytes .entry)))
-        r (linkAt (treeIn (now (shape .entry))) (r .stand) (now (balance .exit)) (now (residual .exit)) (now (start .exit)) (now (held
-        .exit))
+        r (linkAt (treeIn (now (shape .entry))) (r .stand) (now (balance .exit)) (now (residual .exit)) (now (start .exit))
+        (now (held .exit))
         (now (lengths .entry)) (now (tags .entry)) (now (marks .entry)) (now (packets .exit)) (now (bytes .exit))) ⌝ }
     ensures { λ r. ⌜ Kept (treeIn (now (shape .entry))) (r .stand .known) (now (kept .exit)) ⌝ }
 {

@@ -40,8 +40,8 @@ fn open_until_sent(
     requires { ⌜ ((k : Unseen) × Opens (treeIn (now shape)) size k active (now balance) (now residual) (now start) (now lengths))
         × Summed (treeIn (now shape)) active (now sums) ⌝ }
     ensures { λ r. ⌜ ((k : Unseen)
-        → Opens (treeIn (now (shape .entry))) size k active (now (balance .entry)) (now (residual .entry)) (now (start .entry)) (now
-        (lengths .entry))
+        → Opens (treeIn (now (shape .entry))) size k active (now (balance .entry)) (now (residual .entry)) (now (start .entry))
+        (now (lengths .entry))
         → OnTheWay (closedLink (treeIn (now (shape .entry))) size k (now (balance .entry)) (now (residual .entry)) (now (start .entry))
         (now (lengths .entry))) (r .class)
         (openLink (treeIn (now (shape .entry))) (r .size) k active (now (balance .exit)) (now (residual .exit)) (now (start .entry))
@@ -93,8 +93,8 @@ pub(crate) fn reopened(
         × Closed (treeIn (now shape)) size k (now balance) (now residual) (now start) (now lengths))
         × Kept (treeIn (now shape)) known (now kept) ⌝ }
     ensures { λ r. ⌜ ((k : Unseen) → k .held ≡ now (held .entry)
-        → Closed (treeIn (now (shape .entry))) size k (now (balance .entry)) (now (residual .entry)) (now (start .entry)) (now (lengths
-        .entry))
+        → Closed (treeIn (now (shape .entry))) size k (now (balance .entry)) (now (residual .entry)) (now (start .entry))
+        (now (lengths .entry))
         → Finds (closedLink (treeIn (now (shape .entry))) size k (now (balance .entry)) (now (residual .entry)) (now (start .entry))
         (now (lengths .entry))) r
         (λ after active place. lentLink (treeIn (now (shape .entry))) after active place (now (balance .exit)) (now (residual .exit))

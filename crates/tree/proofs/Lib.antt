@@ -7,6 +7,5 @@ pub mod Below
 pub mod Leaves
 pub mod Changes
 pub mod ByParent
-pub mod Children
 pub mod AfterEnd
 pub mod Growth

@@ -4,4 +4,3 @@ pub mod Sum
 pub mod Below
 pub mod Rules
 pub mod Size
-pub mod Steps

@@ -1,15 +1,10 @@
-// The class tree (R21 to R39) as a value. What is decided of it stands in the modules: the rules of a class record, those after the end
-// record, and for any tree whatever the plan rules and the round size. Serves demands 1 and 3.
+// The class tree (R21 to R37) as a value. What is decided of it stands in the modules: the rules of a class record, and those after the
+// end record; the plan rules and the round size of any tree whatever are decided over its shape. Serves demands 1 and 3.
 mod after_end;
 mod class_rules;
-mod size;
 
 pub use after_end::closing;
 pub use class_rules::class_fault;
-pub use size::PlanSize;
-pub use size::is_plan;
-pub use size::plan_size;
-pub use size::round_size;
 ghost use mathlib.Core.Path.{_≡_};
 ghost use Prim.Native.Nat.{_<_};
 ghost use Rattle.tree.specs.Class.{noTree, added};

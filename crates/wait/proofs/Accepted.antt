@@ -87,7 +87,7 @@ module _ (s : State) (i : ℕ) (p : Packet) (sound : Sound s) (wide : Wide s) (u
   starts-within =
       let d = bytesIn (queueAt (arrived s i p) i) in
       let w = weightOf (s .tree) i in
-      let left = bytesUpTo (arrived s i p) i (length (queueAt s i)) - balanceOf (s .accounts) i in
+      let left = bytesUpTo (arrived s i p) i (length (queueAt s i)) - balanceOf (s .round .accounts) i in
       let less = up-grows left d w (holds-weight (arrived s i p) i (length (queueAt s i)) accepted-holds) (omega (arith, accepted-bytes)) in
       omega (
         arith,

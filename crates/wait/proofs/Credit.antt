@@ -37,7 +37,7 @@ pub record Holds (s : State) (i k : ℕ) : Type 0 where
 
 -- all B and R of the classes other than the root
 unfoldable pub credit : State → ℕ
-credit s = sumTo (λ i. fundsOf (accountOf (s .accounts) i)) 63
+credit s = sumTo (λ i. fundsOf (accountOf (s .round .accounts) i)) 63
 
 -- the bytes of class i's packets up to the one with k before it, and with it
 unfoldable pub bytesUpTo : State → ℕ → ℕ → ℕ
@@ -45,7 +45,7 @@ bytesUpTo s i k = bytesIn (take (suc k) (queueAt s i))
 
 -- what class i's balance lacks of them
 unfoldable pub lacking : State → ℕ → ℕ → ℕ
-lacking s i k = bytesUpTo s i k - balanceOf (s .accounts) i
+lacking s i k = bytesUpTo s i k - balanceOf (s .round .accounts) i
 
 -- in how many main rounds class i gains as much, at the least it gains
 unfoldable pub mains : State → ℕ → ℕ → ℕ
@@ -58,7 +58,7 @@ falling s i k = credit s + roundSize (s .tree) * mains s i k
 -- ---- what the classes other than the root hold
 
 -- the root holds the rest
-pub credit-rest : (s : State) → total (s .accounts) ≡ fundsOf (accountOf (s .accounts) 0) + credit s
+pub credit-rest : (s : State) → total (s .round .accounts) ≡ fundsOf (accountOf (s .round .accounts) 0) + credit s
 unfolding total credit
 credit-rest s = refl
 
@@ -67,14 +67,14 @@ pub credit-most : (s : State) → Sound s → credit s ≤ roundSize (s .tree)
 credit-most s sound = omega (arith, credit-rest s, sound .adds .adds, sound .fits .size .most)
 
 -- and what the root gains they lose
-pub credit-change : (s t : State) (c : ℕ) → total (t .accounts) ≡ total (s .accounts)
-    → fundsOf (accountOf (s .accounts) 0) + c ≤ fundsOf (accountOf (t .accounts) 0) → credit t + c ≤ credit s
+pub credit-change : (s t : State) (c : ℕ) → total (t .round .accounts) ≡ total (s .round .accounts)
+    → fundsOf (accountOf (s .round .accounts) 0) + c ≤ fundsOf (accountOf (t .round .accounts) 0) → credit t + c ≤ credit s
 credit-change s t c same more = omega (arith, credit-rest s, credit-rest t, same, more)
 
 -- a balance is part of it
-pub balance-part : (s : State) (i : ℕ) → 1 ≤ i → i < 64 → balanceOf (s .accounts) i ≤ credit s
+pub balance-part : (s : State) (i : ℕ) → 1 ≤ i → i < 64 → balanceOf (s .round .accounts) i ≤ credit s
 unfolding credit
-balance-part s i l u = omega (arith, sum-part (λ k. fundsOf (accountOf (s .accounts) k)) 63 i l (omega arith))
+balance-part s i l u = omega (arith, sum-part (λ k. fundsOf (accountOf (s .round .accounts) k)) 63 i l (omega arith))
 
 -- ---- the number that falls
 
@@ -109,17 +109,17 @@ module _ (s : State) (i k : ℕ) (h : Holds s i k) where
   -- while the packet waits the number is not 0
   pub falling-some : 1 ≤ falling s i k
   unfolding falling mains lacking
-  falling-some = go (decLe (bytesUpTo s i k) (balanceOf (s .accounts) i))
+  falling-some = go (decLe (bytesUpTo s i k) (balanceOf (s .round .accounts) i))
     where
-      part : balanceOf (s .accounts) i ≤ credit s
+      part : balanceOf (s .round .accounts) i ≤ credit s
       part = balance-part s i (class-range (s .tree) i holds-class .0) (h .low)
 
       bytes : 1 ≤ bytesUpTo s i k
       bytes = omega (arith, first-costs, first-part s i k (h .behind))
 
-      go : Dec (bytesUpTo s i k ≤ balanceOf (s .accounts) i)
-          → 1 ≤ credit s + roundSize (s .tree) * overRoundedUp (bytesUpTo s i k - balanceOf (s .accounts) i) (weightOf (s .tree) i)
+      go : Dec (bytesUpTo s i k ≤ balanceOf (s .round .accounts) i)
+          → 1 ≤ credit s + roundSize (s .tree) * overRoundedUp (bytesUpTo s i k - balanceOf (s .round .accounts) i) (weightOf (s .tree) i)
       go (yes covers) = omega (arith, part, bytes)
       go (no covers) =
-          let more = up-some (bytesUpTo s i k - balanceOf (s .accounts) i) (weightOf (s .tree) i) holds-weight (omega arith) in
+          let more = up-some (bytesUpTo s i k - balanceOf (s .round .accounts) i) (weightOf (s .tree) i) holds-weight (omega arith) in
           omega (arith, mul-le-mul size-some more)

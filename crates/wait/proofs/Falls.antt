@@ -80,12 +80,12 @@ module _ (s : State) (i k : ℕ) (h : Holds s i k) (closed : nextLeaf s ≡ 64) 
   -- at the closing the class's balance did not cover its first packet
   closed-lacking : 1 ≤ lacking s i k
   unfolding lacking
-  closed-lacking = go (has (s .active) i) refl
+  closed-lacking = go (has (s .round .active) i) refl
     where
       first : costOf (firstOf s i .length) ≤ bytesUpTo s i k
       first = first-part s i k (h .behind)
 
-      go : (b : Bool) → has (s .active) i ≡ b → 1 ≤ bytesUpTo s i k - balanceOf (s .accounts) i
+      go : (b : Bool) → has (s .round .active) i ≡ b → 1 ≤ bytesUpTo s i k - balanceOf (s .round .accounts) i
       go true on = omega (arith, first, closed-short s (h .sound) closed i (holds-class s i k h) (h .leaf) on)
       go false off =
           omega (
@@ -104,8 +104,8 @@ module _ (s : State) (i k : ℕ) (h : Holds s i k) (closed : nextLeaf s ≡ 64) 
       let same = opened-total s size (h .sound) (h .wide) fit covers ∙ fit .kept kind ∙ sym (h .sound .adds .adds) in
       let fall = credit-change s (openedWith size s) 0 same (omega (arith, root)) in
       let less =
-      up-grows (bytesIn (take (suc k) (queueAt s i)) - balanceOf (openedWith size s .accounts) i)
-      (bytesIn (take (suc k) (queueAt s i)) - balanceOf (s .accounts) i)
+      up-grows (bytesIn (take (suc k) (queueAt s i)) - balanceOf (openedWith size s .round .accounts) i)
+      (bytesIn (take (suc k) (queueAt s i)) - balanceOf (s .round .accounts) i)
       (weightOf (s .tree) i) (holds-weight s i k h) (omega (arith, gain))
       in
       omega (arith, credit-falls s (openedWith size s) i k k 0 refl less fall)
@@ -114,8 +114,8 @@ module _ (s : State) (i k : ℕ) (h : Holds s i k) (closed : nextLeaf s ≡ 64) 
   main-falls : nextKind s ≡ main → falling (openedWith size s) i k ≤ falling s i k
   unfolding openedWith mains lacking bytesUpTo falling
   main-falls kind =
-      let a = bytesIn (take (suc k) (queueAt s i)) - balanceOf (openedWith size s .accounts) i in
-      let b = bytesIn (take (suc k) (queueAt s i)) - balanceOf (s .accounts) i in
+      let a = bytesIn (take (suc k) (queueAt s i)) - balanceOf (openedWith size s .round .accounts) i in
+      let b = bytesIn (take (suc k) (queueAt s i)) - balanceOf (s .round .accounts) i in
       let w = weightOf (s .tree) i in
       let gain = main-gains s size (h .sound) (h .wide) fit closed kind i (holds-class s i k h) (h .leaf) taken-in in
       let less = up-falls a b w (holds-weight s i k h) closed-lacking (omega (arith, gain)) in
@@ -175,7 +175,7 @@ module _ (s : State) (i k : ℕ) (h : Holds s i (suc k)) (is : Sender s i) where
     behind = omega (arith, ap length (sent-queue s i (h .wide) (h .low)), length-drop 1 (queueAt s i), h .behind);
   }
 
-  own-account : accountOf (booksAfter s i .accounts) i ≡ sentFrom (accountOf (s .accounts) i) (costOf (firstOf s i .length))
+  own-account : accountOf (booksAfter s i .accounts) i ≡ sentFrom (accountOf (s .round .accounts) i) (costOf (firstOf s i .length))
   unfolding booksAfter
   own-account = rw (lt-leb (length (queueAt s i)) 1 (omega (arith, h .behind))) (paid-leaf s i (h .wide) (is .low) (is .high))
 

@@ -81,7 +81,7 @@ module _ (s : State) (i k j : ℕ) (p : Packet) (h : Holds s i k) (u : j < 64) w
   arrived-same : falling (arrived s j p) i k ≡ falling s i k
   unfolding falling credit mains lacking bytesUpTo
   arrived-same =
-      ap (λ (q : List Waiting). credit s + roundSize (s .tree) * overRoundedUp (bytesIn q - balanceOf (s .accounts) i)
+      ap (λ (q : List Waiting). credit s + roundSize (s .tree) * overRoundedUp (bytesIn q - balanceOf (s .round .accounts) i)
       (weightOf (s .tree) i))
       arrived-upto
 

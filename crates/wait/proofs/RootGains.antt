@@ -65,16 +65,17 @@ turns-root (suc n) t i b many l =
 
 -- a leaf that has sent its first packet leaves the root with what the packet cost, at the least
 pub books-root : (s : State) (i : ℕ) → Wide s → 1 ≤ i
-    → fundsOf (accountOf (s .accounts) 0) + costOf (firstOf s i .length) ≤ fundsOf (accountOf (booksAfter s i .accounts) 0)
+    → fundsOf (accountOf (s .round .accounts) 0) + costOf (firstOf s i .length) ≤ fundsOf (accountOf (booksAfter s i .accounts) 0)
 unfolding booksAfter
 books-root s i wide l = go (leb (length (queueAt s i)) 1)
   where
     b : Books
-    b = record { active = s .active; accounts = paid s i }
+    b = record { active = s .round .active; accounts = paid s i }
 
-    root : fundsOf (accountOf (s .accounts) 0) + costOf (firstOf s i .length) ≤ rootHolds b
+    root : fundsOf (accountOf (s .round .accounts) 0) + costOf (firstOf s i .length) ≤ rootHolds b
     root = omega (arith, ap fundsOf (paid-root s i wide l))
 
-    go : (x : Bool) → fundsOf (accountOf (s .accounts) 0) + costOf (firstOf s i .length) ≤ rootHolds (cond x (turnsOff 63 (s .tree) i b) b)
+    go : (x : Bool) → fundsOf (accountOf (s .round .accounts) 0) + costOf (firstOf s i .length)
+        ≤ rootHolds (cond x (turnsOff 63 (s .tree) i b) b)
     go true = omega (arith, root, turns-root 63 (s .tree) i b (paid-length s i ∙ wide .accounts) l)
     go false = root

@@ -53,7 +53,8 @@ unfolding leaf one tree badParent badWeight badLongest isLeaf has with
 passes = classes-kept one (leaf 1 10) (classes-kept noTree (leaf 1 10) (none-pass false) refl refl refl) refl refl refl
 
 closes : firstBroken (closingChecks tree) ≡ Passed
-unfolding leaf one tree firstBroken classByClass tooHeavy childless noClass isInner isClass isLeaf isChild ofChild childrenSum childrenWeight
+unfolding leaf one tree firstBroken classByClass tooHeavy childless noClass isInner isClass isLeaf isChild ofChild childrenSum
+    childrenWeight
     hasChild sumTo someTo has with
 closes = refl
 
@@ -111,5 +112,6 @@ unfolding leaf one tree fresh first second withFirst withBoth sentOnce roundSize
     isLeaf isInner isChild has with without costOf table queueOf climbs atOrBelow waits someWaits someBelow setOf upward roundActive
     ofChild childrenSum
     activeChild activeWeight weightSum surplusAt hasSurplus kindOf quotaIn quota due handsDown openedLeaf openedInner openedAccount
-    openedAccounts nextKind nextSize mainSize resizedAccounts openedWith ready firstFrom nextLeaf givenUp turnsOff paid booksAfter sentState turnOf sends traceOf
+    openedAccounts nextKind nextSize mainSize resizedAccounts openedWith ready firstFrom nextLeaf givenUp turnsOff paid booksAfter sentState
+    turnOf sends traceOf
 two-sends = (record { waits = refl; tag = refl; rounds = refl }, record { waits = refl; tag = refl; rounds = refl }, refl)

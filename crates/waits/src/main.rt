@@ -1,5 +1,5 @@
-// Reads a plan from standard input and prints for each leaf, in class order, how many bytes the whole link may send before its longest packet
-// has gone: alone in its queue, and as the last of 32 such packets (R242); or where the plan is refused. Run on tree P and compared.
+// Reads a plan from standard input and prints for each leaf, in class order, how many bytes the whole link may send before its longest
+// packet has gone: alone in its queue, and as the last of 32 such packets (R242); or where the plan is refused. Run on tree P and compared.
 // Serves demand 3: the numbers are those of `promised`.
 use checks::Verdict;
 use libc::STDIN_FILENO;

@@ -30,7 +30,8 @@ module _ (t : Tree) (b : List ℕ) {f : Bool} (exactly : Exactly f (PlanRules t)
       record { shape = shape; obeys = f; exactly = exactly; answer = rw v a; buffer = rw v }
 
   -- a buffer shorter than the plan
-  pub writes-short : Arrays t → (r : Written) → f ≡ true → length b < length (planBytes t) → r ≡ nothingWritten (Refused 16 (length (planBytes t)))
+  pub writes-short : Arrays t → (r : Written) → f ≡ true → length b < length (planBytes t) → r ≡ nothingWritten
+      (Refused 16 (length (planBytes t)))
       → Writes t b r b
   unfolding noRoom
   writes-short shape r e short a =
@@ -55,7 +56,8 @@ module _ (t : Tree) (b : List ℕ) {f : Bool} (exactly : Exactly f (PlanRules t)
 -- the bytes written are within the buffer
 counted-by : (v : Verdict) (t : Tree) (b : List ℕ) → Counts (writtenBy v t .used) (bufferBy v t b)
 counted-by Passed t b =
-    let n : length (planBytes t) ≤ length (bufferBy Passed t b) = omega (arith, length-append (planBytes t) (drop (length (planBytes t)) b)) in
+    let n : length (planBytes t) ≤ length (bufferBy Passed t b) = omega (arith, length-append (planBytes t) (drop (length (planBytes t)) b))
+    in
     (n, sym (length-take-le (length (planBytes t)) (bufferBy Passed t b) n))
 counted-by (Refused n p) t b = (omega arith, sym (length-take-le 0 b (omega arith)))
 

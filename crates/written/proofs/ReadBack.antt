@@ -27,7 +27,17 @@ use Rattle.plan.specs.Record.{kindAt, missing, unknown, cut, bodyOf, ruleOf, ba
 use Rattle.plan.specs.Reader.{followsOf, after, treeOf, passes, outcome, planOf}
 use Rattle.plan.specs.Rows.{restOf}
 use Rattle.plan.proofs.Records.{class-no-rule}
-use Rattle.plan.proofs.Reading.{RuleRecord, opening-none, opening-rule, record-class, record-end, pass-yes, tree-count, tree-grown, plan-ended}
+use Rattle.plan.proofs.Reading.{
+  RuleRecord,
+  opening-none,
+  opening-rule,
+  record-class,
+  record-end,
+  pass-yes,
+  tree-count,
+  tree-grown,
+  plan-ended,
+}
 use Rattle.plan.proofs.Numbers.{ClassIs, plan-order, tree-follows}
 use Rattle.written.specs.Bytes.{recordBytes, ruleBytes, classBytes, classesBytes, planBytes}
 use Rattle.written.specs.Writing.{Arrays}
@@ -66,8 +76,11 @@ classes-split t k (suc n) h = go (decLe k n) (λ l. classes-split t k n l)
     go : Dec (k ≤ n) → (k ≤ n → (y : List ℕ) × (classesBytes t n ≡ classesBytes t k ++ y))
         → (y : List ℕ) × (classesBytes t (suc n) ≡ classesBytes t k ++ y)
     go (yes l) ih =
-        let r = ih l in
-        (r .0 ++ classBytes t (suc n), ap (λ (z : List ℕ). z ++ classBytes t (suc n)) (r .1) ∙ append-assoc (classesBytes t k) (r .0) (classBytes t (suc n)))
+        let r = ih l in (
+          r .0 ++ classBytes t (suc n),
+          ap (λ (z : List ℕ). z ++ classBytes t (suc n)) (r .1) ∙ append-assoc (classesBytes t k) (r .0)
+              (classBytes t (suc n)),
+        )
     go (no l) ih =
         let e : k ≡ suc n = omega arith in
         ([], ap (classesBytes t) (sym e) ∙ sym (append-nil (classesBytes t k)))
@@ -167,7 +180,16 @@ module _ (t : Tree) (rules : PlanRules t) (arrays : Arrays t) (x : List ℕ) whe
       ∙ written-body (isLeaf t i) (parentOf t i) (weightOf t i) (longestOf t i) (r .0)
       ∙ ap length (sym (class-is t i))
       in
-      omega (arith, after-suc s k, ih, body, length-append start c, length-append start (c ++ classBytes t i), length-append c (classBytes t i))
+      omega (
+        arith,
+        after-suc s k,
+        ih,
+        body,
+        length-append start c,
+        length-append start (c ++ classBytes t i),
+        length-append c
+            (classBytes t i),
+      )
 
   rest-at : (k : ℕ) → k < t .count
       → (z : List ℕ) × (restOf s k ≡ recordBytes (isLeaf t (suc k)) (parentOf t (suc k)) (weightOf t (suc k)) (longestOf t (suc k)) ++ z)

@@ -55,7 +55,8 @@ first-two s f =
 -- its rule is 1 or 2
 rule-is : (s : List ℕ) → RuleRecord s → (ruleOf s ≡ 1) ⊎ (ruleOf s ≡ 2)
 unfolding badRule
-rule-is s r = go (eqb (ruleOf s) 1) refl (eqb (ruleOf s) 2) refl (sym (ap (λ (b : Bool). b && not (eqb (ruleOf s) 1 || eqb (ruleOf s) 2)) (r .gives)) ∙ r .right)
+rule-is s r = go (eqb (ruleOf s) 1) refl (eqb (ruleOf s) 2) refl
+    (sym (ap (λ (b : Bool). b && not (eqb (ruleOf s) 1 || eqb (ruleOf s) 2)) (r .gives)) ∙ r .right)
   where
     go : (a : Bool) → eqb (ruleOf s) 1 ≡ a → (b : Bool) → eqb (ruleOf s) 2 ≡ b → not (a || b) ≡ false → (ruleOf s ≡ 1) ⊎ (ruleOf s ≡ 2)
     go true e b f h = inl (eqb-true (ruleOf s) 1 e)
@@ -84,7 +85,8 @@ module _ (s : List ℕ) (bytes : Bytes s) where
   classes-back t (suc n) below is =
       let rest = restOf s n in
       let on : after s (suc n) ≡ after s n + (1 + kindAt rest .body) = after-suc s n in
-      let here = class-back rest (pass-parts s n (below n (omega arith)) .0) (taken s n (below n (omega arith)) .whole) (rest-bytes (after s n)) in
+      let here = class-back rest (pass-parts s n (below n (omega arith)) .0) (taken s n (below n (omega arith)) .whole)
+      (rest-bytes (after s n)) in
       ap (λ (k : ℕ). take k s) on
       ∙ take-add (after s n) (1 + kindAt rest .body) s
       ∙ ap₂ (λ (x y : List ℕ). x ++ y) (classes-back t n (λ j u. below j (omega arith)) (λ j u. is j (omega arith)))

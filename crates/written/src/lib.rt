@@ -157,7 +157,7 @@ pub fn write_plan(tree: Tree, out: &mut [u8]) -> Written
     ensures { λ r. ⌜ Writes tree (now (out .entry)) r (now (out .exit)) ⌝ }
     ensures { λ r. ⌜ Counts (r .used) (now (out .exit)) ⌝ }
 {
-    if !tree::is_plan(tree) {
+    if !shape::is_plan(tree) {
         return refused(checks::NOT_SOUND, 0);
     }
     let needed = plan_length(tree);

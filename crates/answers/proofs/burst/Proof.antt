@@ -18,10 +18,16 @@ use borrow.Author.Needs.{needs}
 use Rattle.answers.proofs.burst.Statement.{statement}
 use Rattle.answers.proofs.burst.Tie as tie
 
--- the link in the arrays, standing anywhere; where it stands is read off its four numbers
-abbrev start-of : tie.After-is-sound-at → tie.Start
-start-of k = k .before .before .before .before .before .before .before .before .before .before .before .before .before .before .before .before .before .before .before .before .before .before .before
+-- the step that read off the four numbers where the link stands, and the one before all
+abbrev read : tie.After-is-sound-at → tie.After-stand-in
+read k =
+    let half = k .before .before .before .before .before .before .before .before .before .before in
+    half .before .before .before .before .before .before .before .before .before
 
+abbrev start-of : tie.After-is-sound-at → tie.Start
+start-of k = read k .before .before .before .before
+
+-- the link in the arrays, standing anywhere; where it stands is read off its four numbers
 abbrev standing : tie.After-is-sound-at → Stand → Link
 standing k s =
     let a = start-of k .args in
@@ -35,16 +41,16 @@ four k = now (start-of k .args .stand)
 known-so : (k : tie.After-is-sound-at) (s : Stand) → Shaped (standing k s)
 known-so k s = k .before .before .before .before .before .before .before .before .before .known .ensures _ s
 
-decided : (k : tie.After-is-sound-at) → Exactly (k .is-sound-at .result) (SoundLink (standing k (k .before .before .before .before .before .before .before .before .before .before .before .before .before .before .before .before .before .before .before .stand-in .result)))
-decided k = k .is-sound-at .ensures .0 _ _ (k .before .before .before .before .before .before .before .before .before .before .before .before .before .before .before .before .before .before .before .stand-in .result .charged)
+decided : (k : tie.After-is-sound-at) → Exactly (k .is-sound-at .result) (SoundLink (standing k (read k .stand-in .result)))
+decided k = k .is-sound-at .ensures .0 _ _ (read k .stand-in .result .charged)
 
 decided-so : (k : tie.After-is-sound-at) (b : Bool) → k .is-sound-at .result ≡ b
-    → Exactly b (SoundLink (standing k (k .before .before .before .before .before .before .before .before .before .before .before .before .before .before .before .before .before .before .before .stand-in .result)))
-decided-so k b e = subst (λ (x : Bool). Exactly x (SoundLink (standing k (k .before .before .before .before .before .before .before .before .before .before .before .before .before .before .before .before .before .before .before .stand-in .result)))) e (decided k)
+    → Exactly b (SoundLink (standing k (read k .stand-in .result)))
+decided-so k b e = subst (λ (x : Bool). Exactly x (SoundLink (standing k (read k .stand-in .result)))) e (decided k)
 
 exactly-so : (k : tie.After-is-sound-at) (b : Bool) → k .is-sound-at .result ≡ b → Exactly b (SoundLink (standing k (standIn (four k))))
 exactly-so k b e =
-    subst (λ (s : Stand). Exactly b (SoundLink (standing k s))) (k .before .before .before .before .before .before .before .before .before .before .before .before .before .before .before .before .before .before .before .stand-in .ensures) (decided-so k b e)
+    subst (λ (s : Stand). Exactly b (SoundLink (standing k s))) (read k .stand-in .ensures) (decided-so k b e)
 
 stand-in-requires : tie.Need-stand-in-requires
 stand-in-requires c κs = search needs
@@ -67,9 +73,10 @@ returns c =
 make-calls-requires : tie.Need-make-calls-requires
 make-calls-requires c κs =
     let k = c .before .before .before .before .before .before .before .before .before .before .before .before in
-    let on = not-false (k .is-sound-at .result) (c .before .before .before .before .before .before .before .before .before .before .before .if1 .left) in
-    let from = k .before .before .before .before .before .before .before .before .before .before .before .before .before .before .before .before .before .before .before .stand-in in (
-      record { exactly = decided-so k true on; shape = known-so k (k .before .before .before .before .before .before .before .before .before .before .before .before .before .before .before .before .before .before .before .stand-in .result) },
+    let on = not-false (k .is-sound-at .result)
+    (c .before .before .before .before .before .before .before .before .before .before .before .if1 .left) in
+    let from = read k .stand-in in (
+      record { exactly = decided-so k true on; shape = known-so k (read k .stand-in .result) },
       k .is-sound-at .ensures .1 on,
       rw (from .ensures) refl,
     )
@@ -85,16 +92,18 @@ same-length c = search needs
 
 returns-2 : tie.Need-returns-2
 returns-2 c =
-    let k = c .before .before .before .before .before .before .before .before .before .before .before .before .before .before .before .before .before .before .before .before in
-    let on = not-false _ (c .before .before .before .before .before .before .before .before .before .before .before .before .before .before .before .before .before .before .before .if1 .left) in
+    let half = c .before .before .before .before .before .before .before .before .before .before in
+    let k = half .before .before .before .before .before .before .before .before .before .before in
+    let on = not-false _ (half .before .before .before .before .before .before .before .before .before .if1 .left) in
     let a = start-of k .args in
     let m = c .before .before .before .before .before .before .before in
     let done = m .make-calls in
     let sound = exactly-so k true on .sound refl in
     rw (c .before .before .four-of .ensures)
-    (bursts-made (standing k (standIn (four k))) (now (a .input)) (a .place) (now (a .out)) (known-so k (standIn (four k))) (done .result) _ _
+    (bursts-made (standing k (standIn (four k))) (now (a .input)) (a .place) (now (a .out)) (known-so k (standIn (four k))) (done .result) _
+    _
     (c .before .ended .result) sound
-    (served-at (standing k) (k .before .before .before .before .before .before .before .before .before .before .before .before .before .before .before .before .before .before .before .stand-in .ensures)
+    (served-at (standing k) (read k .stand-in .ensures)
     (done .ensures)) (c .before .ended .ensures))
 
 pub burst-spec : {M : Type 1} → statement M

@@ -28,7 +28,8 @@ abbrev nextOf : Heard → Link → Next
 nextOf run link = record { reply = run .reply; more = run .more; link = link; place = run .place }
 
 abbrev Inv-loop : tie.InvT-loop
-Inv-loop shape children balance₀ residual₀ start₀ held₀ lengths₀ tags₀ marks₀ packets₀ bytes₀ input place out₀ kept₀ run₀ laid₀ balance residual start held lengths tags marks
+Inv-loop shape children balance₀ residual₀ start₀ held₀ lengths₀ tags₀ marks₀ packets₀ bytes₀ input place out₀ kept₀ run₀ laid₀ balance
+    residual start held lengths tags marks
     packets bytes out kept run laid =
     let t = treeIn shape in
     let link = linkAt t (run .stand) balance residual start held lengths tags marks packets bytes in
@@ -37,7 +38,8 @@ Inv-loop shape children balance₀ residual₀ start₀ held₀ lengths₀ tags�
     × Told true link × (run .sound ≡ true) × Kept t (run .stand .known) kept
 
 abbrev μ-loop : tie.MeasureT-loop
-μ-loop shape children balance₀ residual₀ start₀ held₀ lengths₀ tags₀ marks₀ packets₀ bytes₀ input place out₀ kept₀ run₀ laid₀ balance residual start held lengths tags marks
+μ-loop shape children balance₀ residual₀ start₀ held₀ lengths₀ tags₀ marks₀ packets₀ bytes₀ input place out₀ kept₀ run₀ laid₀ balance
+    residual start held lengths tags marks
     packets bytes out kept run laid = stepsLeft out₀ (run .more) laid
 
 last-reply-requires : tie.Need-last-reply-requires Inv-loop μ-loop
@@ -84,7 +86,7 @@ loop-less : tie.Need-loop-less Inv-loop μ-loop
 loop-less c =
     let lay = c .before .before in
     let t = c .before .before .before .before .before .before .before .before .before .before .before .before .before .before .before in
-    let h = c .before .before .before .before .before .before .before .before .before .before .before .before .before .before .before .before .before in
+    let h = t .before .before in
     let a = h .before .before .before .before .before .args in
     let run = c .before .before .before .before .event .result in
     steps-less (now (a .out)) (run .more) (lay .lay-call .result) (h .loop .run .more) (h .loop .laid)
@@ -97,7 +99,7 @@ loop-again c =
     let lay = c .before .before in
     let e = c .before .before .before .before in
     let t = c .before .before .before .before .before .before .before .before .before .before .before .before .before .before .before in
-    let h = c .before .before .before .before .before .before .before .before .before .before .before .before .before .before .before .before .before in
+    let h = t .before .before in
     let st = h .before .before .before .before .before in
     let a = st .args in
     let on = h .loop .inv .2 in

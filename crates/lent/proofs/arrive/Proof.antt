@@ -88,7 +88,7 @@ placed-of r is = LL.owed S.the-type S′.the-laws r (LL.val S.the-type S′.the-
 -- a link with the packets held and the totals that the call gives, and the waiting places' last values
 abbrev placed-in : Link → Placed → Arrays (List ℕ) → Link
 placed-in l r w =
-    linkOf (l .tree) (l .size) (l .active) (l .place) (l .accounts) (l .start) (r .held) (w .lengths) (w .tags) (w .marks) (r .totals)
+    linkOf (l .tree) (w .lengths) (w .tags) (w .marks) (l .start) (r .held) (r .totals) (l .round)
 
 module _ {M : Type 1} (𝓤 : URA M) (H : Heap 𝓤) (A : Atoms 𝓤) (W : Given 𝓤 H A) (at-mem : Memory → SProp 𝓤) (run : Routine → Fun 𝓤) where
   abbrev Core : Contract 𝓤
@@ -143,13 +143,7 @@ module _ {M : Type 1} (𝓤 : URA M) (H : Heap 𝓤) (A : Atoms 𝓤) (W : Given
       let ws = placed-of r isr in
       LL.owes L.the-type L′.the-laws (after r w) (
         ps .0,
-        (
-          ps .1 .0,
-          (
-            ps .1 .1 .0,
-            (ps .1 .1 .1 .0, (ps .1 .1 .1 .1 .0, (ps .1 .1 .1 .1 .1 .0, (ws .0, (fit .0, (fit .1 .0, (fit .1 .1, (ws .1 .0, tt)))))))),
-          ),
-        ),
+        (fit .0, (fit .1 .0, (fit .1 .1, (ps .1 .1 .1 .1 .0, (ws .0, (ws .1 .0, (ps .1 .1 .1 .1 .1 .1 .1 .0, tt))))))),
       )
 
   abbrev to-core : ℕ → Arrays GName → Core 𝓤 H A W at-mem run .Ghost
@@ -184,9 +178,9 @@ module _ {M : Type 1} (𝓤 : URA M) (H : Heap 𝓤) (A : Atoms 𝓤) (W : Given
       → ent 𝓤 (ensured 𝓤 H A core.ended (core.clauses 𝓤 H A at-mem run) (α ∷ [], tt) (to-core α n .0 .3) tt r) (ex 𝓤 (Left α n r))
   told α n r = exE 𝓤 _ (λ ws.
       let w : Arrays (List ℕ) = record {
-        lengths = ws .1 .1 .1 .1 .1 .1 .1 .1 .0;
-        tags = ws .1 .1 .1 .1 .1 .1 .1 .1 .1 .0;
-        marks = ws .1 .1 .1 .1 .1 .1 .1 .1 .1 .1 .0;
+        lengths = ws .1 .1 .1 .1 .1 .0;
+        tags = ws .1 .1 .1 .1 .1 .1 .0;
+        marks = ws .1 .1 .1 .1 .1 .1 .1 .0;
       } in
       let Q : SProp 𝓤 = sem 𝓤 H A (lasts core.ended (α ∷ [], tt) (to-core α n .0 .3) ws) in
       let E : SProp 𝓤 = fact 𝓤 (Said r w) in
@@ -194,8 +188,8 @@ module _ {M : Type 1} (𝓤 : URA M) (H : Heap 𝓤) (A : Atoms 𝓤) (W : Given
       qed W ((‵ (lasts core.ended (α ∷ [], tt) (to-core α n .0 .3) ws) ⊛ raw E) ∷ []) ∵ show ! (Left α n r) w $ check ! e $ split ! $
       keep ! (0 ∷ []) $
       -- [what is said of the fields by value; then of the three arrays; then of the class and the packet]
-      fsplit ! $ drop ! $ fsplit ! $ drop ! $ fsplit ! $ drop ! $ fsplit ! $ drop ! $ fsplit ! $ drop ! $
-      fsplit ! $ drop ! $ fsplit ! $ drop ! $ fsplit ! $ drop ! $ fsplit ! $ move ! (1 ∷ []) $ fsplit ! $ move ! (1 ∷ []) $ fsplit ! $
+      fsplit ! $ drop ! $ fsplit ! $ drop ! $ fsplit ! $ drop ! $ fsplit ! $ drop ! $ fsplit ! $ drop ! $ fsplit ! $ move ! (1 ∷ []) $
+      fsplit ! $ move ! (1 ∷ []) $ fsplit ! $
       nothing ! $ keep ! (4 ∷ 3 ∷ 1 ∷ 0 ∷ []) $ done !))
 
   module _ (C : Calls 𝓤 H) (Λ : Loops 𝓤 H) (fm : FmC 𝓤 H (W .laws) C) (known : Triple 𝓤 (C #core) (Core 𝓤 H A W at-mem run)) where
@@ -206,53 +200,45 @@ module _ {M : Type 1} (𝓤 : URA M) (H : Heap 𝓤) (A : Atoms 𝓤) (W : Given
         move ! (2 ∷ []) $ fsplit ! $ keep ! (0 ∷ 2 ∷ []) $ fsplit3 ! $ drop ! $
         -- [obs; the borrow; the token]
         enter ! C Λ code.function args _ $ alloc1 ! (λ l₀. alloc1 ! (λ l₁. alloc1 ! (λ l₂. alloc1 ! (λ l₃. alloc1 ! (λ l₄. alloc1 ! (λ l₅.
-        alloc1 ! (λ l₆. alloc1 ! (λ l₇. alloc1 ! (λ l₈. alloc1 ! (λ l₉. alloc1 ! (λ l₁₀. alloc1 ! (λ l₁₁. alloc1 ! (λ l₁₂.
-        alloc1 ! (λ l₁₃. alloc1 ! (λ l₁₄. alloc1 ! (λ l₁₅. alloc0 ! $ params1 ! $
-        pass1 ! (init ! 28 refl (tt, tt)) $ pass1 ! (init ! 26 refl (tt, record { fits = fits })) $ pass1 ! (init ! 24 refl wt) $ pass0 ! $
-        move ! (32 ∷ 33 ∷ 34 ∷ []) $ opened ! tt h b o (λ is. let ps = fields-of h is in apart ! h b o $
-        -- [the eleven cells; the way back; the open borrow; obs; auth; _15; …; _14; …; _0; …]
-        assigns ! (of-opd ! (load ! (from ! (hop ! (look ! 43 refl) (fld ! {τ = type-at 0} {d = 0} refl (stop !))))
-        (look-raw ! 0 {τ = type-at 0} refl))) (from ! (stop !)) (init ! 35 refl (typed 𝓤 H A W 0 (h .tree) (ps .0) .0)) $
-        assigns ! (of-opd ! (load ! (from ! (hop ! (look ! 43 refl) (fld ! {τ = type-at 1} {d = 472} refl (stop !))))
-        (look-raw ! 1 {τ = type-at 1} refl))) (from ! (stop !)) (init ! 33 refl (typed 𝓤 H A W 1 (h .size) (ps .1 .0) .0)) $
-        assigns ! (of-opd ! (load ! (from ! (hop ! (look ! 43 refl) (fld ! {τ = type-at 2} {d = 480} refl (stop !))))
-        (look-raw ! 2 {τ = type-at 2} refl))) (from ! (stop !)) (init ! 31 refl (typed 𝓤 H A W 2 (h .active) (ps .1 .1 .0) .0)) $
-        assigns ! (of-opd ! (load ! (from ! (hop ! (look ! 43 refl) (fld ! {τ = type-at 3} {d = 488} refl (stop !))))
-        (look-raw ! 3 {τ = type-at 3} refl))) (from ! (stop !)) (init ! 29 refl (typed 𝓤 H A W 3 (h .place) (ps .1 .1 .1 .0) .0)) $
-        assigns ! (of-opd ! (load ! (from ! (hop ! (look ! 43 refl) (fld ! {τ = type-at 4} {d = 496} refl (stop !))))
+        alloc1 ! (λ l₆. alloc1 ! (λ l₇. alloc1 ! (λ l₈. alloc1 ! (λ l₉. alloc1 ! (λ l₁₀. alloc1 ! (λ l₁₁. alloc1 ! (λ l₁₂. alloc0 ! $
+        params1 ! $
+        pass1 ! (init ! 22 refl (tt, tt)) $ pass1 ! (init ! 20 refl (tt, record { fits = fits })) $ pass1 ! (init ! 18 refl wt) $ pass0 ! $
+        move ! (26 ∷ 27 ∷ 28 ∷ []) $ opened ! tt h b o (λ is. let ps = fields-of h is in apart ! h b o $
+        -- [the eight cells; the way back; the open borrow; obs; auth; _12; …; _11; …; _0; …]
+        assigns ! (of-opd ! (load ! (from ! (hop ! (look ! 34 refl) (fld ! {τ = type-at 0} {d = 0} refl (stop !))))
+        (look-raw ! 0 {τ = type-at 0} refl))) (from ! (stop !))
+        (init ! 26 refl (typed 𝓤 H A W 0 (h .tree) (ps .0) .0)) $
+        assigns ! (of-opd ! (load ! (from ! (hop ! (look ! 34 refl) (fld ! {τ = type-at 4} {d = 29_144} refl (stop !))))
         (look-raw ! 4 {τ = type-at 4} refl))) (from ! (stop !))
-        (init ! 27 refl (typed 𝓤 H A W 4 (h .accounts) (ps .1 .1 .1 .1 .0) .0)) $
-        assigns ! (of-opd ! (load ! (from ! (hop ! (look ! 43 refl) (fld ! {τ = type-at 5} {d = 1_520} refl (stop !))))
+        (init ! 24 refl (typed 𝓤 H A W 4 (h .start) (ps .1 .1 .1 .1 .0) .0)) $
+        assigns ! (of-opd ! (load ! (from ! (hop ! (look ! 34 refl) (fld ! {τ = type-at 5} {d = 29_208} refl (stop !))))
         (look-raw ! 5 {τ = type-at 5} refl))) (from ! (stop !))
-        (init ! 25 refl (typed 𝓤 H A W 5 (h .start) (ps .1 .1 .1 .1 .1 .0) .0)) $
-        assigns ! (of-opd ! (load ! (from ! (hop ! (look ! 43 refl) (fld ! {τ = type-at 6} {d = 1_584} refl (stop !))))
+        (init ! 22 refl (typed 𝓤 H A W 5 (h .held) (ps .1 .1 .1 .1 .1 .0) .0)) $
+        assigns ! (of-opd ! (load ! (from ! (hop ! (look ! 34 refl) (fld ! {τ = type-at 6} {d = 29_272} refl (stop !))))
         (look-raw ! 6 {τ = type-at 6} refl))) (from ! (stop !))
-        (init ! 23 refl (typed 𝓤 H A W 6 (h .held) (ps .1 .1 .1 .1 .1 .1 .0) .0)) $
-        assigns ! (of-opd ! (load ! (from ! (hop ! (look ! 43 refl) (fld ! {τ = type-at 10} {d = 30_320} refl (stop !))))
-        (look-raw ! 10 {τ = type-at 10} refl))) (from ! (stop !))
-        (init ! 21 refl (typed 𝓤 H A W 10 (h .totals) (ps .1 .1 .1 .1 .1 .1 .1 .1 .1 .1 .0) .0)) $
-        assigns ! (addr ! (from ! (hop ! (look ! 43 refl) (fld ! {τ = type-at 7} {d = 1_648} refl (stop !))))) (from ! (stop !))
-        (init ! 19 refl (tt, tt)) $
-        assigns ! (addr ! (from ! (hop ! (look ! 43 refl) (fld ! {τ = type-at 8} {d = 5_744} refl (stop !))))) (from ! (stop !))
-        (init ! 17 refl (tt, tt)) $
-        assigns ! (addr ! (from ! (hop ! (look ! 43 refl) (fld ! {τ = type-at 9} {d = 13_936} refl (stop !))))) (from ! (stop !))
-        (init ! 15 refl (tt, tt)) $
-        move ! (7 ∷ 8 ∷ 9 ∷ []) $ lent-out ! tt mut mut-held (mut-lends 𝓤 H A W) (waiting h) b o (waiting-fit h is) (λ α n.
+        (init ! 20 refl (typed 𝓤 H A W 6 (h .totals) (ps .1 .1 .1 .1 .1 .1 .0) .0)) $
+        assigns ! (of-opd ! (load ! (from ! (hop ! (look ! 34 refl) (fld ! {τ = type-at 7} {d = 30_304} refl (stop !))))
+        (look-raw ! 7 {τ = type-at 7} refl))) (from ! (stop !))
+        (init ! 18 refl (typed 𝓤 H A W 7 (h .round) (ps .1 .1 .1 .1 .1 .1 .1 .0) .0)) $
+        assigns ! (addr ! (from ! (hop ! (look ! 34 refl) (fld ! {τ = type-at 1} {d = 472} refl (stop !))))) (from ! (stop !))
+        (init ! 16 refl (tt, tt)) $
+        assigns ! (addr ! (from ! (hop ! (look ! 34 refl) (fld ! {τ = type-at 2} {d = 4_568} refl (stop !))))) (from ! (stop !))
+        (init ! 14 refl (tt, tt)) $
+        assigns ! (addr ! (from ! (hop ! (look ! 34 refl) (fld ! {τ = type-at 3} {d = 12_760} refl (stop !))))) (from ! (stop !))
+        (init ! 12 refl (tt, tt)) $
+        move ! (1 ∷ 2 ∷ 3 ∷ []) $ lent-out ! tt mut mut-held (mut-lends 𝓤 H A W) (waiting h) b o (waiting-fit h is) (λ α n.
         group ! 4 $ use1 W (raw (Core 𝓤 H A W at-mem run .pre (to-core α n))) (goes-core is α n) $
         calls-at ! fm (Core 𝓤 H A W at-mem run) known (to-core α n)
-        (and-then ! (load ! (from ! (stop !)) (look ! 36 refl))
-        (and-then ! (load ! (from ! (stop !)) (look ! 34 refl))
-        (and-then ! (load ! (from ! (stop !)) (look ! 32 refl))
-        (and-then ! (load ! (from ! (stop !)) (look ! 30 refl))
-        (and-then ! (load ! (from ! (stop !)) (look ! 28 refl))
-        (and-then ! (load ! (from ! (stop !)) (look ! 26 refl))
-        (and-then ! (load ! (from ! (stop !)) (look ! 24 refl))
-        (and-then ! (load ! (from ! (stop !)) (look ! 22 refl))
-        (and-then ! (load ! (from ! (stop !)) (look ! 20 refl))
-        (and-then ! (load ! (from ! (stop !)) (look ! 18 refl))
-        (and-then ! (load ! (from ! (stop !)) (look ! 16 refl))
-        (and-then ! (load ! (from ! (stop !)) (look ! 42 refl))
-        (and-then ! (load ! (from ! (stop !)) (look ! 40 refl)) (no-more !)))))))))))))) (λ v.
+        (and-then ! (load ! (from ! (stop !)) (look ! 27 refl))
+        (and-then ! (load ! (from ! (stop !)) (look ! 25 refl))
+        (and-then ! (load ! (from ! (stop !)) (look ! 23 refl))
+        (and-then ! (load ! (from ! (stop !)) (look ! 21 refl))
+        (and-then ! (load ! (from ! (stop !)) (look ! 19 refl))
+        (and-then ! (load ! (from ! (stop !)) (look ! 17 refl))
+        (and-then ! (load ! (from ! (stop !)) (look ! 15 refl))
+        (and-then ! (load ! (from ! (stop !)) (look ! 13 refl))
+        (and-then ! (load ! (from ! (stop !)) (look ! 33 refl))
+        (and-then ! (load ! (from ! (stop !)) (look ! 31 refl)) (no-more !))))))))))) (λ v.
         returned-with ! tt S.the-row (λ r w. Said r w) (λ w. as-one (of-each last w b o α n)) (‵ (flft (α ∷ []) fullShare) ⊛ ‵ ftrue) v _
         (ensured 𝓤 H A core.ended (core.clauses 𝓤 H A at-mem run) (α ∷ [], tt) (to-core α n .0 .3) tt) (id⊢ 𝓤 _) (told α n)
         (λ r w e is₁.
@@ -260,31 +246,29 @@ module _ {M : Type 1} (𝓤 : URA M) (H : Heap 𝓤) (A : Atoms 𝓤) (W : Given
         let ws = placed-of r isr in
         split ! $ move ! (1 ∷ []) $ drop ! $ move ! (1 ∷ []) $
         one-by-one ! (of-each last w b o α n) $ move ! (3 ∷ []) $
-        -- [the token; the last values; the lender's three parts; the eight cells; …]
-        land ! (from ! (stop !)) (init ! 41 refl (LL.lawful S.the-type S′.the-laws 𝓤 H A W .typed r _ is₁ .0)) $
-        rewrite ! 41 (λ (us : List Val). ‵ (fat fullShare S′.mir l₄ zero (only us))) (LL.tells S.the-type S′.the-laws r (v ∷ []) is₁) refl $
-        come-back-at ! tt w b o n (λ fit. move ! (3 ∷ 4 ∷ 5 ∷ 6 ∷ 7 ∷ 8 ∷ 9 ∷ 0 ∷ 1 ∷ 2 ∷ []) $
-        assigns ! (of-opd ! (load ! (from ! (fld ! {τ = type-at 6} {d = 0} refl (stop !)))
-        (look-in ! 37 {τ = type-at 6} (sub ! 0 {τ = type-at 6} {d = 0} refl (whole !)))))
-        (from ! (hop ! (look ! 43 refl) (fld ! {τ = type-at 6} {d = 1_584} refl (stop !))))
-        (store-raw ! 6 {τ = type-at 6} refl (typed 𝓤 H A W 6 (r .held) (ws .0) .0)) $
-        assigns ! (of-opd ! (load ! (from ! (fld ! {τ = type-at 10} {d = 64} refl (stop !)))
-        (look-in ! 37 {τ = type-at 10} (sub ! 1 {τ = type-at 10} {d = 64} refl (whole !)))))
-        (from ! (hop ! (look ! 43 refl) (fld ! {τ = type-at 10} {d = 30_320} refl (stop !))))
-        (store-raw ! 10 {τ = type-at 10} refl (typed 𝓤 H A W 10 (r .totals) (ws .1 .0) .0)) $
-        assigns ! (of-opd ! (load ! (from ! (fld ! {d = 1_096} refl (stop !))) (look-in ! 37 (sub ! 2 {d = 1_096} refl (whole !)))))
-        (from ! (stop !)) (init ! 45 refl (LL.lawful N.the-type N′.the-laws 𝓤 H A W .typed (r .answer) _ (ws .1 .1 .0) .0)) $
+        -- [the token; the last values; the lender's three parts; the five cells; …]
+        land ! (from ! (stop !)) (init ! 32 refl (LL.lawful S.the-type S′.the-laws 𝓤 H A W .typed r _ is₁ .0)) $
+        rewrite ! 32 (λ (us : List Val). ‵ (fat fullShare S′.mir l₄ zero (only us))) (LL.tells S.the-type S′.the-laws r (v ∷ []) is₁) refl $
+        come-back-at ! tt w b o n (λ fit. move ! (3 ∷ 0 ∷ 1 ∷ 2 ∷ []) $
+        assigns ! (of-opd ! (load ! (from ! (fld ! {τ = type-at 5} {d = 0} refl (stop !)))
+        (look-in ! 28 {τ = type-at 5} (sub ! 0 {τ = type-at 5} {d = 0} refl (whole !)))))
+        (from ! (hop ! (look ! 34 refl) (fld ! {τ = type-at 5} {d = 29_208} refl (stop !))))
+        (store-raw ! 5 {τ = type-at 5} refl (typed 𝓤 H A W 5 (r .held) (ws .0) .0)) $
+        assigns ! (of-opd ! (load ! (from ! (fld ! {τ = type-at 6} {d = 64} refl (stop !)))
+        (look-in ! 28 {τ = type-at 6} (sub ! 1 {τ = type-at 6} {d = 64} refl (whole !)))))
+        (from ! (hop ! (look ! 34 refl) (fld ! {τ = type-at 6} {d = 29_272} refl (stop !))))
+        (store-raw ! 6 {τ = type-at 6} refl (typed 𝓤 H A W 6 (r .totals) (ws .1 .0) .0)) $
+        assigns ! (of-opd ! (load ! (from ! (fld ! {d = 1_096} refl (stop !))) (look-in ! 28 (sub ! 2 {d = 1_096} refl (whole !)))))
+        (from ! (stop !)) (init ! 36 refl (LL.lawful N.the-type N′.the-laws 𝓤 H A W .typed (r .answer) _ (ws .1 .1 .0) .0)) $
         together ! (after r w) b o $ closed ! tt (after r w) (known-after is r w isr fit) b o $
-        -- [obs; the borrow; the token; _15; …; _0; …]
-        returns ! (look ! 33 refl) $ forget ! 3 refl $ forget ! 5 refl $ forget ! 7 refl $ forget ! 9 refl $ forget ! 11 refl $
+        -- [obs; the borrow; the token; _12; …; _0; …]
+        returns ! (look ! 27 refl) $ forget ! 3 refl $ forget ! 5 refl $ forget ! 7 refl $ forget ! 9 refl $ forget ! 11 refl $
         forget ! 13 refl $ forget ! 15 refl $ forget ! 17 refl $ forget ! 19 refl $ forget ! 21 refl $ forget ! 23 refl $
-        forget ! 25 refl $ forget ! 27 refl $ forget ! 29 refl $ forget ! 31 refl $ forget ! 33 refl $ move ! (33 ∷ 34 ∷ []) $
-        free1 ! $ move ! (31 ∷ 32 ∷ []) $ free1 ! $ move ! (29 ∷ 30 ∷ []) $ free1 ! $ move ! (27 ∷ 28 ∷ []) $ free1 ! $
-        move ! (25 ∷ 26 ∷ []) $ free1 ! $ move ! (23 ∷ 24 ∷ []) $ free1 ! $ move ! (21 ∷ 22 ∷ []) $ free1 ! $ move ! (19 ∷ 20 ∷ []) $
-        free1 ! $ move ! (17 ∷ 18 ∷ []) $ free1 ! $ move ! (15 ∷ 16 ∷ []) $ free1 ! $ move ! (13 ∷ 14 ∷ []) $ free1 ! $
-        move ! (11 ∷ 12 ∷ []) $ free1 ! $ move ! (9 ∷ 10 ∷ []) $ free1 ! $ move ! (7 ∷ 8 ∷ []) $ free1 ! $ move ! (5 ∷ 6 ∷ []) $
-        free1 ! $ move ! (3 ∷ 4 ∷ []) $ free1 ! $ free0 ! $
-        keep ! (0 ∷ 1 ∷ 2 ∷ []) $ by ! (exits r w (arrived is r w e) (ws .1 .1 .0)))))))))))))))))))))))
+        forget ! 25 refl $ forget ! 27 refl $ move ! (27 ∷ 28 ∷ []) $ free1 ! $ move ! (25 ∷ 26 ∷ []) $ free1 ! $ move ! (23 ∷ 24 ∷ []) $
+        free1 ! $ move ! (21 ∷ 22 ∷ []) $ free1 ! $ move ! (19 ∷ 20 ∷ []) $ free1 ! $ move ! (17 ∷ 18 ∷ []) $ free1 ! $
+        move ! (15 ∷ 16 ∷ []) $ free1 ! $ move ! (13 ∷ 14 ∷ []) $ free1 ! $ move ! (11 ∷ 12 ∷ []) $ free1 ! $ move ! (9 ∷ 10 ∷ []) $
+        free1 ! $ move ! (7 ∷ 8 ∷ []) $ free1 ! $ move ! (5 ∷ 6 ∷ []) $ free1 ! $ move ! (3 ∷ 4 ∷ []) $ free1 ! $ free0 ! $
+        keep ! (0 ∷ 1 ∷ 2 ∷ []) $ by ! (exits r w (arrived is r w e) (ws .1 .1 .0))))))))))))))))))))
 
 module _ {M : Type 1} (𝓤 : URA M) (H : Heap 𝓤) (A : Atoms 𝓤) (W : Given 𝓤 H A) (at-mem : Memory → SProp 𝓤) (run : Routine → Fun 𝓤) where
   lent-walks : (C : Calls 𝓤 H) (Λ : Loops 𝓤 H) → FmC 𝓤 H (W .laws) C → Triple 𝓤 (C #core) (Core 𝓤 H A W at-mem run)

@@ -146,28 +146,10 @@ module _ {M : Type 1} (𝓤 : URA M) (H : Heap 𝓤) (A : Atoms 𝓤) (W : Given
       LL.owes L.the-type L′.the-laws (changedLink h r) (
         ps .0,
         (
-          ws .1 .1 .1 .1 .1 .0,
+          ps .1 .0,
           (
-            ws .0,
-            (
-              ws .1 .0,
-              (
-                ws .1 .1 .0,
-                (
-                  ws .1 .1 .1 .0,
-                  (
-                    ws .1 .1 .1 .1 .0,
-                    (
-                      ps .1 .1 .1 .1 .1 .1 .1 .0,
-                      (
-                        ps .1 .1 .1 .1 .1 .1 .1 .1 .0,
-                        (ps .1 .1 .1 .1 .1 .1 .1 .1 .1 .0, (ws .1 .1 .1 .1 .1 .1 .0, ps .1 .1 .1 .1 .1 .1 .1 .1 .1 .1 .1)),
-                      ),
-                    ),
-                  ),
-                ),
-              ),
-            ),
+            ps .1 .1 .0,
+            (ps .1 .1 .1 .0, (ws .0, (ws .1 .0, (ws .1 .1 .0, (ws .1 .1 .1 .1 .0, ps .1 .1 .1 .1 .1 .1 .1 .1))))),
           ),
         ),
       )
@@ -179,51 +161,42 @@ module _ {M : Type 1} (𝓤 : URA M) (H : Heap 𝓤) (A : Atoms 𝓤) (W : Given
         keep ! (0 ∷ 2 ∷ []) $ fsplit3 ! $ drop ! $
         -- [obs; the borrow; the token]
         enter ! C Λ code.function args _ $ alloc1 ! (λ l₀. alloc1 ! (λ l₁. alloc1 ! (λ l₂. alloc1 ! (λ l₃. alloc1 ! (λ l₄. alloc1 ! (λ l₅.
-        alloc1 ! (λ l₆. alloc1 ! (λ l₇. alloc1 ! (λ l₈. alloc1 ! (λ l₉. alloc1 ! (λ l₁₀. alloc1 ! (λ l₁₁. alloc1 ! (λ l₁₂.
-        alloc1 ! (λ l₁₃. alloc0 ! $ params1 ! $
-        pass1 ! (init ! 24 refl (tt, tt)) $ pass0 ! $
-        move ! (28 ∷ 29 ∷ 30 ∷ []) $ opened ! tt h b o (λ is. let ps = fields-of h is in apart ! h b o $
-        -- [the eleven cells; the way back; the open borrow; obs; auth; _13; …; _12; …; _0; …]
-        assigns ! (of-opd ! (load ! (from ! (hop ! (look ! 39 refl) (fld ! {τ = type-at 0} {d = 0} refl (stop !))))
-        (look-raw ! 0 {τ = type-at 0} refl))) (from ! (stop !)) (init ! 35 refl (typed 𝓤 H A W 0 (h .tree) (ps .0) .0)) $
-        assigns ! (of-opd ! (load ! (from ! (hop ! (look ! 39 refl) (fld ! {τ = type-at 1} {d = 472} refl (stop !))))
-        (look-raw ! 1 {τ = type-at 1} refl))) (from ! (stop !)) (init ! 33 refl (typed 𝓤 H A W 1 (h .size) (ps .1 .0) .0)) $
-        assigns ! (of-opd ! (load ! (from ! (hop ! (look ! 39 refl) (fld ! {τ = type-at 2} {d = 480} refl (stop !))))
-        (look-raw ! 2 {τ = type-at 2} refl))) (from ! (stop !)) (init ! 31 refl (typed 𝓤 H A W 2 (h .active) (ps .1 .1 .0) .0)) $
-        assigns ! (of-opd ! (load ! (from ! (hop ! (look ! 39 refl) (fld ! {τ = type-at 3} {d = 488} refl (stop !))))
-        (look-raw ! 3 {τ = type-at 3} refl))) (from ! (stop !)) (init ! 29 refl (typed 𝓤 H A W 3 (h .place) (ps .1 .1 .1 .0) .0)) $
-        assigns ! (of-opd ! (load ! (from ! (hop ! (look ! 39 refl) (fld ! {τ = type-at 4} {d = 496} refl (stop !))))
+        alloc1 ! (λ l₆. alloc1 ! (λ l₇. alloc1 ! (λ l₈. alloc1 ! (λ l₉. alloc1 ! (λ l₁₀. alloc0 ! $ params1 ! $
+        pass1 ! (init ! 18 refl (tt, tt)) $ pass0 ! $
+        move ! (22 ∷ 23 ∷ 24 ∷ []) $ opened ! tt h b o (λ is. let ps = fields-of h is in apart ! h b o $
+        -- [the eight cells; the way back; the open borrow; obs; auth; _10; …; _9; …; _0; …]
+        assigns ! (of-opd ! (load ! (from ! (hop ! (look ! 30 refl) (fld ! {τ = type-at 0} {d = 0} refl (stop !))))
+        (look-raw ! 0 {τ = type-at 0} refl))) (from ! (stop !))
+        (init ! 26 refl (typed 𝓤 H A W 0 (h .tree) (ps .0) .0)) $
+        assigns ! (of-opd ! (load ! (from ! (hop ! (look ! 30 refl) (fld ! {τ = type-at 4} {d = 29_144} refl (stop !))))
         (look-raw ! 4 {τ = type-at 4} refl))) (from ! (stop !))
-        (init ! 27 refl (typed 𝓤 H A W 4 (h .accounts) (ps .1 .1 .1 .1 .0) .0)) $
-        assigns ! (of-opd ! (load ! (from ! (hop ! (look ! 39 refl) (fld ! {τ = type-at 5} {d = 1_520} refl (stop !))))
+        (init ! 24 refl (typed 𝓤 H A W 4 (h .start) (ps .1 .1 .1 .1 .0) .0)) $
+        assigns ! (of-opd ! (load ! (from ! (hop ! (look ! 30 refl) (fld ! {τ = type-at 5} {d = 29_208} refl (stop !))))
         (look-raw ! 5 {τ = type-at 5} refl))) (from ! (stop !))
-        (init ! 25 refl (typed 𝓤 H A W 5 (h .start) (ps .1 .1 .1 .1 .1 .0) .0)) $
-        assigns ! (of-opd ! (load ! (from ! (hop ! (look ! 39 refl) (fld ! {τ = type-at 6} {d = 1_584} refl (stop !))))
+        (init ! 22 refl (typed 𝓤 H A W 5 (h .held) (ps .1 .1 .1 .1 .1 .0) .0)) $
+        assigns ! (of-opd ! (load ! (from ! (hop ! (look ! 30 refl) (fld ! {τ = type-at 6} {d = 29_272} refl (stop !))))
         (look-raw ! 6 {τ = type-at 6} refl))) (from ! (stop !))
-        (init ! 23 refl (typed 𝓤 H A W 6 (h .held) (ps .1 .1 .1 .1 .1 .1 .0) .0)) $
-        assigns ! (of-opd ! (load ! (from ! (hop ! (look ! 39 refl) (fld ! {τ = type-at 10} {d = 30_320} refl (stop !))))
-        (look-raw ! 10 {τ = type-at 10} refl))) (from ! (stop !))
-        (init ! 21 refl (typed 𝓤 H A W 10 (h .totals) (ps .1 .1 .1 .1 .1 .1 .1 .1 .1 .1 .0) .0)) $
-        assigns ! (addr ! (from ! (hop ! (look ! 39 refl) (fld ! {τ = type-at 7} {d = 1_648} refl (stop !))))) (from ! (stop !))
-        (init ! 19 refl (tt, tt)) $
-        assigns ! (addr ! (from ! (hop ! (look ! 39 refl) (fld ! {τ = type-at 8} {d = 5_744} refl (stop !))))) (from ! (stop !))
-        (init ! 17 refl (tt, tt)) $
-        assigns ! (addr ! (from ! (hop ! (look ! 39 refl) (fld ! {τ = type-at 9} {d = 13_936} refl (stop !))))) (from ! (stop !))
-        (init ! 15 refl (tt, tt)) $
-        move ! (7 ∷ 8 ∷ 9 ∷ []) $ lent-out ! tt shr shr-held (shr-lends 𝓤 H A W) (waiting h) b o (waiting-fit h is) (λ α n.
+        (init ! 20 refl (typed 𝓤 H A W 6 (h .totals) (ps .1 .1 .1 .1 .1 .1 .0) .0)) $
+        assigns ! (of-opd ! (load ! (from ! (hop ! (look ! 30 refl) (fld ! {τ = type-at 7} {d = 30_304} refl (stop !))))
+        (look-raw ! 7 {τ = type-at 7} refl))) (from ! (stop !))
+        (init ! 18 refl (typed 𝓤 H A W 7 (h .round) (ps .1 .1 .1 .1 .1 .1 .1 .0) .0)) $
+        assigns ! (addr ! (from ! (hop ! (look ! 30 refl) (fld ! {τ = type-at 1} {d = 472} refl (stop !))))) (from ! (stop !))
+        (init ! 16 refl (tt, tt)) $
+        assigns ! (addr ! (from ! (hop ! (look ! 30 refl) (fld ! {τ = type-at 2} {d = 4_568} refl (stop !))))) (from ! (stop !))
+        (init ! 14 refl (tt, tt)) $
+        assigns ! (addr ! (from ! (hop ! (look ! 30 refl) (fld ! {τ = type-at 3} {d = 12_760} refl (stop !))))) (from ! (stop !))
+        (init ! 12 refl (tt, tt)) $
+        move ! (1 ∷ 2 ∷ 3 ∷ []) $ lent-out ! tt shr shr-held (shr-lends 𝓤 H A W) (waiting h) b o (waiting-fit h is) (λ α n.
         group ! 4 $ use1 W (raw (Core 𝓤 H A W at-mem run .pre (to-core α n))) (goes-core is α n) $
         calls-at ! fm (Core 𝓤 H A W at-mem run) known (to-core α n)
-        (and-then ! (load ! (from ! (stop !)) (look ! 36 refl))
-        (and-then ! (load ! (from ! (stop !)) (look ! 34 refl))
-        (and-then ! (load ! (from ! (stop !)) (look ! 32 refl))
-        (and-then ! (load ! (from ! (stop !)) (look ! 30 refl))
-        (and-then ! (load ! (from ! (stop !)) (look ! 28 refl))
-        (and-then ! (load ! (from ! (stop !)) (look ! 26 refl))
-        (and-then ! (load ! (from ! (stop !)) (look ! 24 refl))
-        (and-then ! (load ! (from ! (stop !)) (look ! 22 refl))
-        (and-then ! (load ! (from ! (stop !)) (look ! 20 refl))
-        (and-then ! (load ! (from ! (stop !)) (look ! 18 refl))
-        (and-then ! (load ! (from ! (stop !)) (look ! 16 refl)) (no-more !))))))))))))
+        (and-then ! (load ! (from ! (stop !)) (look ! 27 refl))
+        (and-then ! (load ! (from ! (stop !)) (look ! 25 refl))
+        (and-then ! (load ! (from ! (stop !)) (look ! 23 refl))
+        (and-then ! (load ! (from ! (stop !)) (look ! 21 refl))
+        (and-then ! (load ! (from ! (stop !)) (look ! 19 refl))
+        (and-then ! (load ! (from ! (stop !)) (look ! 17 refl))
+        (and-then ! (load ! (from ! (stop !)) (look ! 15 refl))
+        (and-then ! (load ! (from ! (stop !)) (look ! 13 refl)) (no-more !)))))))))
         (λ v.
         returned ! tt S.the-row Said (‵ (flft (α ∷ []) fullShare) ⊛ ‵ ftrue) v _
         (ensured 𝓤 H A core.ended (core.clauses 𝓤 H A at-mem run) (α ∷ [], tt) (to-core α n .0 .3) tt) (id⊢ 𝓤 _) (said-of α n)
@@ -231,50 +204,37 @@ module _ {M : Type 1} (𝓤 : URA M) (H : Heap 𝓤) (A : Atoms 𝓤) (W : Given
         let isr = subst (Is S.the-row r) (LL.tells S.the-type S′.the-laws r (v ∷ []) is₁) is₁ in
         let ws = changed-of r isr in
         split ! $ move ! (1 ∷ []) $ drop ! $
-        -- [the token; the lender's three parts; the eight cells; …]
-        land ! (from ! (stop !)) (init ! 38 refl (LL.lawful S.the-type S′.the-laws 𝓤 H A W .typed r _ is₁ .0)) $
-        rewrite ! 38 (λ (us : List Val). ‵ (fat fullShare S′.mir l₂ zero (only us))) (LL.tells S.the-type S′.the-laws r (v ∷ []) is₁) refl $
-        come-back ! tt shr-held (shr-returns 𝓤 H A W) (waiting h) b o n (λ fit. move ! (3 ∷ 4 ∷ 5 ∷ 6 ∷ 7 ∷ 8 ∷ 9 ∷ 0 ∷ 1 ∷ 2 ∷ []) $
-        assigns ! (of-opd ! (load ! (from ! (fld ! {τ = type-at 2} {d = 0} refl (stop !)))
-        (look-in ! 37 {τ = type-at 2} (sub ! 0 {τ = type-at 2} {d = 0} refl (whole !)))))
-        (from ! (hop ! (look ! 39 refl) (fld ! {τ = type-at 2} {d = 480} refl (stop !))))
-        (store-raw ! 2 {τ = type-at 2} refl (typed 𝓤 H A W 2 (r .active) (ws .0) .0)) $
-        assigns ! (of-opd ! (load ! (from ! (fld ! {τ = type-at 3} {d = 8} refl (stop !)))
-        (look-in ! 37 {τ = type-at 3} (sub ! 1 {τ = type-at 3} {d = 8} refl (whole !)))))
-        (from ! (hop ! (look ! 39 refl) (fld ! {τ = type-at 3} {d = 488} refl (stop !))))
-        (store-raw ! 3 {τ = type-at 3} refl (typed 𝓤 H A W 3 (r .place) (ws .1 .0) .0)) $
-        assigns ! (of-opd ! (load ! (from ! (fld ! {τ = type-at 4} {d = 16} refl (stop !)))
-        (look-in ! 37 {τ = type-at 4} (sub ! 2 {τ = type-at 4} {d = 16} refl (whole !)))))
-        (from ! (hop ! (look ! 39 refl) (fld ! {τ = type-at 4} {d = 496} refl (stop !))))
-        (store-raw ! 4 {τ = type-at 4} refl (typed 𝓤 H A W 4 (r .accounts) (ws .1 .1 .0) .0)) $
-        assigns ! (of-opd ! (load ! (from ! (fld ! {τ = type-at 5} {d = 1_040} refl (stop !)))
-        (look-in ! 37 {τ = type-at 5} (sub ! 3 {τ = type-at 5} {d = 1_040} refl (whole !)))))
-        (from ! (hop ! (look ! 39 refl) (fld ! {τ = type-at 5} {d = 1_520} refl (stop !))))
-        (store-raw ! 5 {τ = type-at 5} refl (typed 𝓤 H A W 5 (r .start) (ws .1 .1 .1 .0) .0)) $
-        assigns ! (of-opd ! (load ! (from ! (fld ! {τ = type-at 6} {d = 1_104} refl (stop !)))
-        (look-in ! 37 {τ = type-at 6} (sub ! 4 {τ = type-at 6} {d = 1_104} refl (whole !)))))
-        (from ! (hop ! (look ! 39 refl) (fld ! {τ = type-at 6} {d = 1_584} refl (stop !))))
-        (store-raw ! 6 {τ = type-at 6} refl (typed 𝓤 H A W 6 (r .held) (ws .1 .1 .1 .1 .0) .0)) $
-        assigns ! (of-opd ! (load ! (from ! (fld ! {τ = type-at 1} {d = 1_168} refl (stop !)))
-        (look-in ! 37 {τ = type-at 1} (sub ! 5 {τ = type-at 1} {d = 1_168} refl (whole !)))))
-        (from ! (hop ! (look ! 39 refl) (fld ! {τ = type-at 1} {d = 472} refl (stop !))))
-        (store-raw ! 1 {τ = type-at 1} refl (typed 𝓤 H A W 1 (r .size) (ws .1 .1 .1 .1 .1 .0) .0)) $
-        assigns ! (of-opd ! (load ! (from ! (fld ! {τ = type-at 10} {d = 1_176} refl (stop !)))
-        (look-in ! 37 {τ = type-at 10} (sub ! 6 {τ = type-at 10} {d = 1_176} refl (whole !)))))
-        (from ! (hop ! (look ! 39 refl) (fld ! {τ = type-at 10} {d = 30_320} refl (stop !))))
-        (store-raw ! 10 {τ = type-at 10} refl (typed 𝓤 H A W 10 (r .totals) (ws .1 .1 .1 .1 .1 .1 .0) .0)) $
-        assigns ! (of-opd ! (load ! (from ! (fld ! {d = 2_208} refl (stop !))) (look-in ! 37 (sub ! 7 {d = 2_208} refl (whole !)))))
-        (from ! (stop !)) (init ! 41 refl (LL.lawful N.the-type N′.the-laws 𝓤 H A W .typed (r .answer) _ (ws .1 .1 .1 .1 .1 .1 .1 .0) .0)) $
+        -- [the token; the lender's three parts; the five cells; …]
+        land ! (from ! (stop !)) (init ! 29 refl (LL.lawful S.the-type S′.the-laws 𝓤 H A W .typed r _ is₁ .0)) $
+        rewrite ! 29 (λ (us : List Val). ‵ (fat fullShare S′.mir l₂ zero (only us))) (LL.tells S.the-type S′.the-laws r (v ∷ []) is₁) refl $
+        come-back ! tt shr-held (shr-returns 𝓤 H A W) (waiting h) b o n (λ fit. move ! (3 ∷ 0 ∷ 1 ∷ 2 ∷ []) $
+        assigns ! (of-opd ! (load ! (from ! (fld ! {τ = type-at 4} {d = 0} refl (stop !)))
+        (look-in ! 28 {τ = type-at 4} (sub ! 0 {τ = type-at 4} {d = 0} refl (whole !)))))
+        (from ! (hop ! (look ! 30 refl) (fld ! {τ = type-at 4} {d = 29_144} refl (stop !))))
+        (store-raw ! 4 {τ = type-at 4} refl (typed 𝓤 H A W 4 (r .start) (ws .0) .0)) $
+        assigns ! (of-opd ! (load ! (from ! (fld ! {τ = type-at 5} {d = 64} refl (stop !)))
+        (look-in ! 28 {τ = type-at 5} (sub ! 1 {τ = type-at 5} {d = 64} refl (whole !)))))
+        (from ! (hop ! (look ! 30 refl) (fld ! {τ = type-at 5} {d = 29_208} refl (stop !))))
+        (store-raw ! 5 {τ = type-at 5} refl (typed 𝓤 H A W 5 (r .held) (ws .1 .0) .0)) $
+        assigns ! (of-opd ! (load ! (from ! (fld ! {τ = type-at 6} {d = 128} refl (stop !)))
+        (look-in ! 28 {τ = type-at 6} (sub ! 2 {τ = type-at 6} {d = 128} refl (whole !)))))
+        (from ! (hop ! (look ! 30 refl) (fld ! {τ = type-at 6} {d = 29_272} refl (stop !))))
+        (store-raw ! 6 {τ = type-at 6} refl (typed 𝓤 H A W 6 (r .totals) (ws .1 .1 .0) .0)) $
+        assigns ! (of-opd ! (load ! (from ! (fld ! {τ = type-at 7} {d = 1_208} refl (stop !)))
+        (look-in ! 28 {τ = type-at 7} (sub ! 4 {τ = type-at 7} {d = 1_208} refl (whole !)))))
+        (from ! (hop ! (look ! 30 refl) (fld ! {τ = type-at 7} {d = 30_304} refl (stop !))))
+        (store-raw ! 7 {τ = type-at 7} refl (typed 𝓤 H A W 7 (r .round) (ws .1 .1 .1 .1 .0) .0)) $
+        assigns ! (of-opd ! (load ! (from ! (fld ! {d = 1_160} refl (stop !))) (look-in ! 28 (sub ! 3 {d = 1_160} refl (whole !)))))
+        (from ! (stop !)) (init ! 32 refl (LL.lawful N.the-type N′.the-laws 𝓤 H A W .typed (r .answer) _ (ws .1 .1 .1 .0) .0)) $
         together ! (changedLink h r) b o $ closed ! tt (changedLink h r) (after is r isr) b o $
-        -- [obs; the borrow; the token; _13; …; _0; …]
-        returns ! (look ! 29 refl) $ forget ! 3 refl $ forget ! 5 refl $ forget ! 7 refl $ forget ! 9 refl $ forget ! 11 refl $
+        -- [obs; the borrow; the token; _10; …; _0; …]
+        returns ! (look ! 23 refl) $ forget ! 3 refl $ forget ! 5 refl $ forget ! 7 refl $ forget ! 9 refl $ forget ! 11 refl $
         forget ! 13 refl $ forget ! 15 refl $ forget ! 17 refl $ forget ! 19 refl $ forget ! 21 refl $ forget ! 23 refl $
-        forget ! 25 refl $ forget ! 27 refl $ forget ! 29 refl $ move ! (29 ∷ 30 ∷ []) $ free1 ! $ move ! (27 ∷ 28 ∷ []) $ free1 ! $
-        move ! (25 ∷ 26 ∷ []) $ free1 ! $ move ! (23 ∷ 24 ∷ []) $ free1 ! $ move ! (21 ∷ 22 ∷ []) $ free1 ! $ move ! (19 ∷ 20 ∷ []) $
-        free1 ! $ move ! (17 ∷ 18 ∷ []) $ free1 ! $ move ! (15 ∷ 16 ∷ []) $ free1 ! $ move ! (13 ∷ 14 ∷ []) $ free1 ! $
-        move ! (11 ∷ 12 ∷ []) $ free1 ! $ move ! (9 ∷ 10 ∷ []) $ free1 ! $ move ! (7 ∷ 8 ∷ []) $ free1 ! $ move ! (5 ∷ 6 ∷ []) $
-        free1 ! $ move ! (3 ∷ 4 ∷ []) $ free1 ! $ free0 ! $
-        keep ! (0 ∷ 1 ∷ 2 ∷ []) $ by ! (exits r (sent is r e) (ws .1 .1 .1 .1 .1 .1 .1 .0)))))))))))))))))))))
+        move ! (23 ∷ 24 ∷ []) $ free1 ! $ move ! (21 ∷ 22 ∷ []) $ free1 ! $ move ! (19 ∷ 20 ∷ []) $ free1 ! $ move ! (17 ∷ 18 ∷ []) $
+        free1 ! $ move ! (15 ∷ 16 ∷ []) $ free1 ! $ move ! (13 ∷ 14 ∷ []) $ free1 ! $ move ! (11 ∷ 12 ∷ []) $ free1 ! $
+        move ! (9 ∷ 10 ∷ []) $ free1 ! $ move ! (7 ∷ 8 ∷ []) $ free1 ! $ move ! (5 ∷ 6 ∷ []) $ free1 ! $ move ! (3 ∷ 4 ∷ []) $ free1 ! $
+        free0 ! $
+        keep ! (0 ∷ 1 ∷ 2 ∷ []) $ by ! (exits r (sent is r e) (ws .1 .1 .1 .0))))))))))))))))))
 
 module _ {M : Type 1} (𝓤 : URA M) (H : Heap 𝓤) (A : Atoms 𝓤) (W : Given 𝓤 H A) (at-mem : Memory → SProp 𝓤) (run : Routine → Fun 𝓤) where
   lent-walks : (C : Calls 𝓤 H) (Λ : Loops 𝓤 H) → FmC 𝓤 H (W .laws) C → Triple 𝓤 (C #core) (Core 𝓤 H A W at-mem run)

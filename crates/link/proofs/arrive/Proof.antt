@@ -11,7 +11,7 @@ arrive-in-requires c κs = search needs
 returns : tie.Need-returns
 returns c =
     let q = c .before .before .before in
-    let s = q .before .before .before .before .before .before .before .before .before .before .before .before .before in
+    let s = q .before .before .before .before .before .before .before .before .before .before .before .before in
     arrives-whole (s .args .link) (s .args .class) (s .args .packet) _ _ (shaped (s .args .link) _ (s .good .0)) (q .arrive-in .ensures)
 
 pub arrive-spec : {M : Type 1} → statement M

@@ -9,6 +9,7 @@ use Rattle.tree.specs.declared.Tree.{Tree}
 use Rattle.tree.specs.Rules.{PlanRules}
 use Rattle.state.specs.WayUp.{Climbs}
 use Rattle.state.specs.State.{linkOf}
+use Rattle.state.proofs.Shapes.{accounts-shaped}
 use Rattle.checks.specs.Check.{Exactly}
 use Rattle.sound.specs.Sound.{SoundLink}
 use Rattle.sound.proofs.Lent.{lent-exactly}
@@ -20,19 +21,18 @@ use Rattle.link.proofs.arrive_in.Tie as tie
 -- each class number has a total
 counts : (st : tie.Start) → length (st .args .totals .bytes) ≡ 64
 counts st =
-    let n = LL.owed N.the-type N′.the-laws (st .args .totals) _ (st .good .1 .1 .1 .1 .1 .1 .1 .0) in
+    let n = LL.owed N.the-type N′.the-laws (st .args .totals) _ (st .good .1 .1 .1 .0) in
     sym (length-map (st .args .totals .bytes) _) ∙ n .1 .0 .1 .0 .1
 
 -- there are as many accounts as class numbers
-many : (st : tie.Start) → length (st .args .accounts) ≡ 64
-many st = st .good .1 .1 .1 .1 .0 .1 .0 .1
+many : (st : tie.Start) → length (st .args .round .accounts) ≡ 64
+many st = accounts-shaped (st .args .round) _ (st .good .1 .1 .1 .1 .0)
 
 -- the link that the fields make up
 abbrev whole : tie.Start → Link
 whole st =
     let a = st .args in
-    linkOf (a .tree) (a .size) (a .active) (a .place) (a .accounts) (a .t6) (a .t7) (a .lengths .now) (a .tags .now) (a .marks .now)
-    (a .totals)
+    linkOf (a .tree) (a .lengths .now) (a .tags .now) (a .marks .now) (a .t2) (a .t3) (a .totals) (a .round)
 
 shape-of-requires : tie.Need-shape-of-requires
 shape-of-requires c κs = search needs
@@ -51,14 +51,14 @@ abbrev apart : tie.After-is-sound-at → tie.After-residuals
 apart s = s .before .before .before .before .before .before .before .before .before .before .before .before
 
 abbrev start-of : tie.After-is-sound-at → tie.Start
-start-of s = apart s .before .before .before
+start-of s = apart s .before .before .before .before .before
 
 -- whether it is sound was decided of the numbers that it was taken apart into
 decided : (s : tie.After-is-sound-at) → Exactly (s .is-sound-at .result) (SoundLink (whole (start-of s)))
 decided s =
     let r = apart s in
     let b = r .before in
-    let h = b .before in
+    let h = b .before .before .before in
     let l = whole (start-of s) in
     lent-exactly l (h .shape-of .result) (b .balances .result) (r .residuals .result) (h .shape-of .ensures) (many (start-of s))
     (b .balances .ensures) (r .residuals .ensures) (s .is-sound-at .result)
@@ -70,7 +70,8 @@ arrive-requires c κs =
     let l = whole (start-of s) in
     λ on.
     let sound = decided s .sound on in
-    subst (λ (t : Tree). PlanRules t × Climbs t (l .totals .packets) (l .totals .bytes)) (sym (apart s .before .before .shape-of .ensures))
+    subst (λ (t : Tree). PlanRules t × Climbs t (l .totals .packets) (l .totals .bytes))
+    (sym (apart s .before .before .before .before .shape-of .ensures))
     (sound .state .fits .tree, sound-climbs l sound)
 
 returns : tie.Need-returns
@@ -79,7 +80,7 @@ returns c =
     record {
       sound = s .is-sound-at .result;
       exactly = decided s;
-      gives = c .arrive .ensures (whole (start-of s)) (sym (apart s .before .before .shape-of .ensures))
+      gives = c .arrive .ensures (whole (start-of s)) (sym (apart s .before .before .before .before .shape-of .ensures))
           (λ on. record { sound = decided s .sound on; wide = counts (start-of s) });
     }
 

@@ -10,9 +10,9 @@ send-of-requires c κs = search needs
 
 returns : tie.Need-returns
 returns c =
-    let q = c .before .before .before .before .before .before in
-    let s = q .before .before .before .before .before .before .before .before .before .before .before in
-    sends-whole (s .args .t1) _ (shaped (s .args .t1) _ (s .good .0)) (q .send-of .ensures)
+    let q = c .before .before .before .before .before in
+    let s = q .before .before .before .before .before .before .before .before .before .before .before .before in
+    sends-whole (s .args .link) _ (shaped (s .args .link) _ (s .good .0)) (q .send-of .ensures)
 
 pub send-spec : {M : Type 1} → statement M
 send-spec = tie.close (tie.spec send-of-requires returns)

@@ -7,6 +7,7 @@ use Rattle.checks.specs.Check.{Exactly}
 use Rattle.state.specs.declared.Link.{Link}
 use Rattle.state.specs.Account.{zipAccounts}
 use Rattle.state.specs.State.{linkOf}
+use Rattle.state.proofs.Shapes.{accounts-shaped}
 use Rattle.sound.specs.Sound.{SoundLink}
 use Rattle.sound.proofs.Lent.{lent, lent-accounts, lent-is}
 use Rattle.calls.specs.Send.{sendOf}
@@ -21,33 +22,39 @@ use Rattle.link.proofs.send_of.Tie as tie
 abbrev whole : tie.Start → Link
 whole s =
     let a = s .args in
-    linkOf (a .tree) (a .size) (a .active) (a .place) (a .accounts) (a .t6) (a .t7) (a .lengths .now) (a .tags .now) (a .marks .now)
-    (a .totals)
+    linkOf (a .tree) (a .lengths .now) (a .tags .now) (a .marks .now) (a .t2) (a .t3) (a .totals) (a .round)
 
 -- there are as many accounts as class numbers
-many : (st : tie.Start) → length (st .args .accounts) ≡ 64
-many st = st .good .1 .1 .1 .1 .0 .1 .0 .1
+many : (st : tie.Start) → length (st .args .round .accounts) ≡ 64
+many st = accounts-shaped (st .args .round) _ (st .good .1 .1 .1 .1 .0)
 
 -- where the fields were given
 abbrev start-of : tie.After-is-sound-at → tie.Start
-start-of s = s .before .before .before .before .before .before .before .before .before .before .before .before .before .before
+start-of s =
+    s .before .before .before .before .before .before .before .before .before .before .before .before .before .before .before .before
 
 -- the numbers that they were taken apart into are the link's
 module _ (s : tie.After-is-sound-at) where
   abbrev made : tie.After-residuals
   made = s .before .before .before .before .before .before .before .before .before .before .before
 
-  accounts-are : zipAccounts (made .before .balances .result) (made .residuals .result) ≡ whole (start-of s) .accounts
+  accounts-are : zipAccounts (made .before .balances .result) (made .residuals .result) ≡ whole (start-of s) .round .accounts
   accounts-are =
-      lent-accounts (whole (start-of s)) (made .before .before .shape-of .result) (made .before .balances .result) (made .residuals .result)
-      (made .before .before .shape-of .ensures) (many (start-of s)) (made .before .balances .ensures) (made .residuals .ensures)
+      lent-accounts (whole (start-of s)) (made .before .before .before .before .shape-of .result) (made .before .balances .result)
+      (made .residuals .result)
+      (made .before .before .before .before .shape-of .ensures) (many (start-of s)) (made .before .balances .ensures)
+      (made .residuals .ensures)
 
-  whole-is : lent (whole (start-of s)) (made .before .before .shape-of .result) (made .before .balances .result) (made .residuals .result)
-      (made .before .before .shape-of .ensures) (many (start-of s)) (made .before .balances .ensures) (made .residuals .ensures)
+  whole-is : lent (whole (start-of s)) (made .before .before .before .before .shape-of .result) (made .before .balances .result)
+      (made .residuals .result)
+      (made .before .before .before .before .shape-of .ensures) (many (start-of s)) (made .before .balances .ensures)
+      (made .residuals .ensures)
       ≡ whole (start-of s)
   whole-is =
-      lent-is (whole (start-of s)) (made .before .before .shape-of .result) (made .before .balances .result) (made .residuals .result)
-      (made .before .before .shape-of .ensures) (many (start-of s)) (made .before .balances .ensures) (made .residuals .ensures)
+      lent-is (whole (start-of s)) (made .before .before .before .before .shape-of .result) (made .before .balances .result)
+      (made .residuals .result)
+      (made .before .before .before .before .shape-of .ensures) (many (start-of s)) (made .before .balances .ensures)
+      (made .residuals .ensures)
 
   decided : Exactly (s .is-sound-at .result) (SoundLink (whole (start-of s)))
   decided =

@@ -23,7 +23,7 @@ use Rattle.link.proofs.totals_of.Tie as tie
 abbrev whole : tie.Start → List ℕ → List ℕ → Link
 whole st tags marks =
     let a = st .args in
-    linkOf (a .tree) (a .size) (a .active) (a .place) (a .accounts) (a .start) (a .held) (a .lengths .now) tags marks (a .totals)
+    linkOf (a .tree) (a .lengths .now) tags marks (a .start) (a .held) (a .totals) (a .round)
 
 is-sound-of-requires : tie.Need-is-sound-of-requires
 is-sound-of-requires c κs = search needs
@@ -49,7 +49,7 @@ returns-2 c = λ tags marks.
     let st = s .before in
     let on = not-false (s .is-sound-of .result) (c .if1 .left) in
     let l = whole st tags marks in
-    let n = LL.owed N.the-type N′.the-laws (st .args .totals) _ (st .good .1 .1 .1 .1 .1 .1 .1 .0) in
+    let n = LL.owed N.the-type N′.the-laws (st .args .totals) _ (st .good .1 .1 .1 .0) in
     let right =
     sound-totals l (s .is-sound-of .ensures tags marks .sound on) (sym (length-map (l .totals .packets) _) ∙ n .0 .1 .0 .1)
     (sym (length-map (l .totals .bytes) _) ∙ n .1 .0 .1 .0 .1)

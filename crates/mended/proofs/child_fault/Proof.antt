@@ -35,7 +35,8 @@ is-childless-requires c κs = search needs
 
 -- what the class at hand says
 said : (c : tie.After-is-childless Inv-loop μ-loop)
-    → c .is-childless .result ≡ childless (c .before .before .before .before .before .args .tree) (c .before .before .before .before .loop .i)
+    → c .is-childless .result ≡ childless (c .before .before .before .before .before .args .tree)
+    (c .before .before .before .before .loop .i)
 unfolding childless isInner isLeaf
 said c =
     let h = c .before .before .before .before in

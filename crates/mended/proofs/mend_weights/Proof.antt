@@ -8,7 +8,17 @@ use Rattle.checks.proofs.Laws.{not-both}
 use Rattle.tree.specs.Class.{noWeight, isLeaf}
 use Rattle.mended.specs.Weights.{mendedWeight}
 use Rattle.mended.specs.Answer.{needChecks}
-use Rattle.mended.proofs.Downward.{MendedAbove, down-none, above-start, low-parent, own-is, above-stop, above-fits, above-more, above-end}
+use Rattle.mended.proofs.Downward.{
+  MendedAbove,
+  down-none,
+  above-start,
+  low-parent,
+  own-is,
+  above-stop,
+  above-fits,
+  above-more,
+  above-end,
+}
 use borrow.Author.Needs.{needs}
 use Rattle.mended.proofs.mend_weights.Statement.{statement}
 use Rattle.mended.proofs.mend_weights.Tie as tie
@@ -43,7 +53,8 @@ mended-weight-requires c κs = search needs
 -- the class at hand has its mended weight, its parent is a class number, and it is in range
 said : (c : tie.After-mended-weight Inv-loop μ-loop)
     → c .mended-weight .result .0
-    ≡ mendedWeight (c .before .before .before .before .before .before .before .args .t1) (c .before .before .before .before .before .loop .i)
+    ≡ mendedWeight (c .before .before .before .before .before .before .before .args .t1)
+    (c .before .before .before .before .before .loop .i)
 unfolding isLeaf
 said c =
     let h = c .before .before .before .before .before in
@@ -59,7 +70,13 @@ narrow : (c : tie.After-wide Inv-loop μ-loop) → c .wide .result < 64
 narrow c =
     let h = c .before .before .before .before .before .before .before .before .before in
     let st = h .before .before in
-    omega (arith, c .wide .ensures .0, low-parent (st .args .t1) (st .pre) (h .loop .i) (omega arith) (h .loop .inv .within), st .pre .few, h .loop .inv .within)
+    omega (
+      arith,
+      c .wide .ensures .0,
+      low-parent (st .args .t1) (st .pre) (h .loop .i) (omega arith) (h .loop .inv .within),
+      st .pre .few,
+      h .loop .inv .within,
+    )
 
 small : (c : tie.After-wide Inv-loop μ-loop)
     → mendedWeight (c .before .before .before .before .before .before .before .before .before .before .before .args .t1)

@@ -44,7 +44,8 @@ next-requires : tie.Need-next-requires Inv-loop μ-loop
 next-requires c κs = omega arith
 
 -- a class that is not among the active inner ones has none
-passed-over : (b : tie.After-both Inv-loop μ-loop) → let st = b .before .before .before in (k : ℕ) → k < 64 → has (b .both .result) k ≡ false
+passed-over : (b : tie.After-both Inv-loop μ-loop) → let st = b .before .before .before in (k : ℕ) → k < 64 → has (b .both .result) k ≡
+    false
     → hasSurplus (treeAt st) (st .args .active) (zipAccounts (st .args .balance .now) (st .args .residual .now)) k ≡ false
 passed-over b k h none =
     let v = b .before in

@@ -59,7 +59,12 @@ low : (g : tie.In-loop Inv-loop μ-loop) → g .before .loop .i < 64
 low g =
     let h = g .before in
     let st = start-of h in
-    omega (arith, few-classes (treeAt st) (st .pre .0 .rules), g .loop-test .taken, h .before .before .before .before .before .before .before .before .before .before .before .count .ensures)
+    omega (
+      arith,
+      few-classes (treeAt st) (st .pre .0 .rules),
+      g .loop-test .taken,
+      h .before .before .before .before .before .before .before .before .before .before .before .count .ensures,
+    )
 
 up : (g : tie.In-loop Inv-loop μ-loop) → parentOf (treeAt (start-of (g .before))) (g .before .loop .i) < 64
 up g =
@@ -109,7 +114,10 @@ parent-requires : tie.Need-parent-requires Inv-loop μ-loop
 parent-requires c κs = omega (arith, low c)
 
 weight-requires : tie.Need-weight-requires Inv-loop μ-loop
-weight-requires c κs = (c .before .before .before .before .before .before .before .before .before .before .before .before .before .before .pre .0 .rules, low (c .before))
+weight-requires c κs = (
+  c .before .before .before .before .before .before .before .before .before .before .before .before .before .before .pre .0 .rules,
+  low (c .before),
+)
 
 mul-due : tie.Need-mul-due Inv-loop μ-loop
 mul-due c = omega (arith, up (c .before .before), c .before .parent .ensures)
@@ -171,13 +179,22 @@ keep-quota-requires c κs =
     )
 
 keep-requires-2 : tie.Need-keep-requires-2 Inv-loop μ-loop
-keep-requires-2 c κs = omega (arith, low (c .before .before .before .before .before .before .before .before .before .before .before .before .before .before .before))
+keep-requires-2 c κs = omega (
+  arith,
+  low (c .before .before .before .before .before .before .before .before .before .before .before .before .before .before .before),
+)
 
 add-i : tie.Need-add-i Inv-loop μ-loop
-add-i c = omega (arith, low (c .before .before .before .before .before .before .before .before .before .before .before .before .before .before .before .before))
+add-i c = omega (
+  arith,
+  low (c .before .before .before .before .before .before .before .before .before .before .before .before .before .before .before .before),
+)
 
 loop-less : tie.Need-loop-less Inv-loop μ-loop
-loop-less c = omega (arith, low (c .before .before .before .before .before .before .before .before .before .before .before .before .before .before .before .before))
+loop-less c = omega (
+  arith,
+  low (c .before .before .before .before .before .before .before .before .before .before .before .before .before .before .before .before),
+)
 
 loop-again : tie.Need-loop-again Inv-loop μ-loop
 loop-again c =
@@ -190,7 +207,8 @@ loop-again c =
     let g = q .before in
     let h = g .before in
     let st = start-of h in
-    let leaf = e .has .ensures ∙ ap (λ (s : ℕ). has s (h .loop .i)) (h .before .before .before .before .before .before .before .before .before .before .leaves .ensures) in
+    let leaf = e .has .ensures ∙ ap (λ (s : ℕ). has s (h .loop .i))
+    (h .before .before .before .before .before .before .before .before .before .before .leaves .ensures) in
     let due = d .due .ensures ∙ due-is g _ _ (d .before .weight .ensures) (q .parent .ensures) in (
       omega arith,
       omega (arith, low g),
@@ -205,7 +223,11 @@ returns : tie.Need-returns Inv-loop μ-loop
 returns c =
     let h = c .before in
     opening-ends _ _ _ _ (start-of h .pre .0) _ _ (h .loop .i) (h .loop .inv .0) (h .loop .inv .1)
-    (omega (arith, c .loop-test .left, h .before .before .before .before .before .before .before .before .before .before .before .count .ensures)) (reached h)
+    (omega (
+      arith,
+      c .loop-test .left,
+      h .before .before .before .before .before .before .before .before .before .before .before .count .ensures,
+    )) (reached h)
 
 pub open-accounts-spec : {M : Type 1} → statement M
 open-accounts-spec =

@@ -9,7 +9,7 @@ use Rattle.shape.specs.Shape.{treeIn}
 use Rattle.state.specs.declared.Account.{Account}
 use Rattle.state.specs.declared.Link.{Link}
 use Rattle.state.specs.declared.Totals.{Totals}
-use Rattle.state.specs.State.{linkOf}
+use Rattle.state.specs.State.{linkOf, roundOf}
 use Rattle.steps.specs.Fields.{lentLink}
 use Rattle.steps.proofs.Rounding.{none-kept}
 use Rattle.steps.proofs.Wholes.{apart-is}
@@ -21,10 +21,11 @@ use Rattle.published_link.proofs.goes.Tie as tie
 -- put together again, with what the steps left, it is the link that they left
 put-together : (l : Link) {t : Tree} {xs ys : List Account} {size : Bytes} {active place : ℕ} {start held : List ℕ} {totals : Totals}
     → t ≡ l .tree → xs ≡ ys
-    → linkOf (l .tree) size active place xs start held (l .lengths) (l .tags) (l .marks) totals
-    ≡ linkOf t size active place ys start held (l .lengths) (l .tags) (l .marks) totals
+    → linkOf (l .tree) (l .lengths) (l .tags) (l .marks) start held totals (roundOf (size .0) active place xs)
+    ≡ linkOf t (l .lengths) (l .tags) (l .marks) start held totals (roundOf (size .0) active place ys)
 put-together l {t} {xs} {ys} {size} {active} {place} {start} {held} {totals} same e =
-    ap₂ (λ (t : Tree) (zs : List Account). linkOf t size active place zs start held (l .lengths) (l .tags) (l .marks) totals) (sym same) e
+    ap₂ (λ (t : Tree) (zs : List Account). linkOf t (l .lengths) (l .tags) (l .marks) start held totals
+    (roundOf (size .0) active place zs)) (sym same) e
 
 -- where the link was handed in, and its tree, which is lent
 abbrev first : tie.After-shape-of → tie.Start
@@ -55,8 +56,8 @@ lent z = z .before .before .before .before .before .before
 -- the link in its fields is the link
 apart : (z : tie.After-residuals)
     → let l = first (lent z) .args .second .link in
-    lentLink (treeIn (lent z .shape-of .result)) (l .size) (l .active) (l .place) (z .before .balances .result) (z .residuals .result)
-    (l .start) (l .held) (l .lengths) (l .tags) (l .marks) (l .totals)
+    lentLink (treeIn (lent z .shape-of .result)) (l .round .size) (l .round .active) (l .round .place)
+    (z .before .balances .result) (z .residuals .result) (l .start) (l .held) (l .lengths) (l .tags) (l .marks) (l .totals)
     ≡ l
 apart z =
     let st = first (lent z) in

@@ -17,7 +17,7 @@ goes-requires c κs =
     let a = n .next-sender .ensures .0 _ _ _ _ (st .pre .0) in (
       (
         n .next-sender .result .size,
-        visited (a .x) .after .state .place,
+        visited (a .x) .after .state .round .place,
         record { wide = wide-turn _ (st .pre .0) _ _ _ _ _ a; next = sends-next _ (st .pre .0) _ _ _ _ _ a },
       ),
       st .pre .1,
@@ -33,7 +33,7 @@ returns c =
     let st = c .before .before .before .before .before .before .before .before .before .before .before .before .before .before .before in
     let a = n .next-sender .ensures .0 _ _ _ _ (st .pre .0) in
     let e =
-    g .goes .ensures (n .next-sender .result .size) (visited (a .x) .after .state .place)
+    g .goes .ensures (n .next-sender .result .size) (visited (a .x) .after .state .round .place)
     (record { wide = wide-turn _ (st .pre .0) _ _ _ _ _ a; next = sends-next _ (st .pre .0) _ _ _ _ _ a })
     in
     rw (c .has-gone .ensures) (

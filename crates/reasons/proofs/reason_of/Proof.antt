@@ -70,7 +70,8 @@ abbrev short : tie.After-slot → tie.Else3
 short c = c .before .before .before
 
 on : (c : tie.After-slot)
-    → has (short c .before .before .before .before .before .args .t1 .active) (short c .before .before .before .before .before .args .class)
+    → has (short c .before .before .before .before .before .args .t1 .round .active)
+    (short c .before .before .before .before .before .args .class)
     ≡ true
 on c = let e = short c .before in sym (e .before .has .ensures) ∙ not-false _ (e .if2 .left)
 
@@ -81,14 +82,14 @@ here c = c .slot .ensures .0 ∙ ap (slot _) (c .before .wide .ensures .0)
 
 shortfall-requires : tie.Need-shortfall-requires
 shortfall-requires c κs =
-    let a = c .before .before .before in
+    let a = c .before .before .before .before in
     let st = short a .before .before .before .before .before in
     lacks-in (st .args .t1) (st .pre .0) (st .args .class) (st .pre .1) (on a) (omega (arith, short a .if3 .left)) (a .slot .result)
     (here a)
 
 returns-4 : tie.Need-returns-4
 returns-4 c =
-    let a = c .before .before .before .before in
+    let a = c .before .before .before .before .before in
     let st = short a .before .before .before .before .before in
     short-by (st .args .t1) (st .pre .0) (st .args .class) (st .pre .1) (on a) (omega (arith, short a .if3 .left)) (a .slot .result)
     (here a) (c .shortfall .result .0) (c .shortfall .ensures)

@@ -17,7 +17,8 @@ returns c =
     let st = f .before .before in
     let t = st .args .read .tree in
     let made = f .fresh .ensures in
-    ap (λ (r : AfterFresh). record { line = Link (t .count) (r .link .size .0); more = true; link = r .link; place = st .args .read .used })
+    ap (λ (r : AfterFresh).
+    record { line = Link (t .count) (r .link .round .size .0); more = true; link = r .link; place = st .args .read .used })
     (made .answer ∙ ap (λ (b : Bool). freshOf b t) (made .exactly .complete (st .pre)))
 
 pub linked-spec : {M : Type 1} → statement M

@@ -99,13 +99,13 @@ view-at c =
 
 -- numbers that are a class's, one by one, are together
 view-by-parts : (l : Link) (i place′ waiting cost : ℕ) (leaf active child : Bool) (account : Account)
-    → leaf ≡ isLeaf (l .tree) i → active ≡ has (l .active) i → child ≡ has (parentsAfter (l .tree) (l .active) i) i
-    → place′ ≡ slot i (startOf l i % 32) → account ≡ accountOf (l .accounts) i
+    → leaf ≡ isLeaf (l .tree) i → active ≡ has (l .round .active) i → child ≡ has (parentsAfter (l .tree) (l .round .active) i) i
+    → place′ ≡ slot i (startOf l i % 32) → account ≡ accountOf (l .round .accounts) i
     → waiting ≡ addedAfter (l .tree) (packetsOf l) i i → cost ≡ addedAfter (l .tree) (bytesOf l) i i
     → _≡_ {A = View} (record {
       class = i;
-      place = l .place;
-      size = l .size;
+      place = l .round .place;
+      size = l .round .size;
       leaf = leaf;
       active = active;
       child = child;
@@ -159,13 +159,13 @@ decided c tags marks charged =
 
 -- its account
 funds-read : (c : tie.After-class-right Inv-loop μ-loop)
-    → fundsOf (view-at c .account) ≡ fundsOf (accountOf (made c [] [] 0 .accounts) (class-at c))
+    → fundsOf (view-at c .account) ≡ fundsOf (accountOf (made c [] [] 0 .round .accounts) (class-at c))
 unfolding viewOf
 funds-read c = ap (λ (v : View). fundsOf (v .account)) (view-is c [] [] 0)
 
 -- so no account holds more than there is
 funds-fit : (c : tie.Else1 Inv-loop μ-loop)
-    → fundsOf (accountOf (made (c .before) [] [] 0 .accounts) (class-at (c .before))) ≤ 2 * mostSize
+    → fundsOf (accountOf (made (c .before) [] [] 0 .round .accounts) (class-at (c .before))) ≤ 2 * mostSize
 unfolding viewOf
 funds-fit c =
     let right = decided (c .before) [] [] 0 .sound (not-false _ (c .if1 .left)) .view in

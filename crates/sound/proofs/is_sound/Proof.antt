@@ -8,7 +8,7 @@ is-sound-of-requires c κs = search needs
 
 returns : tie.Need-returns
 returns c =
-    let link = c .before .before .before .before .before .before .before .before .before .args .link in
+    let link = c .before .before .before .before .before .before .before .before .args .link in
     c .is-sound-of .ensures (link .tags) (link .marks)
 
 pub is-sound-spec : {M : Type 1} → statement M

@@ -21,25 +21,25 @@ lent-64-requires c κs = search needs
 lent-64-requires-2 : tie.Need-lent-64-requires-2
 lent-64-requires-2 c κs = search needs
 
-plan-size-requires : tie.Need-plan-size-requires
-plan-size-requires c κs = search needs
+plan-size-at-requires : tie.Need-plan-size-at-requires
+plan-size-at-requires c κs = search needs
 
 returns : tie.Need-returns
 returns c = (
-  λ tags marks charged. exactly-no (λ p. not-true-and-false (c .before .before .plan-size .ensures .0 .right .complete
+  λ tags marks charged. exactly-no (λ p. not-true-and-false (c .before .before .plan-size-at .ensures .0 .right .complete
       (p .state .fits .tree)) (not-true _ (c .if1 .taken))),
   λ e. absurd (not-true-and-false e refl),
 )
 
 -- the plan rules hold, and the round size is known
 rules : (c : tie.Else1) → PlanRules (treeIn (c .before .before .before .before .before .before .args .shape .now))
-rules c = c .before .before .plan-size .ensures .0 .right .sound (not-false _ (c .if1 .left))
+rules c = c .before .before .plan-size-at .ensures .0 .right .sound (not-false _ (c .if1 .left))
 
 size : (c : tie.Else1)
-    → c .before .before .plan-size .result .size .0
+    → c .before .before .plan-size-at .result .size .0
     ≡ roundSize (treeIn (c .before .before .before .before .before .before .args .shape .now))
 size c =
-    let p = c .before .before .plan-size in
+    let p = c .before .before .plan-size-at in
     let t = treeIn (c .before .before .before .before .before .before .args .shape .now) in
     p .ensures .0 .size ∙ ap (λ (b : Bool). cond b (roundSize t) 0) (not-false (p .result .right) (c .if1 .left))
 
@@ -90,7 +90,7 @@ classes-right-requires c κs =
     let e1 = e2 .before .before .before .before in
     let l = e1 .before .before .before .before in (
       rules e1,
-      e1 .before .before .plan-size .ensures .1 (not-false _ (e1 .if1 .left)),
+      e1 .before .before .plan-size-at .ensures .1 (not-false _ (e1 .if1 .left)),
       zip-length _ _ (l .before .lent-64 .ensures ∙ sym (l .lent-642 .ensures)) ∙ l .before .lent-64 .ensures,
       omega (arith, right e2 .most, size-ceiling _ (rules e1)),
     )
@@ -115,7 +115,7 @@ returns-5 c =
                 (c .classes-right .ensures tags marks charged .sound e);
             complete = λ p. c .classes-right .ensures tags marks charged .complete (sound-to-right l (rules e1) p);
           },
-      λ e. e1 .before .before .plan-size .ensures .1 (not-false _ (e1 .if1 .left)),
+      λ e. e1 .before .before .plan-size-at .ensures .1 (not-false _ (e1 .if1 .left)),
     )
 
 pub is-sound-at-spec : {M : Type 1} → statement M
@@ -124,7 +124,7 @@ is-sound-at-spec =
     (tie.spec
     lent-64-requires
     lent-64-requires-2
-    plan-size-requires
+    plan-size-at-requires
     returns
     follows-requires
     size-right-requires

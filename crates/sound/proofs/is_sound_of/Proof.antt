@@ -1,15 +1,10 @@
 -- `sound::is_sound_of` meets its contract: the numbers that it lends are those of its fields.
-use mathlib.Core.Path.{_≡_}
-use lib.ListN.{length}
 use Rattle.state.specs.State.{linkOf}
+use Rattle.state.proofs.Shapes.{accounts-shaped}
 use Rattle.sound.proofs.Lent.{lent-exactly}
 use borrow.Author.Needs.{needs}
 use Rattle.sound.proofs.is_sound_of.Statement.{statement}
 use Rattle.sound.proofs.is_sound_of.Tie as tie
-
--- there are as many accounts as class numbers
-many : (c : tie.Start) → length (c .args .accounts) ≡ 64
-many c = c .good .1 .1 .1 .1 .0 .1 .0 .1
 
 shape-of-requires : tie.Need-shape-of-requires
 shape-of-requires c κs = search needs
@@ -27,11 +22,12 @@ returns : tie.Need-returns
 returns c = λ tags marks.
     let r = c .before .before .before .before .before .before .before .before .before .before .before in
     let b = r .before in
-    let s = b .before in
+    let s = b .before .before .before in
     let st = s .before in
     let a = st .args in
-    let l = linkOf (a .tree) (a .size) (a .active) (a .place) (a .accounts) (a .t6) (a .t7) (a .lengths .now) tags marks (a .totals) in
-    lent-exactly l (s .shape-of .result) (b .balances .result) (r .residuals .result) (s .shape-of .ensures) (many st)
+    let l = linkOf (a .tree) (a .lengths .now) tags marks (a .t2) (a .t3) (a .totals) (a .round) in
+    lent-exactly l (s .shape-of .result) (b .balances .result) (r .residuals .result) (s .shape-of .ensures)
+    (accounts-shaped (a .round) _ (st .good .1 .1 .1 .1 .0))
     (b .balances .ensures) (r .residuals .ensures) (c .is-sound-at .result) (c .is-sound-at .ensures .0 tags marks (a .totals .charged))
 
 pub is-sound-of-spec : {M : Type 1} → statement M

@@ -67,7 +67,7 @@ returns-2 c =
     let rules = plan-rules _ read (p .read-plan .ensures) (v .enum-told2 .given .1) in
     let made : f .fresh .result ≡ freshOf true (read .tree) =
     f .fresh .ensures .answer ∙ ap (λ (b : Bool). freshOf b (read .tree)) (f .fresh .ensures .exactly .complete rules) in
-    let size : f .fresh .result .link .size .0 ≡ roundSize (read .tree) = ap (λ (x : AfterFresh). x .link .size .0) made in
+    let size : f .fresh .result .link .round .size .0 ≡ roundSize (read .tree) = ap (λ (x : AfterFresh). x .link .round .size .0) made in
     let free : f .fresh .result .link .lengths ≡ replicate 2_048 0 = ap (λ (x : AfterFresh). x .link .lengths) made in
     let at = p .before .before .args .at in
     let none : getD (f .fresh .result .link .lengths) (at % 2_048) 0 ≡ 0 =

@@ -68,7 +68,8 @@ loop-again c =
     let grow = classes-grow t i (st .args .n) within in (
       omega arith,
       omega (arith, within),
-      laid-as _ _ _ _ _ _ _ _ _ (ap (classesBytes t) e ∙ classes-last t i (inv .0)) (omega (arith, last-length t i (inv .0), grow, st .pre .1))
+      laid-as _ _ _ _ _ _ _ _ _ (ap (classesBytes t) e ∙ classes-last t i (inv .0))
+          (omega (arith, last-length t i (inv .0), grow, st .pre .1))
           (inv .2) (p .put-class .ensures),
       p .put-class .kept .1 .1 .1 .0 ∙ inv .3,
     )

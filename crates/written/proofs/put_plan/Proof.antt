@@ -11,7 +11,8 @@ use Rattle.written.proofs.put_plan.Tie as tie
 
 -- where the class records end, and that the buffer is longer
 end-of : (c : tie.After-slice-known3)
-    → c .before .before .put-classes .result + 1 ≡ length (planBytes (c .before .before .before .before .before .before .before .before .before .args .tree))
+    → c .before .before .put-classes .result + 1 ≡ length (planBytes
+    (c .before .before .before .before .before .before .before .before .before .args .tree))
 end-of c =
     let q = c .before .before in
     let p = q .before .before .before .before in
@@ -56,9 +57,16 @@ returns c =
     let p = q .before .before .before .before in
     let st = p .before .before .before in
     let t = st .args .tree in
-    let both = laid-then _ _ _ _ _ _ _ _ (omega (arith, plan-length t, rule-length (t .follows), st .pre .1)) (p .put-rule .ensures) (q .put-classes .ensures) in
+    let both = laid-then _ _ _ _ _ _ _ _ (omega (arith, plan-length t, rule-length (t .follows), st .pre .1)) (p .put-rule .ensures)
+    (q .put-classes .ensures) in
     let end = laid-byte (q .put-classes .result) 0 (q .put-classes .last .1 .1 .1 .0) (omega (arith, end-of c, laid-within c)) in
-    laid-as _ _ _ _ _ _ _ _ _ (plan-as t) (omega (arith, length-append (ruleBytes (t .follows)) (classesBytes t (t .count)), plan-length t, rule-length (t .follows), st .pre .1)) both end
+    laid-as _ _ _ _ _ _ _ _ _ (plan-as t) (omega (
+      arith,
+      length-append (ruleBytes (t .follows)) (classesBytes t (t .count)),
+      plan-length t,
+      rule-length (t .follows),
+      st .pre .1,
+    )) both end
 
 pub put-plan-spec : {M : Type 1} → statement M
 put-plan-spec =

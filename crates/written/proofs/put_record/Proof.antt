@@ -13,7 +13,8 @@ put-leaf-requires c κs =
     let i = c .before in
     let st = i .before .before in
     let a = st .args in
-    let n : length (recordBytes (a .leaf) (a .parent) (a .weight) (a .longest)) ≡ 8 = record-length (a .leaf) (a .parent) (a .weight) (a .longest) ∙ rw (i .if1 .taken) in
+    let n : length (recordBytes (a .leaf) (a .parent) (a .weight) (a .longest)) ≡ 8 = record-length (a .leaf) (a .parent) (a .weight)
+    (a .longest) ∙ rw (i .if1 .taken) in
     omega (arith, n, st .pre)
 
 same-length : tie.Need-same-length
@@ -27,7 +28,8 @@ put-inner-requires c κs =
     let i = c .before in
     let st = i .before .before in
     let a = st .args in
-    let n : length (recordBytes (a .leaf) (a .parent) (a .weight) (a .longest)) ≡ 6 = record-length (a .leaf) (a .parent) (a .weight) (a .longest) ∙ rw (i .if1 .left) in
+    let n : length (recordBytes (a .leaf) (a .parent) (a .weight) (a .longest)) ≡ 6 = record-length (a .leaf) (a .parent) (a .weight)
+    (a .longest) ∙ rw (i .if1 .left) in
     omega (arith, n, st .pre)
 
 same-length-2 : tie.Need-same-length-2

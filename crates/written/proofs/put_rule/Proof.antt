@@ -20,7 +20,8 @@ put-requires : tie.Need-put-requires
 put-requires c κs =
     let i = c .before .before in
     let st = i .before .before in
-    let n : length (ruleBytes (st .args .follows)) ≡ 2 = rule-length (st .args .follows) ∙ rw (not-false (st .args .follows) (i .if1 .left)) in
+    let n : length (ruleBytes (st .args .follows)) ≡ 2 = rule-length (st .args .follows) ∙ rw (not-false (st .args .follows) (i .if1 .left))
+    in
     omega (arith, n, st .pre)
 
 same-length : tie.Need-same-length

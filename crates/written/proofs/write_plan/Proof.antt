@@ -50,7 +50,8 @@ returns-2 c =
     let w =
     writes-short (st .args .tree) (now (st .args .out)) (p .is-plan .ensures) (arrays (st .args .tree) _ (st .good .0))
     (c .refused2 .result) (not-false _ (i .if1 .left))
-    (omega (arith, j .if2 .taken, n .plan-length .ensures)) (c .refused2 .ensures ∙ ap (λ (k : ℕ). nothingWritten (Refused 16 k)) (n .plan-length .ensures))
+    (omega (arith, j .if2 .taken, n .plan-length .ensures)) (c .refused2 .ensures ∙ ap (λ (k : ℕ). nothingWritten (Refused 16 k))
+    (n .plan-length .ensures))
     in (w, counted w)
 
 put-plan-requires : tie.Need-put-plan-requires

@@ -19,10 +19,14 @@ use borrow.Author.Needs.{needs}
 use Rattle.answers.proofs.call.send.Statement.{statement}
 use Rattle.answers.proofs.call.send.Tie as tie
 
--- the link in the arrays, standing anywhere
-abbrev start-of : tie.After-is-sound-at → tie.Start
-start-of k = k .before .before .before .before .before .before .before .before .before .before .before .before .before .before .before .before .before
+-- the step that read off the four numbers where the link stands, and the one before all
+abbrev read : tie.After-is-sound-at → tie.After-stand-in
+read k = k .before .before .before .before .before .before .before .before .before .before .before .before .before .before .before
 
+abbrev start-of : tie.After-is-sound-at → tie.Start
+start-of k = read k .before .before
+
+-- the link in the arrays, standing anywhere
 abbrev standing : tie.After-is-sound-at → Stand → Link
 standing k s =
     let a = start-of k .args in
@@ -31,7 +35,7 @@ standing k s =
 
 -- where it stands, as it was read
 abbrev from : tie.After-is-sound-at → Stand
-from k = k .before .before .before .before .before .before .before .before .before .before .before .before .before .before .before .stand-in .result
+from k = read k .stand-in .result
 
 -- its lists are a link's, and whether it is sound was decided
 known-so : (k : tie.After-is-sound-at) → Shaped (standing k (from k))
@@ -59,7 +63,7 @@ returns : tie.Need-returns
 returns c =
     let k = c .before .before in
     let off = not-true (k .is-sound-at .result) (c .before .if1 .taken) in
-    subst (λ (s : Stand). Sends (standing k s) (sendLeaves (c .refused .result) (standing k s))) (k .before .before .before .before .before .before .before .before .before .before .before .before .before .before .before .stand-in .ensures)
+    subst (λ (s : Stand). Sends (standing k s) (sendLeaves (c .refused .result) (standing k s))) (read k .stand-in .ensures)
     (sends-by (standing k (from k)) false _ (known-so k) (decided-so k false off)
     (ap (λ (d : Departure). sendLeaves d (standing k (from k))) (c .refused .ensures) ∙ sym (send-unsound (standing k (from k)))))
 
@@ -70,7 +74,7 @@ send-requires c κs =
     let sound = decided k .sound on in (
       record { sound = sound; wide = known-so k .accounts },
       k .is-sound-at .ensures .1 on,
-      rw (k .before .before .before .before .before .before .before .before .before .before .before .before .before .before .before .stand-in .ensures) (none-kept _ _ refl (sound .state .fits .tree)),
+      rw (read k .stand-in .ensures) (none-kept _ _ refl (sound .state .fits .tree)),
     )
 
 four-of-requires : tie.Need-four-of-requires
@@ -82,10 +86,11 @@ answered-requires c κs = search needs
 returns-2 : tie.Need-returns-2
 returns-2 c =
     let k = c .before .before .before .before .before .before .before .before .before .before .before .before .before in
-    let on = not-false (k .is-sound-at .result) (c .before .before .before .before .before .before .before .before .before .before .before .before .if1 .left) in
+    let on = not-false (k .is-sound-at .result)
+    (c .before .before .before .before .before .before .before .before .before .before .before .before .if1 .left) in
     let w = c .before .before .before .send in
     rw (c .before .four-of .ensures)
-    (sends-standing (standing k) (w .result) _ (c .answered .result) (k .before .before .before .before .before .before .before .before .before .before .before .before .before .before .before .stand-in .ensures) (known-so k) (decided k .sound on)
+    (sends-standing (standing k) (w .result) _ (c .answered .result) (read k .stand-in .ensures) (known-so k) (decided k .sound on)
     (c .answered .ensures) refl (w .ensures .0))
 
 pub send-spec : {M : Type 1} → statement M

@@ -64,7 +64,8 @@ enum-told-2 : tie.Need-enum-told-2
 enum-told-2 c = search needs
 
 departs-requires : tie.Need-departs-requires
-departs-requires c κs = c .before .before .before .before .before .before .before .before .before .before .before .before .before .before .before .before .pre
+departs-requires c κs =
+    c .before .before .before .before .before .before .before .before .before .before .before .before .before .before .before .before .pre
 
 replied-requires : tie.Need-replied-requires
 replied-requires c κs = search needs

@@ -11,18 +11,19 @@ use borrow.Author.Needs.{needs}
 use Rattle.cometbanjo.proofs.plans.write_shape.Statement.{statement}
 use Rattle.cometbanjo.proofs.plans.write_shape.Tie as tie
 
-plan-size-requires : tie.Need-plan-size-requires
-plan-size-requires c κs = search needs
+plan-size-at-requires : tie.Need-plan-size-at-requires
+plan-size-at-requires c κs = search needs
 
 returns : tie.Need-returns
 returns c =
     let p = c .before .before in
     let a = p .before .before .before .args in
     shape-refused (now (a .shape)) (now (a .out))
-    (subst (λ (b : Bool). Exactly b (PlanRules (treeIn (now (a .shape))))) (not-true _ (c .if1 .taken)) (p .plan-size .ensures .0 .right))
+    (subst (λ (b : Bool). Exactly b (PlanRules (treeIn (now (a .shape))))) (not-true _ (c .if1 .taken))
+    (p .plan-size-at .ensures .0 .right))
 
 tree-of-requires : tie.Need-tree-of-requires
-tree-of-requires c κs = c .before .before .plan-size .ensures .0 .right .sound (not-false _ (c .if1 .left))
+tree-of-requires c κs = c .before .before .plan-size-at .ensures .0 .right .sound (not-false _ (c .if1 .left))
 
 write-plan-requires : tie.Need-write-plan-requires
 write-plan-requires c κs = search needs
@@ -37,7 +38,7 @@ pub write-shape-spec : {M : Type 1} → statement M
 write-shape-spec =
     tie.close
     (tie.spec
-    plan-size-requires
+    plan-size-at-requires
     returns
     tree-of-requires
     write-plan-requires

@@ -29,7 +29,7 @@ short c = c .before .before .before
 abbrev start-of : tie.After-slot → tie.Start
 start-of c = c .before .before .before .before .before .before .before .before .before .before
 
-on : (c : tie.After-slot) → has (whole (start-of c) .active) (start-of c .args .class) ≡ true
+on : (c : tie.After-slot) → has (whole (start-of c) .round .active) (start-of c .args .class) ≡ true
 on c = let e = short c .before .before in sym (e .before .has .ensures) ∙ not-false _ (e .if2 .left)
 
 here : (c : tie.After-slot) → c .slot .result ≡ slot (start-of c .args .class) (startOf (whole (start-of c)) (start-of c .args .class))

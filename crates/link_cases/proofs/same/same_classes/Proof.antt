@@ -5,10 +5,10 @@ use Rattle.link_cases.proofs.same.same_classes.Statement.{statement}
 use Rattle.link_cases.proofs.same.same_classes.Tie as tie
 
 abbrev Inv-loop : tie.InvT-loop
-Inv-loop a b s t i₀ i = Unit {0}
+Inv-loop a b s t x y i₀ i = Unit {0}
 
 abbrev μ-loop : tie.MeasureT-loop
-μ-loop a b s t i₀ i = 64 - i
+μ-loop a b s t x y i₀ i = 64 - i
 
 loop-holds : tie.Need-loop-holds Inv-loop μ-loop
 loop-holds c = tt

@@ -32,7 +32,8 @@ returns c =
     let lay = c .before .before in
     let v = lay .before .before in
     let a = v .before .before .before .args in
-    lays-as (a .at) (lay .lay-in .result) (now (a .out)) _ (ap (λ (w : Verdict). arrivalSays w (a .class) (packetWith (a .len) (a .tag)) (a .bytes)) (v .enum-told .given .1)) (lay .lay-in .ensures)
+    lays-as (a .at) (lay .lay-in .result) (now (a .out)) _ (ap (λ (w : Verdict). arrivalSays w (a .class) (packetWith (a .len) (a .tag))
+    (a .bytes)) (v .enum-told .given .1)) (lay .lay-in .ensures)
 
 same-length-2 : tie.Need-same-length-2
 same-length-2 c = search needs
@@ -42,7 +43,8 @@ returns-2 c =
     let lay = c .before .before in
     let v = lay .before .before .before in
     let a = v .before .before .before .args in
-    lays-as (a .at) (lay .lay-at .result) (now (a .out)) _ (ap (λ (w : Verdict). arrivalSays w (a .class) (packetWith (a .len) (a .tag)) (a .bytes)) (v .verdict .given .1)) (lay .lay-at .ensures)
+    lays-as (a .at) (lay .lay-at .result) (now (a .out)) _ (ap (λ (w : Verdict). arrivalSays w (a .class) (packetWith (a .len) (a .tag))
+    (a .bytes)) (v .verdict .given .1)) (lay .lay-at .ensures)
 
 pub lay-arrival-spec : {M : Type 1} → statement M
 lay-arrival-spec =

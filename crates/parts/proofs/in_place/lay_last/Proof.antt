@@ -31,7 +31,8 @@ returns c =
     let lay = c .before .before in
     let v = lay .before .before in
     let a = v .before .before .before .args in
-    lays-as (a .at) (lay .lay-at .result) (now (a .out)) _ (ap (λ (w : Verdict). endSays w (a .waiting)) (v .enum-told .given .1)) (lay .lay-at .ensures)
+    lays-as (a .at) (lay .lay-at .result) (now (a .out)) _ (ap (λ (w : Verdict). endSays w (a .waiting)) (v .enum-told .given .1))
+    (lay .lay-at .ensures)
 
 same-length-2 : tie.Need-same-length-2
 same-length-2 c = search needs
@@ -41,7 +42,8 @@ returns-2 c =
     let lay = c .before .before in
     let v = lay .before .before .before in
     let a = v .before .before .before .args in
-    lays-as (a .at) (lay .lay-at2 .result) (now (a .out)) _ (ap (λ (w : Verdict). endSays w (a .waiting)) (v .verdict .given .1)) (lay .lay-at2 .ensures)
+    lays-as (a .at) (lay .lay-at2 .result) (now (a .out)) _ (ap (λ (w : Verdict). endSays w (a .waiting)) (v .verdict .given .1))
+    (lay .lay-at2 .ensures)
 
 pub lay-last-spec : {M : Type 1} → statement M
 lay-last-spec =

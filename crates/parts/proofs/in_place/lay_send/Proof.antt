@@ -28,7 +28,8 @@ returns c =
     let lay = c .before .before in
     let v = lay .before .before in
     let a = v .before .before .before .args in
-    lays-as (a .at) (lay .lay-out .result) (now (a .out)) _ (ap (λ (w : Verdict). goneSays w (a .class) (a .len) (a .tag) (a .rounds) (a .waited)) (v .enum-told .given .1)) (lay .lay-out .ensures)
+    lays-as (a .at) (lay .lay-out .result) (now (a .out)) _ (ap (λ (w : Verdict). goneSays w (a .class) (a .len) (a .tag) (a .rounds)
+    (a .waited)) (v .enum-told .given .1)) (lay .lay-out .ensures)
 
 same-length-2 : tie.Need-same-length-2
 same-length-2 c = search needs
@@ -38,7 +39,8 @@ returns-2 c =
     let lay = c .before .before in
     let v = lay .before .before in
     let a = v .before .before .before .args in
-    lays-as (a .at) (lay .lay-at .result) (now (a .out)) _ (ap (λ (w : Verdict). goneSays w (a .class) (a .len) (a .tag) (a .rounds) (a .waited)) (v .enum-told2 .given .1)) (lay .lay-at .ensures)
+    lays-as (a .at) (lay .lay-at .result) (now (a .out)) _ (ap (λ (w : Verdict). goneSays w (a .class) (a .len) (a .tag) (a .rounds)
+    (a .waited)) (v .enum-told2 .given .1)) (lay .lay-at .ensures)
 
 pub lay-send-spec : {M : Type 1} → statement M
 lay-send-spec =

@@ -32,7 +32,8 @@ use Rattle.parts.proofs.in_place.part_of.Statement.{statement}
 use Rattle.parts.proofs.in_place.part_of.Tie as tie
 
 abbrev Inv-loop : tie.InvT-loop
-Inv-loop sound input place out₀ tree shape children kept₀ balance₀ residual₀ start₀ held₀ lengths₀ tags₀ marks₀ packets₀ bytes₀ known run₀ laid₀
+Inv-loop sound input place out₀ tree shape children kept₀ balance₀ residual₀ start₀ held₀ lengths₀ tags₀ marks₀ packets₀ bytes₀ known run₀
+    laid₀
     out kept balance residual start held lengths tags marks packets bytes run laid =
     let t = treeIn shape in
     let link = linkAt t (run .stand) balance residual start held lengths tags marks packets bytes in
@@ -41,22 +42,30 @@ Inv-loop sound input place out₀ tree shape children kept₀ balance₀ residua
     × Shaped link × (run .sound ≡ sound) × (sound ≡ true → Kept t (run .stand .known) kept)
 
 abbrev μ-loop : tie.MeasureT-loop
-μ-loop sound input place out₀ tree shape children kept₀ balance₀ residual₀ start₀ held₀ lengths₀ tags₀ marks₀ packets₀ bytes₀ known run₀ laid₀
+μ-loop sound input place out₀ tree shape children kept₀ balance₀ residual₀ start₀ held₀ lengths₀ tags₀ marks₀ packets₀ bytes₀ known run₀
+    laid₀
     out kept balance residual start held lengths tags marks packets bytes run laid =
     stepsLeft input (run .more) (run .place)
 
--- where the link was handed in, the tree as its numbers, and where the part begins
+-- the steps that took the link apart: its residuals, and its tree as numbers; and where it was handed in
+abbrev residualsAt : tie.After-outcome Inv-loop μ-loop → tie.After-residuals Inv-loop μ-loop
+residualsAt o = o .before .before .before .before .before .before .before .before .before .before .before .before .before .before .before
+
+abbrev shapeAt : tie.After-outcome Inv-loop μ-loop → tie.After-shape-of Inv-loop μ-loop
+shapeAt o = residualsAt o .before .before .before .before .before
+
 abbrev first : tie.After-outcome Inv-loop μ-loop → tie.Start Inv-loop μ-loop
-first o = o .before .before .before .before .before .before .before .before .before .before .before .before .before .before .before .before .before .before .before .before .before .before .before .before
+first o = shapeAt o .before .before .before .before
 
 abbrev treeAt : tie.After-outcome Inv-loop μ-loop → Tree
-treeAt o = treeIn (o .before .before .before .before .before .before .before .before .before .before .before .before .before .before .before .before .before .before .before .before .shape-of .result)
+treeAt o = treeIn (shapeAt o .shape-of .result)
 
+-- where the part begins
 abbrev beginsAt : tie.After-outcome Inv-loop μ-loop → Stand → Link
 beginsAt o stand =
     let l = first o .args .link in
-    linkAt (treeAt o) stand (o .before .before .before .before .before .before .before .before .before .before .before .before .before .before .before .before .balances .result)
-    (o .before .before .before .before .before .before .before .before .before .before .before .before .before .before .before .residuals .result)
+    linkAt (treeAt o) stand (residualsAt o .before .balances .result)
+    (residualsAt o .residuals .result)
     (l .start) (l .held) (l .lengths) (l .tags) (l .marks) (l .totals .packets)
     (l .totals .bytes)
 
@@ -69,18 +78,18 @@ standAt o =
     let l = first o .args .link in
     record {
       known = o .before .before .before .sums-now .result;
-      size = l .size;
-      active = l .active;
-      place = l .place;
+      size = l .round .size;
+      active = l .round .active;
+      place = l .round .place;
       charged = l .totals .charged;
     }
 
 taken-apart : (o : tie.After-outcome Inv-loop μ-loop) → beginsAt o (standAt o) ≡ first o .args .link
 taken-apart o =
     let st = first o in
-    apart-is (st .args .link) (treeAt o) _ _ (o .before .before .before .before .before .before .before .before .before .before .before .before .before .before .before .before .before .before .before .before .shape-of .ensures)
-    (shaped (st .args .link) _ (st .good .1 .0)) (o .before .before .before .before .before .before .before .before .before .before .before .before .before .before .before .before .balances .ensures)
-    (o .before .before .before .before .before .before .before .before .before .before .before .before .before .before .before .residuals .ensures)
+    apart-is (st .args .link) (treeAt o) _ _ (shapeAt o .shape-of .ensures)
+    (shaped (st .args .link) _ (st .good .1 .0)) (residualsAt o .before .balances .ensures)
+    (residualsAt o .residuals .ensures)
 
 apart : (o : tie.After-outcome Inv-loop μ-loop) → begins o ≡ first o .args .link
 apart o = ap (λ (d : Heard). beginsAt o (d .stand)) (o .outcome .ensures) ∙ taken-apart o
@@ -131,10 +140,9 @@ residuals-requires : tie.Need-residuals-requires Inv-loop μ-loop
 residuals-requires c κs = search needs
 
 sums-now-requires : tie.Need-sums-now-requires Inv-loop μ-loop
-sums-now-requires c κs = (
-  lawful (c .before .before .before .before .before .before .before .before .before .before .before .before .before .before .before .before),
-  refl,
-)
+sums-now-requires c κs =
+    let half = c .before .before .before .before .before .before .before .before in
+    (lawful (half .before .before .before .before .before .before .before .before), refl)
 
 last-reply-requires : tie.Need-last-reply-requires Inv-loop μ-loop
 last-reply-requires c κs = search needs
@@ -162,7 +170,7 @@ event-requires c κs =
     let same = h .loop .inv .2 in (
       told-at h,
       λ on. (
-        c .before .before .before .before .before .before .before .before .before .before .before .before .before .before .before .before .before .before .before .before .before .before .before .before .before .before .before .before .before .before .before .before .before .children-of .ensures (sym same ∙ on),
+        residualsAt (h .before) .before .before .before .children-of .ensures (sym same ∙ on),
         h .loop .inv .3 (sym same ∙ on),
       ),
     )
@@ -171,26 +179,28 @@ array-read-lay-reply : tie.Need-array-read-lay-reply Inv-loop μ-loop
 array-read-lay-reply c = search needs
 
 lay-reply-requires : tie.Need-lay-reply-requires Inv-loop μ-loop
-lay-reply-requires c κs = room (c .before .before .before .before .before .before .before .before .before .before .before .before .before .before)
+lay-reply-requires c κs = room
+    (c .before .before .before .before .before .before .before .before .before .before .before .before .before .before)
 
 loop-less : tie.Need-loop-less Inv-loop μ-loop
 loop-less c =
     let e = c .before .before .before .before in
-    let t = c .before .before .before .before .before .before .before .before .before .before .before .before .before .before .before .before .before in
-    let h = c .before .before .before .before .before .before .before .before .before .before .before .before .before .before .before .before .before .before .before in
-    let a = h .before .before .before .before .before .before .before .before .before .before .before .before .before .before .before .before .before .before .before .before .before .before .before .before .before .args in
+    let t = e .before .before .before .before .before .before .before .before .before .before .before .before .before in
+    let h = t .before .before in
+    let a = first (h .before) .args in
     let run = e .event .result in
     let was = h .loop .run in
     steps-less (now (a .input)) (run .more) (run .place) (was .more) (was .place) (both-true (was .more) _ (taken t) .0)
-    (next-on _ (now (a .input)) (was .place) _ (event-goes _ (now (a .input)) (was .place) (was .sound) (told-at h) run _ (e .event .ensures .0)))
+    (next-on _ (now (a .input)) (was .place) _ (event-goes _ (now (a .input)) (was .place) (was .sound) (told-at h) run _
+    (e .event .ensures .0)))
 
 loop-again : tie.Need-loop-again Inv-loop μ-loop
 loop-again c =
     let lay = c .before .before in
     let e = c .before .before .before .before in
-    let t = c .before .before .before .before .before .before .before .before .before .before .before .before .before .before .before .before .before in
-    let h = c .before .before .before .before .before .before .before .before .before .before .before .before .before .before .before .before .before .before .before in
-    let a = h .before .before .before .before .before .before .before .before .before .before .before .before .before .before .before .before .before .before .before .before .before .before .before .before .before .args in
+    let t = e .before .before .before .before .before .before .before .before .before .before .before .before .before in
+    let h = t .before .before in
+    let a = first (h .before) .args in
     let was = h .loop .run in
     let same = h .loop .inv .2 in
     let heard = e .event .ensures .0 in
@@ -220,7 +230,7 @@ returns c =
     Taken l (now (a .input)) (a .place) (now (a .out))
     (record { laid = v .laid; more = v .run .more; link = after; place = v .run .place }) (v .out) in
     rw (c .before .before .zipped .ensures)
-    (subst (λ (x : Tree). TakenBy (a .link) (linkNow h x)) (c .before .before .before .before .before .before .before .before .before .before .before .before .before .before .before .before .before .before .before .before .before .before .before .before .before .before .before .before .shape-of .ensures)
+    (subst (λ (x : Tree). TakenBy (a .link) (linkNow h x)) (shapeAt o .shape-of .ensures)
     (subst (λ (l : Link). TakenBy l (linkNow h (treeAt o))) (apart o)
     (laying-ends _ (now (a .input)) (a .place) (now (a .out)) _ (v .out) (v .inv .0) (sym (i .before .takes-one .ensures) ∙ i .if1 .left))))
 

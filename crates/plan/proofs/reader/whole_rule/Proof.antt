@@ -32,7 +32,8 @@ unfolding ruleOf
 rule-read c =
     let b = c .before .before in
     c .read-rule .ensures
-    ∙ ap (λ (x : List ℕ). byteAt x 0) (body-part (now (b .before .before .before .before .args .input)) (b .record-length .result) (end-of b))
+    ∙ ap (λ (x : List ℕ). byteAt x 0) (body-part (now (b .before .before .before .before .args .input)) (b .record-length .result)
+    (end-of b))
 
 -- with this rule it breaks no number
 right : (c : tie.After-read-rule) → badRule (now (c .before .before .before .before .before .before .args .input)) ≡ false

@@ -4,7 +4,7 @@ use native.Mathlib.Omega.{arith}
 use borrow.Author.Count.{below-more}
 use borrow.Author.Tests.{not-true, not-false}
 use Rattle.checks.proofs.Laws.{exactly-yes, exactly-no, not-true-and-false}
-use Rattle.tree.specs.Steps.{NumberUnset}
+use Rattle.shape.specs.Steps.{NumberUnset}
 use Rattle.shape.specs.Shape.{treeIn}
 use borrow.Author.Needs.{needs}
 use Rattle.shape.proofs.size.rest_unset.Statement.{statement}

@@ -12,7 +12,7 @@ use Rattle.units.specs.Cost.{mostCost}
 use Rattle.tree.specs.declared.Tree.{Tree}
 use Rattle.tree.specs.Class.{parentOf, weightOf, ofChild}
 use Rattle.tree.specs.Size.{allWeights, allLongest, longestCost}
-use Rattle.tree.specs.Steps.{Numbers, ClassObeys, childrenAfter}
+use Rattle.shape.specs.Steps.{Numbers, ClassObeys, childrenAfter}
 use Rattle.tree.specs.Sum.{sumTo}
 use Rattle.tree.proofs.Classes.{class-in, class-range, child-light, child-own, child-other}
 use Rattle.tree.proofs.Rules.{lower-parent, weight-range, longest-cost-bound}

@@ -3,9 +3,10 @@ use mathlib.Core.Bool.{false}
 use mathlib.Core.Path.{_≡_, refl, sym, ap, _∙_}
 use Prim.Native.Nat.{ℕ, _-_, _≤_}
 use native.Mathlib.Omega.{arith}
-use lib.ListN.{length, length-map}
+use lib.ListN.{length}
 use Rattle.tree.specs.declared.Tree.{Tree}
 use Rattle.shape.specs.Shape.{treeIn}
+use Rattle.state.proofs.Shapes.{shaped}
 use Rattle.steps.specs.Fields.{lentLink}
 use Rattle.speed.specs.Openings.{openedTimes}
 use Rattle.speed.proofs.Steps.{Opened, opened-apart, opened-fields, opened-more}
@@ -16,7 +17,7 @@ use Rattle.speed.proofs.opening.open_times.Tie as tie
 abbrev Inv-loop : tie.InvT-loop
 Inv-loop link times shape kept₀ size held balance₀ residual₀ active₀ place₀ n₀ kept balance residual active place n =
     (n ≤ times)
-    × Opened link n (lentLink (treeIn shape) (link .size) active place balance residual (link .start) (link .held) (link .lengths)
+    × Opened link n (lentLink (treeIn shape) (link .round .size) active place balance residual (link .start) (link .held) (link .lengths)
     (link .tags) (link .marks) (link .totals))
     × (length kept ≡ 64)
 
@@ -47,7 +48,7 @@ loop-holds c =
     let st = c .before .before .before .before .before .before .before in
     let l = st .args .link in (
       omega arith,
-      opened-apart l (st .pre .0) (sym (length-map (l .accounts) _) ∙ st .good .0 .1 .1 .1 .1 .1 .1 .0 .1 .0 .1) _
+      opened-apart l (st .pre .0) (shaped l _ (st .good .0) .accounts) _
           (c .before .before .before .before .before .shape-of .ensures) _ _ (c .before .balances .ensures) (c .residuals .ensures),
       refl,
     )
@@ -83,7 +84,8 @@ returns c =
     let a = s .before .before .args in
     let l = a .link in
     let e : h .loop .n ≡ a .times = omega (arith, g .loop-test .left, h .loop .inv .0) in
-    let tree = ap (λ (t : Tree). lentLink t (l .size) (h .loop .active) (h .loop .place) (h .loop .balance) (h .loop .residual) (l .start)
+    let tree = ap (λ (t : Tree). lentLink t (l .round .size) (h .loop .active) (h .loop .place) (h .loop .balance) (h .loop .residual)
+    (l .start)
     (l .held) (l .lengths) (l .tags) (l .marks) (l .totals)) (sym (s .shape-of .ensures)) in
     rw (c .zipped .ensures) (tree ∙ h .loop .inv .1 .same ∙ ap (λ (n : ℕ). openedTimes n l) e)
 

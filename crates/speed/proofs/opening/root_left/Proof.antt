@@ -17,7 +17,8 @@ open-times-requires c κs =
     let b = c in
     let l = b .before .args .link in (
       b .backlogged .ensures .1,
-      ap (λ (x : Link). x .tree .follows) (b .backlogged .ensures .0) ∙ ap (λ (t : Tree). t .follows) (offered-tree 63 l) ∙ b .before .pre .1,
+      ap (λ (x : Link). x .tree .follows) (b .backlogged .ensures .0) ∙ ap (λ (t : Tree). t .follows) (offered-tree 63 l) ∙
+          b .before .pre .1,
     )
 
 element-copy-out-root : tie.Need-element-copy-out-root
@@ -26,9 +27,9 @@ element-copy-out-root c = search needs
 returns : tie.Need-returns
 unfolding rootLeft
 returns c =
-    let o = c .before in
+    let o = c .before .before in
     let b = o .before in
-    ap (λ (l : Link). balanceOf (l .accounts) 0) (o .open-times .ensures
+    ap (λ (l : Link). balanceOf (l .round .accounts) 0) (o .open-times .ensures
     ∙ ap (openedTimes (b .before .args .times)) (b .backlogged .ensures .0))
 
 pub root-left-spec : {M : Type 1} → statement M

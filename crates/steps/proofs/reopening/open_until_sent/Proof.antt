@@ -5,7 +5,16 @@ use native.Mathlib.Omega.{arith}
 use Rattle.sets.specs.Set.{Both}
 use Rattle.shape.specs.Shape.{treeIn}
 use Rattle.steps.specs.Rounds.{Unseen, Opens, closedLink}
-use Rattle.steps.proofs.Rounding.{fields-low, fields-searched, UnderWay, under-starts, under-can, under-fields, under-finds, under-on}
+use Rattle.steps.proofs.Rounding.{
+  fields-low,
+  fields-searched,
+  UnderWay,
+  under-starts,
+  under-can,
+  under-fields,
+  under-finds,
+  under-on,
+}
 use borrow.Author.Needs.{needs}
 use Rattle.steps.proofs.reopening.open_until_sent.Statement.{statement}
 use Rattle.steps.proofs.reopening.open_until_sent.Tie as tie

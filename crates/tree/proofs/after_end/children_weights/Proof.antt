@@ -53,7 +53,8 @@ plus-requires c κs =
       st .pre .few,
       st .pre .light i (class-in t i (omega (arith, g .loop-test .taken)) (h .loop .inv .0)),
       h .loop .inv .1 .at p (v .wide .ensures .1),
-      sum-bound (ofChild t (weightOf t) p) 1_000_000 (t .count) (λ k a b. child-light t (weightOf t) p k 1_000_000 (st .pre .light k (class-in t k a b))),
+      sum-bound (ofChild t (weightOf t) p) 1_000_000 (t .count) (λ k a b. child-light t (weightOf t) p k 1_000_000
+          (st .pre .light k (class-in t k a b))),
     )
     in
     fits
@@ -82,7 +83,8 @@ loop-again c =
       omega arith,
       sums-more (t .count) 256 (ofChild t (weightOf t)) (h .loop .sums) i p (weightOf t i) (c .plus .result) (h .loop .inv .1)
           (omega (arith, g .loop-test .taken)) (h .loop .inv .0)
-          (v .wide .ensures .1) (rw e at (child-own t (weightOf t) i)) (λ k ne. child-other t (weightOf t) i k (λ z. ne (sym e ∙ z))) (c .plus .ensures),
+          (v .wide .ensures .1) (rw e at (child-own t (weightOf t) i)) (λ k ne. child-other t (weightOf t) i k (λ z. ne (sym e ∙ z)))
+          (c .plus .ensures),
     )
 
 returns : tie.Need-returns Inv-loop μ-loop

@@ -6,22 +6,26 @@ use native.Mathlib.Decide.{decLe, ℕ-discrete}
 use native.Mathlib.Omega.{arith}
 use borrow.Author.Tests.{le-ltb, ltb-false, eqb-true, ne-eqb, not-false}
 use Rattle.checks.proofs.Laws.{not-true-and-false, exactly-unique}
 use Rattle.tree.specs.declared.Tree.{Tree}
-use Rattle.tree.specs.declared.size.PlanSize.{PlanSize}
+use Rattle.shape.specs.declared.size.PlanSize.{PlanSize}
 use Rattle.tree.specs.Class.{parentOf, weightOf, isClass, isLeaf, isInner, isChild, ofChild, childrenSum, childrenWeight, hasChild}
 use Rattle.tree.specs.Rules.{tooMany, badParent, tooHeavy, childless, noClass, ClassesPass, UnsetIsZero, PlanRules}
-use Rattle.tree.specs.Steps.{NumberUnset, RestUnset, childrenAfter, ClassesObey, Sizes}
+use Rattle.shape.specs.Steps.{NumberUnset, RestUnset, childrenAfter, ClassesObey, Sizes}
 use Rattle.tree.specs.Size.{roundSize}
 use Rattle.tree.specs.Sum.{someTo}
 use Rattle.tree.proofs.Classes.{class-in, class-range, class-past, root-no-class, child-own, child-other}
 use Rattle.tree.proofs.Rules.{few-classes, lower-parent, weight-range}
 use Rattle.tree.proofs.Sums.{sum-zero, sum-part, some-found, some-which}
 
 -- where parents are lower, all that the children of a class weigh comes after it
 after-all : (t : Tree) (i : ℕ) → ((k : ℕ) → 1 ≤ k → k ≤ i → badParent t k ≡ false) → childrenWeight t i ≡ childrenAfter t i
 unfolding childrenWeight childrenSum
 after-all t i rows =
-    omega (arith, sum-zero (ofChild t (weightOf t) i) i (λ k l u. child-other t (weightOf t) k i (λ e. omega (arith, lower-parent t k (rows k l u)))))
+    omega (
+      arith,
+      sum-zero (ofChild t (weightOf t) i) i (λ k l u. child-other t (weightOf t) k i
+          (λ e. omega (arith, lower-parent t k (rows k l u)))),
+    )
 
 -- a class whose children weigh something has a child
 weighs-child : (t : Tree) (i : ℕ) → 1 ≤ childrenWeight t i → hasChild t i ≡ true
@@ -45,7 +49,8 @@ module _ (t : Tree) (rules : PlanRules t) where
   unfolding hasChild childrenWeight childrenSum isChild
   child-weighs i h =
       let w = some-which (isChild t i) (t .count) h in
-      let own : ofChild t (weightOf t) i (w .0) ≡ weightOf t (w .0) = rw (eqb-true (parentOf t (w .0)) i (w .3)) at (child-own t (weightOf t) (w .0)) in
+      let own : ofChild t (weightOf t) i (w .0) ≡ weightOf t (w .0) = rw (eqb-true (parentOf t (w .0)) i (w .3)) at
+      (child-own t (weightOf t) (w .0)) in
       omega (
         arith,
         own,

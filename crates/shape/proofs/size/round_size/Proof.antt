@@ -1,8 +1,8 @@
 -- `size::round_size` meets its contract.
 use mathlib.Core.Path.{refl, _∙_}
 use borrow.Author.Needs.{needs}
-use Rattle.tree.proofs.size.round_size.Statement.{statement}
-use Rattle.tree.proofs.size.round_size.Tie as tie
+use Rattle.shape.proofs.size.round_size.Statement.{statement}
+use Rattle.shape.proofs.size.round_size.Tie as tie
 
 plan-size-requires : tie.Need-plan-size-requires
 plan-size-requires c κs = search needs

@@ -3,12 +3,12 @@ use mathlib.Core.Bool.{true, false, cond}
 use mathlib.Core.Path.{_≡_}
 use Prim.Native.Nat.{ℕ, _-_, _≤_, _<_}
 use Rattle.checks.specs.Check.{Exactly}
 use Rattle.tree.specs.declared.Tree.{Tree}
-use Rattle.tree.specs.declared.size.PlanSize.{PlanSize}
+use Rattle.shape.specs.declared.size.PlanSize.{PlanSize}
 use Rattle.tree.specs.Class.{parentOf, weightOf, longestOf, isClass, isLeaf, ofChild}
 use Rattle.tree.specs.Rules.{badParent, badWeight, badLongest, NothingSet, PlanRules}
 use Rattle.tree.specs.Size.{roundSize}
 use Rattle.tree.specs.Sum.{sumTo}
 
 -- these are the numbers of class number i
 pub record Numbers (t : Tree) (i leaves parent weight longest : ℕ) : Type 0 where
