@@ -1,6 +1,7 @@
 # The module that rt hands to the kit's compiler, for another machine; sourced after lib/proof.sh by bin/native and bin/page.
 #     keeping_kit                    $work/kit, the kit but for its compiler, which keeps in $work/seen each module that it is handed
-#     module_for TARGET MODULE TEXT  such a module as text, with TARGET's layout and name in place of x86-64's; $clang is the kit's compiler
+#     module_for TARGET MODULE TEXT  such a module as text, with TARGET's layout and name for x86-64's; $clang is the kit's compiler;
+#                                    where TARGET is x86-64 itself its functions still touch each page of a deep stack, as rt has it
 #     joined_to NAME                 the libraries whose objects stand in NAME's archive too: those that crates/NAME/joined names
 #     join_to NAME FOLDER ARCHIVE    puts their objects, out of their archives in FOLDER, into NAME's
 
@@ -32,7 +33,8 @@ module_for() { # TARGET MODULE TEXT
     layout=$(grep '^target datalayout' "$work/empty.ll")
     "$clang" --target=x86_64-unknown-linux-gnu -x ir "$2" -S -emit-llvm -O0 -Xclang -disable-llvm-passes -o "$text"
     sed -i -E "s|^target datalayout = .*|$layout|; s|^target triple = .*|target triple = \"$target\"|" "$text"
-    sed -i -E 's/"(target-cpu|target-features|tune-cpu|probe-stack)"="[^"]*"//g' "$text"
+    sed -i -E 's/"(target-cpu|target-features|tune-cpu)"="[^"]*"//g' "$text"
+    case $target in x86_64-*) ;; *) sed -i -E 's/"probe-stack"="[^"]*"//g' "$text" ;; esac
 }
 
 joined_to() { if [ -f "$root/crates/$1/joined" ]; then cat "$root/crates/$1/joined"; fi; } # NAME
