@@ -19,7 +19,7 @@ struct Tree {
     follows: u64,
 }
 
-// The first engine's record and the second's, and what the calls by value give: an answer, and the record.
+// The first engine's record and the second's, and what the calls by value give: the record, and an answer.
 #[repr(C)]
 #[derive(Clone)]
 struct First {
@@ -48,8 +48,8 @@ struct Second {
 
 #[repr(C)]
 struct Given<const WORDS: usize, R> {
-    answer: [u64; WORDS],
     link: R,
+    answer: [u64; WORDS],
 }
 
 #[rustfmt::skip]
@@ -244,8 +244,8 @@ fn by_value<R: Clone>(
     arrive: unsafe extern "C" fn(*mut Given<3, R>, *const R, u64, *const u32),
     times: usize,
 ) -> (f64, u64) {
-    let mut gone: Box<Given<6, R>> = Box::new(Given { answer: [0; 6], link: filled.clone() });
-    let mut taken: Box<Given<3, R>> = Box::new(Given { answer: [0; 3], link: filled.clone() });
+    let mut gone: Box<Given<6, R>> = Box::new(Given { link: filled.clone(), answer: [0; 6] });
+    let mut taken: Box<Given<3, R>> = Box::new(Given { link: filled.clone(), answer: [0; 3] });
     let (mut best, mut sends) = (f64::INFINITY, 0u64);
     for _ in 0..times {
         let mut link = filled.clone();

@@ -124,7 +124,7 @@ pub fn send(
         bytes,
         &mut children,
     ) {
-        return link::refused(checks::NOT_SOUND);
+        return fields::refused(checks::NOT_SOUND);
     }
     let went = steps::send(
         shape,
@@ -143,5 +143,5 @@ pub fn send(
     );
     let then = went.stand;
     *stand = four_of(then);
-    link::answered(went)
+    fields::answered(went)
 }

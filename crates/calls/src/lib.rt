@@ -17,10 +17,10 @@ pub struct Arrival {
     pub bytes: Bytes,
 }
 
-// What an arrival gives: its answer and the link after it.
+// What an arrival gives: the link after it and its answer. The link stands first: the compiler makes fewer copies of it so.
 pub struct AfterArrival {
-    pub answer: Arrival,
     pub link: Link,
+    pub answer: Arrival,
 }
 
 // What a send answers: a verdict, the packet that goes with its class, the rounds opened in the call, and the bytes charged on the link
@@ -34,10 +34,10 @@ pub struct Departure {
     pub waited: u64,
 }
 
-// What a send gives: its answer and the link after it.
+// What a send gives: the link after it and its answer.
 pub struct AfterSend {
-    pub answer: Departure,
     pub link: Link,
+    pub answer: Departure,
 }
 
 // What the panel is told of a link: a verdict, and the totals of every class number, all 0 where it is refused.

@@ -5,10 +5,10 @@ ghost use mathlib.Core.Path.{_≡_};
 ghost use Rattle.calls.specs.Arrival.{arrivalLeaves, Arrives};
 ghost use Rattle.calls.specs.Panel.{TellsTotals, TellsClass};
 ghost use Rattle.calls.specs.Send.{sendLeaves, Sends};
-use link::Arrival;
-use link::ClassTotals;
-use link::Departure;
-use link::PanelTotals;
+use fields::Arrival;
+use fields::ClassTotals;
+use fields::Departure;
+use fields::PanelTotals;
 use state::Link;
 use state::Packet;
 
@@ -16,7 +16,7 @@ use state::Packet;
 pub fn arrive(link: &mut Link, class: usize, packet: Packet) -> Arrival
     ensures { λ r. ⌜ Arrives (now (link .entry)) class packet (arrivalLeaves r (now (link .exit))) ⌝ }
 {
-    let placed = link::arrive_in(
+    let placed = fields::arrive_in(
         link.tree,
         link.start,
         link.held,
@@ -37,7 +37,7 @@ pub fn arrive(link: &mut Link, class: usize, packet: Packet) -> Arrival
 pub fn send(link: &mut Link) -> Departure
     ensures { λ r. ⌜ Sends (now (link .entry)) (sendLeaves r (now (link .exit))) ⌝ }
 {
-    let went = link::send_of(
+    let went = fields::send_of(
         link.tree,
         link.start,
         link.held,
@@ -58,7 +58,7 @@ pub fn send(link: &mut Link) -> Departure
 pub fn totals(link: &mut Link) -> PanelTotals
     ensures { λ r. ⌜ TellsTotals (now (link .entry)) r × (now (link .exit) ≡ now (link .entry)) ⌝ }
 {
-    link::totals_of(
+    fields::totals_of(
         link.tree,
         link.start,
         link.held,
@@ -72,7 +72,7 @@ pub fn totals(link: &mut Link) -> PanelTotals
 pub fn class_totals(link: &mut Link, class: usize) -> ClassTotals
     ensures { λ r. ⌜ TellsClass (now (link .entry)) class r × (now (link .exit) ≡ now (link .entry)) ⌝ }
 {
-    link::class_totals_of(
+    fields::class_totals_of(
         link.tree,
         link.start,
         link.held,

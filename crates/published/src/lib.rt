@@ -19,14 +19,14 @@ pub struct SecondFresh {
     pub link: Second,
 }
 
-// What an arrival gives: its answer and the link after it.
+// What an arrival gives: the link after it and its answer, as the first engine's stand.
 pub struct SecondArrival {
-    pub answer: Arrival,
     pub link: Second,
+    pub answer: Arrival,
 }
 
 // What a send gives.
 pub struct SecondSend {
-    pub answer: Departure,
     pub link: Second,
+    pub answer: Departure,
 }

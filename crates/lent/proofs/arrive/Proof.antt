@@ -43,13 +43,13 @@ use denote.Triple.Walked.{says, Stays, stay-ref, stay-none, walkOf, AllGo, goes-
 use denote.Triple.Clauses.{ensured, lasts}
 use denote.Exit.{yes}
 use Rattle.calls.specs.Arrival.{arrivalLeaves, Arrives}
-use Rattle.link.specs.Fields.{ArrivesIn}
-use Rattle.link.proofs.OverFields.{arrives-whole}
+use Rattle.fields.specs.Fields.{ArrivesIn}
+use Rattle.fields.proofs.OverFields.{arrives-whole}
 use Rattle.state.specs.declared.Link.{Link}
 use Rattle.state.specs.declared.Packet.{Packet}
 use Rattle.state.specs.State.{linkOf}
 use Rattle.calls.specs.declared.Arrival.{Arrival}
-use Rattle.link.specs.declared.Placed.{Placed}
+use Rattle.fields.specs.declared.Placed.{Placed}
 use Rattle.lent.proofs.Returns.{returned-with}
 use Rattle.lent.proofs.Lends.{pval, Known, opened, closed}
 use Rattle.state.proofs.Shapes.{shaped}
@@ -62,12 +62,12 @@ use Rattle.state.proofs.Packet as P
 use Rattle.state.proofs.Packet.Laws as P′
 use Rattle.calls.proofs.Arrival as N
 use Rattle.calls.proofs.Arrival.Laws as N′
-use Rattle.link.proofs.Placed as S
-use Rattle.link.proofs.Placed.Laws as S′
-use Rattle.link.proofs.arrive_in as core
-use Rattle.link.proofs.arrive_in.Symbol as core-def
-use Rattle.link.proofs.arrive_in.Symbol.{name as #core}
-use Rattle.link.proofs.arrive_in.Met as core-thm
+use Rattle.fields.proofs.Placed as S
+use Rattle.fields.proofs.Placed.Laws as S′
+use Rattle.fields.proofs.arrive_in as core
+use Rattle.fields.proofs.arrive_in.Symbol as core-def
+use Rattle.fields.proofs.arrive_in.Symbol.{name as #core}
+use Rattle.fields.proofs.arrive_in.Met as core-thm
 use Rattle.lent.proofs.arrive.Key.{name as #lent·arrive}
 use Rattle.lent.proofs.arrive as lent
 use Rattle.lent.proofs.arrive.Statement as stated
@@ -305,4 +305,4 @@ arrive-spec 𝓤 H 𝓜 𝓖 𝓡 =
     (tables 𝓤 H 𝓜 𝓡 code.env .C) (tables 𝓤 H 𝓜 𝓡 code.env .Λ) #lent·arrive code.function (code.unfolded 𝓤 H 𝓜 𝓡)
     (lent-meets 𝓤 H (𝓖 .A) (givenOf 𝓤 H 𝓜 𝓖) (𝓜 .mem) (𝓡 .run) (tablesOf 𝓤 H 𝓜 (tables 𝓤 H 𝓜 𝓡 code.env))
     (cited 𝓤 H (tripleOf 𝓤 H (𝓖 .A) core.signature (core.spec 𝓤 H (𝓖 .A) (𝓜 .mem) (𝓡 .run))) 𝓜 𝓡 code.env #core core-def.routine
-    code.calls-link·arrive-in (core-thm.met 𝓤 H 𝓜 𝓖 𝓡)))
+    code.calls-fields·arrive-in (core-thm.met 𝓤 H 𝓜 𝓖 𝓡)))

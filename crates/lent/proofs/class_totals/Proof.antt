@@ -51,10 +51,10 @@ use Rattle.lent.proofs.Fields.{apart, together, lengths-shared, lengths
 use Rattle.state.proofs.Link as L
 use Rattle.calls.proofs.ClassTotals as S
 use Rattle.calls.proofs.ClassTotals.Laws as S′
-use Rattle.link.proofs.class_totals_of as core
-use Rattle.link.proofs.class_totals_of.Symbol as core-def
-use Rattle.link.proofs.class_totals_of.Symbol.{name as #core}
-use Rattle.link.proofs.class_totals_of.Met as core-thm
+use Rattle.fields.proofs.class_totals_of as core
+use Rattle.fields.proofs.class_totals_of.Symbol as core-def
+use Rattle.fields.proofs.class_totals_of.Symbol.{name as #core}
+use Rattle.fields.proofs.class_totals_of.Met as core-thm
 use Rattle.lent.proofs.class_totals.Key.{name as #lent·class-totals}
 use Rattle.lent.proofs.class_totals as lent
 use Rattle.lent.proofs.class_totals.Statement as stated
@@ -218,4 +218,4 @@ class-totals-spec 𝓤 H 𝓜 𝓖 𝓡 =
     (tables 𝓤 H 𝓜 𝓡 code.env .C) (tables 𝓤 H 𝓜 𝓡 code.env .Λ) #lent·class-totals code.function (code.unfolded 𝓤 H 𝓜 𝓡)
     (lent-meets 𝓤 H (𝓖 .A) (givenOf 𝓤 H 𝓜 𝓖) (𝓜 .mem) (𝓡 .run) (tablesOf 𝓤 H 𝓜 (tables 𝓤 H 𝓜 𝓡 code.env))
     (cited 𝓤 H (tripleOf 𝓤 H (𝓖 .A) core.signature (core.spec 𝓤 H (𝓖 .A) (𝓜 .mem) (𝓡 .run))) 𝓜 𝓡 code.env #core core-def.routine
-    code.calls-link·class-totals-of (core-thm.met 𝓤 H 𝓜 𝓖 𝓡)))
+    code.calls-fields·class-totals-of (core-thm.met 𝓤 H 𝓜 𝓖 𝓡)))

@@ -41,9 +41,9 @@ use denote.Triple.Clauses.{ensured, lasts}
 use Rattle.calls.specs.Send.{sendLeaves, Sends}
 use Rattle.state.specs.declared.Link.{Link}
 use Rattle.calls.specs.declared.Departure.{Departure}
-use Rattle.link.specs.declared.Changed.{Changed}
-use Rattle.link.specs.Fields.{changedLink, SendsIn}
-use Rattle.link.proofs.OverFields.{sends-whole}
+use Rattle.fields.specs.declared.Changed.{Changed}
+use Rattle.fields.specs.Fields.{changedLink, SendsIn}
+use Rattle.fields.proofs.OverFields.{sends-whole}
 use Rattle.lent.proofs.Returns.{returned}
 use Rattle.lent.proofs.Lends.{Known, opened, closed}
 use Rattle.state.proofs.Shapes.{shaped}
@@ -54,12 +54,12 @@ use Rattle.state.proofs.Link as L
 use Rattle.state.proofs.Link.Laws as L′
 use Rattle.calls.proofs.Departure as N
 use Rattle.calls.proofs.Departure.Laws as N′
-use Rattle.link.proofs.Changed as S
-use Rattle.link.proofs.Changed.Laws as S′
-use Rattle.link.proofs.send_of as core
-use Rattle.link.proofs.send_of.Symbol as core-def
-use Rattle.link.proofs.send_of.Symbol.{name as #core}
-use Rattle.link.proofs.send_of.Met as core-thm
+use Rattle.fields.proofs.Changed as S
+use Rattle.fields.proofs.Changed.Laws as S′
+use Rattle.fields.proofs.send_of as core
+use Rattle.fields.proofs.send_of.Symbol as core-def
+use Rattle.fields.proofs.send_of.Symbol.{name as #core}
+use Rattle.fields.proofs.send_of.Met as core-thm
 use Rattle.lent.proofs.send.Key.{name as #lent·send}
 use Rattle.lent.proofs.send as lent
 use Rattle.lent.proofs.send.Statement as stated
@@ -262,4 +262,4 @@ send-spec 𝓤 H 𝓜 𝓖 𝓡 =
     (tables 𝓤 H 𝓜 𝓡 code.env .C) (tables 𝓤 H 𝓜 𝓡 code.env .Λ) #lent·send code.function (code.unfolded 𝓤 H 𝓜 𝓡)
     (lent-meets 𝓤 H (𝓖 .A) (givenOf 𝓤 H 𝓜 𝓖) (𝓜 .mem) (𝓡 .run) (tablesOf 𝓤 H 𝓜 (tables 𝓤 H 𝓜 𝓡 code.env))
     (cited 𝓤 H (tripleOf 𝓤 H (𝓖 .A) core.signature (core.spec 𝓤 H (𝓖 .A) (𝓜 .mem) (𝓡 .run))) 𝓜 𝓡 code.env #core core-def.routine
-    code.calls-link·send-of (core-thm.met 𝓤 H 𝓜 𝓖 𝓡)))
+    code.calls-fields·send-of (core-thm.met 𝓤 H 𝓜 𝓖 𝓡)))

@@ -47,10 +47,10 @@ use Rattle.lent.proofs.Fields.{apart, together, lengths-shared, lengths
 use Rattle.state.proofs.Link as L
 use Rattle.calls.proofs.PanelTotals as S
 use Rattle.calls.proofs.PanelTotals.Laws as S′
-use Rattle.link.proofs.totals_of as core
-use Rattle.link.proofs.totals_of.Symbol as core-def
-use Rattle.link.proofs.totals_of.Symbol.{name as #core}
-use Rattle.link.proofs.totals_of.Met as core-thm
+use Rattle.fields.proofs.totals_of as core
+use Rattle.fields.proofs.totals_of.Symbol as core-def
+use Rattle.fields.proofs.totals_of.Symbol.{name as #core}
+use Rattle.fields.proofs.totals_of.Met as core-thm
 use Rattle.lent.proofs.totals.Key.{name as #lent·totals}
 use Rattle.lent.proofs.totals as lent
 use Rattle.lent.proofs.totals.Statement as stated
@@ -207,4 +207,4 @@ totals-spec 𝓤 H 𝓜 𝓖 𝓡 =
     (tables 𝓤 H 𝓜 𝓡 code.env .C) (tables 𝓤 H 𝓜 𝓡 code.env .Λ) #lent·totals code.function (code.unfolded 𝓤 H 𝓜 𝓡)
     (lent-meets 𝓤 H (𝓖 .A) (givenOf 𝓤 H 𝓜 𝓖) (𝓜 .mem) (𝓡 .run) (tablesOf 𝓤 H 𝓜 (tables 𝓤 H 𝓜 𝓡 code.env))
     (cited 𝓤 H (tripleOf 𝓤 H (𝓖 .A) core.signature (core.spec 𝓤 H (𝓖 .A) (𝓜 .mem) (𝓡 .run))) 𝓜 𝓡 code.env #core core-def.routine
-    code.calls-link·totals-of (core-thm.met 𝓤 H 𝓜 𝓖 𝓡)))
+    code.calls-fields·totals-of (core-thm.met 𝓤 H 𝓜 𝓖 𝓡)))

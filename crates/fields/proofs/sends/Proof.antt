@@ -1,11 +1,11 @@
--- `link::sends` meets its contract.
+-- `fields::sends` meets its contract.
 use mathlib.Core.Path.{refl}
 use Rattle.steps.proofs.Rounding.{none-kept}
 use Rattle.steps.proofs.Departures.{departs-answers}
 use Rattle.steps.proofs.Wholes.{departs-wide}
 use borrow.Author.Needs.{needs}
-use Rattle.link.proofs.sends.Statement.{statement}
-use Rattle.link.proofs.sends.Tie as tie
+use Rattle.fields.proofs.sends.Statement.{statement}
+use Rattle.fields.proofs.sends.Tie as tie
 
 send-requires : tie.Need-send-requires
 send-requires c κs =

@@ -1,4 +1,4 @@
--- `link::totals_of` meets its contract: the totals of a sound link are the sums over the leaves.
+-- `fields::totals_of` meets its contract: the totals of a sound link are the sums over the leaves.
 use mathlib.Core.Bool.{Bool, true, false}
 use mathlib.Core.List.{List}
 use mathlib.Core.Path.{_≡_, sym, ap, ap₂, _∙_}
@@ -16,8 +16,8 @@ use Rattle.calls.specs.declared.PanelTotals.{PanelTotals}
 use Rattle.calls.specs.Panel.{panelGives}
 use Rattle.calls.proofs.Panels.{sound-totals}
 use borrow.Author.Needs.{needs}
-use Rattle.link.proofs.totals_of.Statement.{statement}
-use Rattle.link.proofs.totals_of.Tie as tie
+use Rattle.fields.proofs.totals_of.Statement.{statement}
+use Rattle.fields.proofs.totals_of.Tie as tie
 
 -- the link that the fields make up
 abbrev whole : tie.Start → List ℕ → List ℕ → Link

@@ -1,8 +1,8 @@
--- `link::stays` meets its contract.
+-- `fields::stays` meets its contract.
 use mathlib.Core.Path.{refl}
 use borrow.Author.Needs.{needs}
-use Rattle.link.proofs.stays.Statement.{statement}
-use Rattle.link.proofs.stays.Tie as tie
+use Rattle.fields.proofs.stays.Statement.{statement}
+use Rattle.fields.proofs.stays.Tie as tie
 
 refused-requires : tie.Need-refused-requires
 refused-requires c κs = search needs

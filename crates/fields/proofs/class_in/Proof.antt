@@ -1,12 +1,12 @@
--- `link::class_in` meets its contract.
+-- `fields::class_in` meets its contract.
 use mathlib.Core.Bool.{true, false}
 use mathlib.Core.Path.{_≡_, refl}
 use native.Mathlib.Omega.{arith}
 use lib.Dec.{ltb}
 use borrow.Author.Tests.{lt-ltb, le-ltb}
 use borrow.Author.Needs.{needs}
-use Rattle.link.proofs.class_in.Statement.{statement}
-use Rattle.link.proofs.class_in.Tie as tie
+use Rattle.fields.proofs.class_in.Statement.{statement}
+use Rattle.fields.proofs.class_in.Tie as tie
 
 returns : tie.Need-returns
 returns c = let past : ltb 63 (c .before .args .class) ≡ true = lt-ltb 63 _ (c .if1 .taken) in rw past refl

@@ -1,11 +1,11 @@
--- `link::class_totals_of` meets its contract: one entry of the tables.
+-- `fields::class_totals_of` meets its contract: one entry of the tables.
 use mathlib.Core.Path.{sym, ap, _∙_}
 use Rattle.calls.specs.declared.PanelTotals.{PanelTotals}
-use Rattle.link.specs.Fields.{classIn}
-use Rattle.link.proofs.Told.{class-told}
+use Rattle.fields.specs.Fields.{classIn}
+use Rattle.fields.proofs.Told.{class-told}
 use borrow.Author.Needs.{needs}
-use Rattle.link.proofs.class_totals_of.Statement.{statement}
-use Rattle.link.proofs.class_totals_of.Tie as tie
+use Rattle.fields.proofs.class_totals_of.Statement.{statement}
+use Rattle.fields.proofs.class_totals_of.Tie as tie
 
 totals-of-requires : tie.Need-totals-of-requires
 totals-of-requires c κs = search needs

@@ -1,4 +1,4 @@
--- `link::send_of` meets its contract.
+-- `fields::send_of` meets its contract.
 use mathlib.Core.Bool.{Bool}
 use mathlib.Core.Path.{_≡_, ap, subst, _∙_}
 use lib.ListN.{length}
@@ -12,11 +12,11 @@ use Rattle.sound.specs.Sound.{SoundLink}
 use Rattle.sound.proofs.Lent.{lent, lent-accounts, lent-is}
 use Rattle.calls.specs.Send.{sendOf}
 use Rattle.calls.proofs.Departures.{send-unsound}
-use Rattle.link.specs.Fields.{GoesIn}
-use Rattle.link.proofs.OverFields.{stays-sends, goes-sends}
+use Rattle.fields.specs.Fields.{GoesIn}
+use Rattle.fields.proofs.OverFields.{stays-sends, goes-sends}
 use borrow.Author.Needs.{needs}
-use Rattle.link.proofs.send_of.Statement.{statement}
-use Rattle.link.proofs.send_of.Tie as tie
+use Rattle.fields.proofs.send_of.Statement.{statement}
+use Rattle.fields.proofs.send_of.Tie as tie
 
 -- the link that the fields make up
 abbrev whole : tie.Start → Link

@@ -17,8 +17,8 @@ use Rattle.calls.specs.Arrival.{arrivalLeaves, arrivalOf, Arrives}
 use Rattle.calls.specs.Send.{refusedSend, sendLeaves, sendGives, sendOf, Sends}
 use Rattle.calls.proofs.Arrivals.{arrives-by}
 use Rattle.calls.proofs.Departures.{sends-by}
-use Rattle.link.specs.declared.Changed.{Changed}
-use Rattle.link.specs.Fields.{ArrivesIn, changedTo, changedLink, GoesIn, SendsIn}
+use Rattle.fields.specs.declared.Changed.{Changed}
+use Rattle.fields.specs.Fields.{ArrivesIn, changedTo, changedLink, GoesIn, SendsIn}
 
 -- ---- an arrival
 

@@ -1,4 +1,4 @@
--- `link::arrive_in` meets its contract: the step of an arrival, told whether the link that the fields make up is sound.
+-- `fields::arrive_in` meets its contract: the step of an arrival, told whether the link that the fields make up is sound.
 use mathlib.Core.Path.{_≡_, sym, subst, _∙_}
 use lib.ListN.{length, length-map}
 use denote.Struct.Laws as LL
@@ -15,8 +15,8 @@ use Rattle.sound.specs.Sound.{SoundLink}
 use Rattle.sound.proofs.Lent.{lent-exactly}
 use Rattle.rules.proofs.Counted.{sound-climbs}
 use borrow.Author.Needs.{needs}
-use Rattle.link.proofs.arrive_in.Statement.{statement}
-use Rattle.link.proofs.arrive_in.Tie as tie
+use Rattle.fields.proofs.arrive_in.Statement.{statement}
+use Rattle.fields.proofs.arrive_in.Tie as tie
 
 -- each class number has a total
 counts : (st : tie.Start) → length (st .args .totals .bytes) ≡ 64

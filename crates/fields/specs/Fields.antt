@@ -16,7 +16,7 @@ use Rattle.calls.specs.declared.Arrival.{Arrival}
 use Rattle.calls.specs.declared.Departure.{Departure}
 use Rattle.calls.specs.declared.PanelTotals.{PanelTotals}
 use Rattle.calls.specs.declared.ClassTotals.{ClassTotals}
-use Rattle.link.specs.declared.Changed.{Changed}
+use Rattle.fields.specs.declared.Changed.{Changed}
 use Rattle.sound.specs.Sound.{SoundLink}
 use Rattle.calls.specs.Arrival.{arrivalLeaves, arrivalOf}
 use Rattle.calls.specs.Send.{sendLeaves, sendOf}

@@ -21,7 +21,7 @@ use Rattle.calls.specs.declared.ClassTotals.{ClassTotals}
 use Rattle.calls.specs.Panel.{panelGives, TellsTotals, classGives, TellsClass}
 use Rattle.calls.proofs.Panels.{wide-none}
 use lib.ListN.{replicate, getD-replicate}
-use Rattle.link.specs.Fields.{classIn}
+use Rattle.fields.specs.Fields.{classIn}
 
 -- an entry of a table, or 0 past it
 entry : (f : ℕ → ℕ) (i : ℕ) → (63 < i → f i ≡ 0) → cond (ltb 63 i) 0 (getD (table f 64) i 0) ≡ f i

@@ -1,9 +1,9 @@
--- `link::answered` meets its contract.
+-- `fields::answered` meets its contract.
 use mathlib.Core.Path.{refl}
 use borrow.Author.Tests.{not-true, not-false}
 use borrow.Author.Needs.{needs}
-use Rattle.link.proofs.answered.Statement.{statement}
-use Rattle.link.proofs.answered.Tie as tie
+use Rattle.fields.proofs.answered.Statement.{statement}
+use Rattle.fields.proofs.answered.Tie as tie
 
 refused-requires : tie.Need-refused-requires
 refused-requires c κs = search needs
