@@ -212,6 +212,11 @@ module _ (l : Link) (input : List ℕ) (place : ℕ) (before : List ℕ) where
 -- ---- a burst
 
 -- the same link, standing where its four numbers say
+pub served-from : {l l′ : Link} {input : List ℕ} {place : ℕ} {before : List ℕ} {d : CallsDone} {out : List ℕ} {after : Link} → l ≡ l′
+    → Served l input place before d out after → Served l′ input place before d out after
+served-from {input = input} {place = place} {before = before} {d = d} {out = out} {after = after} e served =
+    subst (λ (x : Link). Served x input place before d out after) e served
+
 pub served-at : (f : Stand → Link) {s s′ : Stand} {input : List ℕ} {place : ℕ} {before : List ℕ} {d : CallsDone} {out : List ℕ}
     {after : Link} → s ≡ s′ → Served (f s) input place before d out after → Served (f s′) input place before d out after
 served-at f {input = input} {place = place} {before = before} {d = d} {out = out} {after = after} e served =

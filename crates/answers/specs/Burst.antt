@@ -16,7 +16,7 @@ use Rattle.state.specs.declared.Link.{Link}
 use Rattle.state.specs.Queue.{Shaped}
 use Rattle.sound.specs.Sound.{SoundLink}
 use Rattle.steps.specs.declared.Stand.{Stand}
-use Rattle.steps.specs.Fields.{linkAt}
+use Rattle.steps.specs.Fields.{lentLink}
 use Rattle.calls.specs.Run.{arrival, send, Made, linkLeft, makes}
 use Rattle.run.specs.Event.{packetIn}
 use Rattle.answers.specs.declared.BurstEnd.{BurstEnd}
@@ -41,7 +41,9 @@ fourOf s = s .size .0 ∷ s .active ∷ s .place ∷ s .charged ∷ []
 -- (R345)
 abbrev pub linkIn : List ℕ → List ℕ → List ℕ → List ℕ → List ℕ → List ℕ → List ℕ → List ℕ → List ℕ → List ℕ → List ℕ → Link
 linkIn shape stand balance residual start held lengths tags marks packets bytes =
-    linkAt (treeIn shape) (standIn stand) balance residual start held lengths tags marks packets bytes
+    let s = standIn stand in
+    lentLink (treeIn shape) (s .size) (s .active) (s .place) balance residual start held lengths tags marks
+    (record { packets = packets; bytes = bytes; charged = s .charged })
 
 -- ---- calls one after the other
 

@@ -60,11 +60,12 @@ pub fn arrive(
         bytes,
         &mut children,
     );
-    steps::arrive(
+    steps::once::arrive(
         sound,
         class,
         packet,
         shape,
+        &children,
         start,
         held,
         lengths,
@@ -126,7 +127,7 @@ pub fn send(
     ) {
         return fields::refused(checks::NOT_SOUND);
     }
-    let went = steps::send(
+    let went = steps::once::send(
         shape,
         &children,
         &mut kept,

@@ -5,9 +5,9 @@ ghost use mathlib.Core.Path.{_≡_};
 ghost use Rattle.tree.specs.Rules.{PlanRules};
 ghost use Rattle.shape.specs.Shape.{treeIn, Families};
 ghost use Rattle.state.specs.declared.Link.{Link};
-ghost use Rattle.state.specs.WayUp.{Climbs};
+ghost use Rattle.totals.specs.WorkedOut.{totalsFor, Roomy};
 ghost use Rattle.steps.specs.Arrivals.{lentWaiting, TakesOn};
-ghost use Rattle.steps.specs.Fields.{lentTotals, linkAt};
+ghost use Rattle.steps.specs.Fields.{linkAt};
 ghost use Rattle.steps.specs.Rounds.{Kept};
 ghost use Rattle.answers.specs.Reply.{lastReply};
 ghost use Rattle.answers.specs.Steps.{arrivedWith, ArrivesAs, whyNothing, wentReplies, DepartsAs, heardBy, Told, Hears};
@@ -73,14 +73,15 @@ fn arrives(
     packets: &mut [u64; 64],
     bytes: &mut [u64; 64],
 ) -> Reply
-    requires { ⌜ (sound ≡ true → PlanRules (treeIn (now shape)) × Climbs (treeIn (now shape)) (now packets) (now bytes)) ⌝ }
+    requires { ⌜ (sound ≡ true → PlanRules (treeIn (now shape))
+        × Roomy (totalsFor true (treeIn (now shape)) (now packets) (now bytes) charged)) ⌝ }
     ensures { λ r. ⌜ ((l : Link) → l .tree ≡ treeIn (now (shape .entry))
         → (sound ≡ true → TakesOn (lentWaiting l (now (start .entry)) (now (held .entry)) (now (lengths .entry)) (now (tags .entry))
-        (now (marks .entry)) (lentTotals (now (packets .entry)) (now (bytes .entry)) charged)))
+        (now (marks .entry)) (totalsFor sound (treeIn (now (shape .entry))) (now (packets .entry)) (now (bytes .entry)) charged)))
         → ArrivesAs sound (lentWaiting l (now (start .entry)) (now (held .entry)) (now (lengths .entry)) (now (tags .entry))
-        (now (marks .entry)) (lentTotals (now (packets .entry)) (now (bytes .entry)) charged)) (arrivedWith class len tag) r
+        (now (marks .entry)) (totalsFor sound (treeIn (now (shape .entry))) (now (packets .entry)) (now (bytes .entry)) charged)) (arrivedWith class len tag) r
         (lentWaiting l (now (start .entry)) (now (held .exit)) (now (lengths .exit)) (now (tags .exit)) (now (marks .exit))
-        (lentTotals (now (packets .exit)) (now (bytes .exit)) charged))) ⌝ }
+        (totalsFor sound (treeIn (now (shape .entry))) (now (packets .exit)) (now (bytes .exit)) charged))) ⌝ }
 {
     let answer = steps::arrive(
         sound,
@@ -125,13 +126,13 @@ fn departs(
     packets: &mut [u64; 64],
     bytes: &mut [u64; 64],
 ) -> Went
-    requires { ⌜ Told sound (linkAt (treeIn (now shape)) stand (now balance) (now residual) (now start) (now held) (now lengths) (now tags)
+    requires { ⌜ Told sound (linkAt sound (treeIn (now shape)) stand (now balance) (now residual) (now start) (now held) (now lengths) (now tags)
         (now marks) (now packets) (now bytes))
         × (sound ≡ true → Families (treeIn (now shape)) (now children) × Kept (treeIn (now shape)) (stand .known) (now kept)) ⌝ }
-    ensures { λ r. ⌜ DepartsAs sound (linkAt (treeIn (now (shape .entry))) stand (now (balance .entry)) (now (residual .entry))
+    ensures { λ r. ⌜ DepartsAs sound (linkAt sound (treeIn (now (shape .entry))) stand (now (balance .entry)) (now (residual .entry))
         (now (start .entry))
         (now (held .entry)) (now (lengths .entry)) (now (tags .entry)) (now (marks .entry)) (now (packets .entry)) (now (bytes .entry)))
-        r (linkAt (treeIn (now (shape .entry))) (r .stand) (now (balance .exit)) (now (residual .exit)) (now (start .exit))
+        r (linkAt sound (treeIn (now (shape .entry))) (r .stand) (now (balance .exit)) (now (residual .exit)) (now (start .exit))
         (now (held .exit))
         (now (lengths .entry)) (now (tags .entry)) (now (marks .entry)) (now (packets .exit)) (now (bytes .exit))) ⌝ }
     ensures { λ r. ⌜ (sound ≡ true → Kept (treeIn (now (shape .entry))) (r .stand .known) (now (kept .exit))) ⌝ }
@@ -212,14 +213,14 @@ pub fn event(
     bytes: &mut [u64; 64],
     input: &[u8],
 ) -> Heard
-    requires { ⌜ Told (run .sound) (linkAt (treeIn (now shape)) (run .stand) (now balance) (now residual) (now start) (now held)
+    requires { ⌜ Told (run .sound) (linkAt (run .sound) (treeIn (now shape)) (run .stand) (now balance) (now residual) (now start) (now held)
         (now lengths) (now tags)
         (now marks) (now packets) (now bytes))
         × (run .sound ≡ true → Families (treeIn (now shape)) (now children) × Kept (treeIn (now shape)) (run .stand .known) (now kept)) ⌝ }
-    ensures { λ r. ⌜ Hears (run .sound) (linkAt (treeIn (now (shape .entry))) (run .stand) (now (balance .entry)) (now (residual .entry))
+    ensures { λ r. ⌜ Hears (run .sound) (linkAt (run .sound) (treeIn (now (shape .entry))) (run .stand) (now (balance .entry)) (now (residual .entry))
         (now (start .entry)) (now (held .entry)) (now (lengths .entry)) (now (tags .entry)) (now (marks .entry)) (now (packets .entry))
         (now (bytes .entry))) (now (input .entry)) (run .place) r
-        (linkAt (treeIn (now (shape .entry))) (r .stand) (now (balance .exit)) (now (residual .exit)) (now (start .exit)) (now (held .exit))
+        (linkAt (r .sound) (treeIn (now (shape .entry))) (r .stand) (now (balance .exit)) (now (residual .exit)) (now (start .exit)) (now (held .exit))
         (now (lengths .exit)) (now (tags .exit)) (now (marks .exit)) (now (packets .exit)) (now (bytes .exit))) ⌝ }
     ensures { λ r. ⌜ (run .sound ≡ true → Kept (treeIn (now (shape .entry))) (r .stand .known) (now (kept .exit))) ⌝ }
 {

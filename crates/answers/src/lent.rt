@@ -1,6 +1,7 @@
 // What is known of lent arrays: each has the length of its type, and so the link that lies in them has the lists of a link. A reference
 // does not say it by itself, a copy does; nobody reads the copies, so none is made in the compiled code.
 // Serves demand 1.
+ghost use mathlib.Core.Bool.{false};
 ghost use mathlib.Core.Path.{_≡_};
 ghost use lib.ListN.{length};
 ghost use Rattle.state.specs.Queue.{Shaped};
@@ -84,7 +85,7 @@ pub fn known(
     packets: &[u64; 64],
     bytes: &[u64; 64],
 ) -> bool
-    ensures { λ r. ⌜ ((t : Tree) (s : Stand) → Shaped (linkAt t s (now (balance .entry)) (now (residual .entry)) (now (start .entry))
+    ensures { λ r. ⌜ ((t : Tree) (s : Stand) → Shaped (linkAt false t s (now (balance .entry)) (now (residual .entry)) (now (start .entry))
         (now (held .entry)) (now (lengths .entry)) (now (tags .entry)) (now (marks .entry)) (now (packets .entry))
         (now (bytes .entry)))) ⌝ }
 {

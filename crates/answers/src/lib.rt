@@ -86,12 +86,12 @@ fn make_calls(
     place: usize,
     out: &mut [u64],
 ) -> CallsDone
-    requires { ⌜ Told true (linkAt (treeIn (now shape)) stand (now balance) (now residual) (now start) (now held) (now lengths) (now tags)
+    requires { ⌜ Told true (linkAt true (treeIn (now shape)) stand (now balance) (now residual) (now start) (now held) (now lengths) (now tags)
         (now marks) (now packets) (now bytes)) × Families (treeIn (now shape)) (now children) × (stand .known ≡ 0) ⌝ }
-    ensures { λ r. ⌜ Served (linkAt (treeIn (now (shape .entry))) stand (now (balance .entry)) (now (residual .entry))
+    ensures { λ r. ⌜ Served (linkAt true (treeIn (now (shape .entry))) stand (now (balance .entry)) (now (residual .entry))
         (now (start .entry)) (now (held .entry)) (now (lengths .entry)) (now (tags .entry)) (now (marks .entry)) (now (packets .entry))
         (now (bytes .entry))) (now (input .entry)) place (now (out .entry)) r (now (out .exit))
-        (linkAt (treeIn (now (shape .entry))) (r .run .stand) (now (balance .exit)) (now (residual .exit)) (now (start .exit))
+        (linkAt true (treeIn (now (shape .entry))) (r .run .stand) (now (balance .exit)) (now (residual .exit)) (now (start .exit))
         (now (held .exit)) (now (lengths .exit)) (now (tags .exit)) (now (marks .exit)) (now (packets .exit)) (now (bytes .exit))) ⌝ }
 {
     let mut kept = [0u32; 64];
@@ -233,6 +233,7 @@ pub fn burst(
         place,
         out,
     );
+    totals::work_out(true, shape, &children, packets, bytes);
     let run = done.run;
     let then = run.stand;
     *stand = four_of(then);

@@ -1,6 +1,6 @@
 // Entry after entry in place: the link lies in number arrays that are lent to the steps, and no entry is checked for soundness. It is not
 // public: `part` decides first whether the link is sound. Named for specs/Steps. Serves demands 1 and 2.
-ghost use mathlib.Core.Bool.{_&&_, _||_};
+ghost use mathlib.Core.Bool.{true, _&&_, _||_};
 ghost use mathlib.Core.Path.{_≡_};
 ghost use Prim.Native.Nat.{_+_, _^_, _<_};
 ghost use lib.Dec.{leb};
@@ -132,16 +132,16 @@ fn entry(
     bytes: &mut [u64; 64],
     rest: &[u8],
 ) -> Did
-    requires { ⌜ Enterable (linkAt (treeIn (now shape)) (did .stand) (now balance) (now residual) (now start) (now held) (now lengths)
+    requires { ⌜ Enterable (linkAt true (treeIn (now shape)) (did .stand) (now balance) (now residual) (now start) (now held) (now lengths)
         (now tags)
         (now marks) (now packets) (now bytes))
         × (did .place + length (now rest) < 2 ^ 64) × (did .claims + length (now rest) < 2 ^ 64)
         × Families (treeIn (now shape)) (now children) × Kept (treeIn (now shape)) (did .stand .known) (now kept) ⌝ }
-    ensures { λ r. ⌜ Enters (linkAt (treeIn (now (shape .entry))) (did .stand) (now (balance .entry)) (now (residual .entry))
+    ensures { λ r. ⌜ Enters (linkAt true (treeIn (now (shape .entry))) (did .stand) (now (balance .entry)) (now (residual .entry))
         (now (start .entry))
         (now (held .entry)) (now (lengths .entry)) (now (tags .entry)) (now (marks .entry)) (now (packets .entry)) (now (bytes .entry)))
         (did .place) (did .claims) (entryAt (now (rest .entry))) r
-        (linkAt (treeIn (now (shape .entry))) (r .stand) (now (balance .exit)) (now (residual .exit)) (now (start .exit)) (now (held .exit))
+        (linkAt true (treeIn (now (shape .entry))) (r .stand) (now (balance .exit)) (now (residual .exit)) (now (start .exit)) (now (held .exit))
         (now (lengths .exit)) (now (tags .exit)) (now (marks .exit)) (now (packets .exit)) (now (bytes .exit))) ⌝ }
     ensures { λ r. ⌜ Kept (treeIn (now (shape .entry))) (r .stand .known) (now (kept .exit)) ⌝ }
 {
@@ -217,16 +217,16 @@ pub fn entries(link: Link, part: &[u8], place: usize, claims: usize, last: bool)
     let mut lengths = link.lengths;
     let mut tags = link.tags;
     let mut marks = link.marks;
-    let totals = link.totals;
-    let mut packets = totals.packets;
-    let mut bytes = totals.bytes;
+    let counted = link.totals;
+    let mut packets = counted.packets;
+    let mut bytes = counted.bytes;
     let size = link.round.size;
     let stand = Stand {
         known: 0,
         size,
         active: link.round.active,
         place: link.round.place,
-        charged: totals.charged,
+        charged: counted.charged,
     };
     let mut s = goes_on(place, claims, stand);
     while takes_one(s.more, last, part.len() - (s.place - place)) {
@@ -249,6 +249,7 @@ pub fn entries(link: Link, part: &[u8], place: usize, claims: usize, last: bool)
         );
     }
     let accounts = state::lent_accounts::zipped(&balance, &residual);
+    totals::work_out(true, &shape, &children, &mut packets, &mut bytes);
     let then = s.stand;
     let size_after = then.size;
     let after = Link {

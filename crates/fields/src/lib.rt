@@ -89,11 +89,12 @@ pub fn arrive_in<'a>(
         &bytes,
         &mut children,
     );
-    let answer = steps::arrive(
+    let answer = steps::once::arrive(
         sound,
         class,
         packet,
         &shape,
+        &children,
         &start,
         &mut after,
         lengths,
@@ -200,7 +201,7 @@ fn sends(
         place,
         charged,
     };
-    let went = steps::send(
+    let went = steps::once::send(
         shape,
         children,
         &mut kept,

@@ -147,9 +147,9 @@ pub fn part_of(sound: bool, link: Link, input: &[u8], place: usize, out: &mut [u
     let mut lengths = link.lengths;
     let mut tags = link.tags;
     let mut marks = link.marks;
-    let totals = link.totals;
-    let mut packets = totals.packets;
-    let mut bytes = totals.bytes;
+    let counted = link.totals;
+    let mut packets = counted.packets;
+    let mut bytes = counted.bytes;
     let known = sums_now(sound, &shape, &held, &mut kept);
     let size = link.round.size;
     let stand = Stand {
@@ -157,7 +157,7 @@ pub fn part_of(sound: bool, link: Link, input: &[u8], place: usize, out: &mut [u
         size,
         active: link.round.active,
         place: link.round.place,
-        charged: totals.charged,
+        charged: counted.charged,
     };
     let none = event::last_reply(Verdict::Passed);
     let mut run = event::outcome(sound, none, true, place, stand);
@@ -182,6 +182,7 @@ pub fn part_of(sound: bool, link: Link, input: &[u8], place: usize, out: &mut [u
         laid = lay_reply(run.reply, packets[0], laid, out);
     }
     let accounts = state::lent_accounts::zipped(&balance, &residual);
+    totals::work_out(sound, &shape, &children, &mut packets, &mut bytes);
     let then = run.stand;
     let size_after = then.size;
     let after = Link {

@@ -162,15 +162,15 @@ fn goes(second: Second) -> SecondSend
     let lengths = first.lengths;
     let tags = first.tags;
     let marks = first.marks;
-    let totals = first.totals;
-    let mut packets = totals.packets;
-    let mut bytes = totals.bytes;
+    let had = first.totals;
+    let mut packets = had.packets;
+    let mut bytes = had.bytes;
     let stand = Stand {
         known: 0,
         size,
         active: first.round.active,
         place: first.round.place,
-        charged: totals.charged,
+        charged: had.charged,
     };
     let sent = published_send::send(
         &shape,
@@ -190,6 +190,7 @@ fn goes(second: Second) -> SecondSend
         &mut bytes,
     );
     let accounts_after = zipped(&balance, &residual);
+    totals::work_out(true, &shape, &children, &mut packets, &mut bytes);
     let then = sent.stand;
     let size_after = then.size;
     let round = Round {

@@ -1,4 +1,5 @@
 -- A send begins on the fields of a sound link: what is lent to its visits, and what they find.
+use mathlib.Core.Bool.{true}
 use mathlib.Core.List.{List, []}
 use mathlib.Core.Path.{_≡_, refl, sym, ap, ap₂, subst, _∙_}
 use Prim.Native.Nat.{ℕ, _+_, _%_, _≤_, _<_}
@@ -79,7 +80,7 @@ module _ (l : Second) (r : Ready l) where
 -- on the link with these fields
 module _ (stand : Stand) (asked : ℕ) (shape balance residual quotas start held lengths tags marks packets bytes : List ℕ) where
   abbrev l : Second
-  l = secondOf (linkAt (treeIn shape) stand balance residual start held lengths tags marks packets bytes) asked quotas
+  l = secondOf (linkAt true (treeIn shape) stand balance residual start held lengths tags marks packets bytes) asked quotas
 
   module _ (r : Ready l) where
     pub lent-start : Lent (means l) (stand .active) asked shape balance residual quotas

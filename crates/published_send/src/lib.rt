@@ -3,9 +3,11 @@
 // Serves demand 2.
 mod rounds;
 
+ghost use mathlib.Core.Bool.{true};
 ghost use mathlib.Core.List.{List};
 ghost use mathlib.Core.Path.{_≡_};
 ghost use Prim.Native.Nat.{ℕ};
+ghost use Rattle.totals.specs.WorkedOut.{Near};
 ghost use Rattle.shape.specs.Shape.{treeIn, Families};
 ghost use Rattle.active.specs.Known.{Kept};
 ghost use Rattle.steps.specs.Fields.{linkAt};
@@ -35,13 +37,13 @@ fn next_sender(
     lengths: &[u16; 2048],
 ) -> Turned
     requires { ⌜ ((tags : List ℕ) × (marks : List ℕ) × (packets : List ℕ) × (bytes : List ℕ)
-        × Ready (secondOf (linkAt (treeIn (now shape)) stand (now balance) (now residual) (now start) (now held) (now lengths) tags marks
+        × Ready (secondOf (linkAt true (treeIn (now shape)) stand (now balance) (now residual) (now start) (now held) (now lengths) tags marks
         packets bytes) asked (now quotas)))
         × Kept (treeIn (now shape)) (stand .known) (now kept) ⌝ }
     ensures { λ r. ⌜ ((tags marks packets bytes : List ℕ)
-        → Ready (secondOf (linkAt (treeIn (now (shape .entry))) stand (now (balance .entry)) (now (residual .entry)) (now (start .entry))
+        → Ready (secondOf (linkAt true (treeIn (now (shape .entry))) stand (now (balance .entry)) (now (residual .entry)) (now (start .entry))
         (now (held .entry)) (now (lengths .entry)) tags marks packets bytes) asked (now (quotas .entry)))
-        → Arrived (means (secondOf (linkAt (treeIn (now (shape .entry))) stand (now (balance .entry)) (now (residual .entry))
+        → Arrived (means (secondOf (linkAt true (treeIn (now (shape .entry))) stand (now (balance .entry)) (now (residual .entry))
         (now (start .entry)) (now (held .entry)) (now (lengths .entry)) tags marks packets bytes) asked (now (quotas .entry)))) r
         (now (shape .entry)) (now (balance .exit)) (now (residual .exit)) (now (quotas .exit))) ⌝ }
     ensures { λ r. ⌜ Kept (treeIn (now (shape .entry))) (r .known) (now (kept .exit)) ⌝ }
@@ -134,16 +136,17 @@ pub fn send(
     packets: &mut [u64; 64],
     bytes: &mut [u64; 64],
 ) -> Sent
-    requires { ⌜ Ready (secondOf (linkAt (treeIn (now shape)) stand (now balance) (now residual) (now start) (now held) (now lengths)
+    requires { ⌜ Ready (secondOf (linkAt true (treeIn (now shape)) stand (now balance) (now residual) (now start) (now held) (now lengths)
         (now tags) (now marks) (now packets) (now bytes)) asked (now quotas))
         × Families (treeIn (now shape)) (now children) × Kept (treeIn (now shape)) (stand .known) (now kept) ⌝ }
-    ensures { λ r. ⌜ Wholly (secondOf (linkAt (treeIn (now (shape .entry))) stand (now (balance .entry)) (now (residual .entry))
+    ensures { λ r. ⌜ Wholly (secondOf (linkAt true (treeIn (now (shape .entry))) stand (now (balance .entry)) (now (residual .entry))
         (now (start .entry)) (now (held .entry)) (now (lengths .entry)) (now (tags .entry)) (now (marks .entry)) (now (packets .entry))
         (now (bytes .entry))) asked (now (quotas .entry)))
-        r (linkAt (treeIn (now (shape .entry))) (r .stand) (now (balance .exit)) (now (residual .exit)) (now (start .exit))
+        r (linkAt true (treeIn (now (shape .entry))) (r .stand) (now (balance .exit)) (now (residual .exit)) (now (start .exit))
         (now (held .exit)) (now (lengths .entry)) (now (tags .entry)) (now (marks .entry)) (now (packets .exit)) (now (bytes .exit)))
         (now (quotas .exit)) ⌝ }
     ensures { λ r. ⌜ Kept (treeIn (now (shape .entry))) (r .stand .known) (now (kept .exit)) ⌝ }
+    ensures { λ _. ⌜ Near (now (packets .entry)) (now (packets .exit)) × Near (now (bytes .entry)) (now (bytes .exit)) ⌝ }
 {
     let next = next_sender(
         shape,

@@ -20,7 +20,6 @@ use Rattle.units.proofs.Laws.{cost-ceiling}
 use Rattle.state.specs.Queue.{noPacket, bytesIn}
 use Rattle.state.specs.declared.Link.{Link}
 use Rattle.state.specs.State.{State, meaning, queueAt, TotalsRight}
-use Rattle.state.specs.WayUp.{Climbs}
 use Rattle.state.proofs.Bytes.{bytes-rest, bytes-most}
 use Rattle.sound.specs.Sound.{Sound, SoundLink}
 use Rattle.rules.specs.Active.{waits, someWaits}
@@ -97,44 +96,6 @@ totals-ceiling s i sound u =
         (λ m w. cost-ceiling (getD (queueAt s j) m noPacket .length) (omega (arith, longest, sound .holds j v .range f m w .high)))
         in
         omega (arith, most, sound .holds j v .few f)
-
--- so there is room to count one more on the way up, and no class counts more than its parent
-pub sound-climbs : (l : Link) → SoundLink l → Climbs (l .tree) (l .totals .packets) (l .totals .bytes)
-sound-climbs l sound = record {
-  lower = λ k low u. lower k low u;
-  few = record {
-    small = λ k u. omega (arith, totals-ceiling s k (sound .state) u .0);
-    rises = λ k low u.
-        omega (
-          arith,
-          right k u .packets,
-          right (parentOf (l .tree) k) (omega (arith, lower k low u, u)) .packets,
-          sum-rises (l .tree) rules (λ j. length (queueAt s j)) k low,
-        );
-  };
-  light = record {
-    small = λ k u. omega (arith, totals-ceiling s k (sound .state) u .1);
-    rises = λ k low u.
-        omega (
-          arith,
-          right k u .bytes,
-          right (parentOf (l .tree) k) (omega (arith, lower k low u, u)) .bytes,
-          sum-rises (l .tree) rules (λ j. bytesIn (queueAt s j)) k low,
-        );
-  };
-}
-  where
-    s : State
-    s = meaning l
-
-    rules : PlanRules (l .tree)
-    rules = sound .state .fits .tree
-
-    right : (k : ℕ) → k < 64 → TotalsRight s k
-    right k u = sound .state .totals k u
-
-    lower : (k : ℕ) → 1 ≤ k → k < 64 → parentOf (l .tree) k < k
-    lower k low u = parent-below (l .tree) k rules low u
 
 -- a leaf counts its first packet
 pub leaf-counts : (l : Link) (i : ℕ) → SoundLink l → isLeaf (l .tree) i ≡ true → 1 ≤ length (queueAt (meaning l) i)

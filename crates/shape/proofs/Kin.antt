@@ -26,7 +26,7 @@ pub record FamiliesTo (t : Tree) (n : ℕ) (out : List ℕ) : Type 0 where
   pub root : (p : ℕ) → p < 64 → has (getD out p 0) 0 ≡ false
 
 -- of a list of zeros each is 0
-zeros : (n i : ℕ) → _≡_ {A = ℕ} (getD (replicate n 0) i 0) 0
+pub zeros : (n i : ℕ) → _≡_ {A = ℕ} (getD (replicate n 0) i 0) 0
 zeros zero i = refl
 zeros (suc n) zero = refl
 zeros (suc n) (suc i) = zeros n i

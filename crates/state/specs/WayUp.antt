@@ -1,11 +1,7 @@
 -- Totals counted anew where one packet comes or goes: on the way up from its leaf, and nowhere else (R277). Demand 2.
-use mathlib.Core.Bool.{Bool, true, cond}
-use mathlib.Core.List.{List}
-use mathlib.Core.Path.{_≡_}
-use Prim.Native.Nat.{ℕ, _+_, _-_, _^_, _≤_, _<_}
-use lib.ListN.{getD}
+use mathlib.Core.Bool.{Bool, cond}
+use Prim.Native.Nat.{ℕ, _+_, _-_}
 use Rattle.tree.specs.declared.Tree.{Tree}
-use Rattle.tree.specs.Class.{parentOf}
 use Rattle.tree.specs.Below.{changedUp}
 use Rattle.state.specs.declared.Totals.{Totals}
 
@@ -20,19 +16,3 @@ recounted fewer t i charge totals = record {
   bytes = changedUp t (changed fewer charge) i (totals .bytes);
   charged = totals .charged;
 }
-
--- a table of totals that can be walked up: it has room for one packet more, and no class counts more than its parent
-pub record Rises (t : Tree) (xs : List ℕ) : Type 0 where
-  pub small : (k : ℕ) → k < 64 → getD xs k 0 < 2 ^ 32
-  pub rises : (k : ℕ) → 1 ≤ k → k < 64 → getD xs k 0 ≤ getD xs (parentOf t k) 0
-
--- what a walk up asks: parents are lower, and both tables can be walked up
-pub record Climbs (t : Tree) (packets bytes : List ℕ) : Type 0 where
-  pub lower : (k : ℕ) → 1 ≤ k → k < 64 → parentOf t k < k
-  pub few : Rises t packets
-  pub light : Rises t bytes
-
--- where one packet of this charge is counted less, its class counts it
-pub record CountsIt (fewer : Bool) (i charge : ℕ) (packets bytes : List ℕ) : Type 0 where
-  pub one : fewer ≡ true → 1 ≤ getD packets i 0
-  pub all : fewer ≡ true → charge ≤ getD bytes i 0

@@ -4,7 +4,6 @@ mod accounts;
 pub mod lent_accounts;
 pub mod mark;
 pub mod queue;
-pub mod way_up;
 
 ghost use mathlib.Core.Path.{_≡_};
 ghost use Rattle.tree.specs.Rules.{PlanRules};

@@ -22,6 +22,7 @@ use Rattle.rules.proofs.Waiting.{active-meaning}
 use Rattle.rules.proofs.Rounds.{leaf-most}
 use Rattle.rules.proofs.Taken.{root-waits}
 use Rattle.rules.proofs.Counted.{root-counts-some}
+use Rattle.totals.proofs.WorkingOut.{worked-out-own, root-not-inner}
 use Rattle.rules.specs.After.{Sent, sentLink}
 use Rattle.calls.specs.declared.AfterSend.{AfterSend}
 use Rattle.calls.specs.Send.{sendLeaves, sendOf}
@@ -32,7 +33,7 @@ use Rattle.rules.proofs.Meanings.{waits-leaf}
 use Rattle.rules.proofs.OnTheWay.{way-starts, way-found, way-ends}
 use Rattle.steps.specs.declared.leaf.Gone.{Gone}
 use Rattle.steps.specs.declared.Stand.{Stand}
-use Rattle.steps.specs.Fields.{lentLink, lentTotals, linkAt, GoesNext}
+use Rattle.steps.specs.Fields.{lentLink, totalsFor, linkAt, GoesNext}
 use Rattle.steps.specs.declared.reopening.Found.{Found}
 use Rattle.steps.specs.Rounds.{
   InFields,
@@ -132,18 +133,20 @@ module _
 
 -- whether the root of a link in fields counts a packet
 module _
-    {t : Tree} (stand : Stand) (balance residual : List ℕ) {start held lengths tags marks packets bytes : List ℕ}
-    (s : InFields (linkAt t stand balance residual start held lengths tags marks packets bytes)) where
+    {t : Tree} (stand : Stand) (balance residual : List ℕ) {start held lengths tags marks : List ℕ} (packets bytes : List ℕ)
+    (s : InFields (linkAt true t stand balance residual start held lengths tags marks packets bytes)) where
   abbrev standing : Link
-  standing = linkAt t stand balance residual start held lengths tags marks packets bytes
+  standing = linkAt true t stand balance residual start held lengths tags marks packets bytes
 
   root-some : someWaits (meaning standing) ≡ leb 1 (getD packets 0 0)
-  root-some = root-counts-some (meaning standing) (s .sound .state)
+  root-some =
+      root-counts-some (meaning standing) (s .sound .state)
+      ∙ ap (leb 1) (worked-out-own t packets 0 (omega arith) (root-not-inner t))
 
   -- one does
   pub going-on : (getD packets 0 0 ≡ 0 → ⊥)
       → Going t (stand .size) (stand .active) (stand .place) balance residual start held lengths tags marks
-      (lentTotals packets bytes (stand .charged))
+      (totalsFor true t packets bytes (stand .charged))
   going-on n = record { fields = s; some = root-some ∙ le-leb 1 (getD packets 0 0) (omega (arith, n)) }
 
   -- none does, and nothing changes

@@ -31,7 +31,7 @@ use Rattle.rules.proofs.OnTheWay.{way-starts, way-on}
 use Rattle.rules.proofs.Meanings.{meaning-wide, waits-leaf, opened-means, opened-link-sound}
 use Rattle.state.specs.Account.{zipAccounts}
 use Rattle.opening.specs.Opens.{OpensWith}
-use Rattle.steps.specs.Fields.{lentLink, lentTotals, Searched}
+use Rattle.steps.specs.Fields.{lentLink, Searched}
 use Rattle.state.proofs.Zips.{zip-at}
 use Rattle.active.specs.Known.{Raised, Summed}
 pub use Rattle.active.proofs.Raised.{raised-none, raised-round}

@@ -1,4 +1,5 @@
 -- The fields of a link that are lent: number arrays, accounts as two of them.
+use mathlib.Core.Bool.{Bool}
 use mathlib.Core.List.{List}
 use mathlib.Core.Path.{_≡_}
 use Prim.Native.Nat.{ℕ, _<_}
@@ -12,25 +13,22 @@ use Rattle.state.specs.Account.{balanceOf}
 use Rattle.state.specs.State.{linkOf, roundOf}
 pub use Rattle.state.specs.Queue.{queued}
 use Rattle.sound.specs.Sound.{SoundLink}
+pub use Rattle.totals.specs.WorkedOut.{totalsFor}
 use Rattle.rules.specs.Sending.{Books}
 use Rattle.rules.specs.Steps.{SendsNext}
 use Rattle.steps.specs.declared.Stand.{Stand}
 use Rattle.state.specs.Account.{zipAccounts}
-
--- the totals with these fields
-abbrev pub lentTotals : List ℕ → List ℕ → ℕ → Totals
-lentTotals packets bytes charged = record { packets = packets; bytes = bytes; charged = charged }
 
 -- the link with these fields
 abbrev pub lentLink : Tree → Bytes → ℕ → ℕ → List ℕ → List ℕ → List ℕ → List ℕ → List ℕ → List ℕ → List ℕ → Totals → Link
 lentLink tree size active place balance residual start held lengths tags marks totals =
     linkOf tree lengths tags marks start held totals (roundOf (size .0) active place (zipAccounts balance residual))
 
--- the link with this tree, standing here, with these arrays
-abbrev pub linkAt : Tree → Stand → List ℕ → List ℕ → List ℕ → List ℕ → List ℕ → List ℕ → List ℕ → List ℕ → List ℕ → Link
-linkAt tree stand balance residual start held lengths tags marks packets bytes =
+-- the link with this tree, standing here, with these arrays, of which it is told whether it is sound
+abbrev pub linkAt : Bool → Tree → Stand → List ℕ → List ℕ → List ℕ → List ℕ → List ℕ → List ℕ → List ℕ → List ℕ → List ℕ → Link
+linkAt sound tree stand balance residual start held lengths tags marks packets bytes =
     lentLink tree (stand .size) (stand .active) (stand .place) balance residual start held lengths tags marks
-    (lentTotals packets bytes (stand .charged))
+    (totalsFor sound tree packets bytes (stand .charged))
 
 -- the books with these fields
 abbrev pub booksOf : ℕ → List ℕ → List ℕ → Books

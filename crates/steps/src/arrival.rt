@@ -1,4 +1,4 @@
-// An arrival: its checks in order, and the packet put where it waits and counted on the way up. Named for specs/Arrivals.
+// An arrival: its checks in order, and the packet put where it waits and counted. Named for specs/Arrivals.
 // Every arrival of the library is this one: by value, lent and in a run. Serves demands 1 and 2: numbers 11 to 14, and a refused arrival
 // changes nothing.
 ghost use mathlib.Core.Bool.{true, _||_};
@@ -7,9 +7,8 @@ ghost use lib.Dec.{ltb};
 ghost use Rattle.tree.specs.Rules.{PlanRules};
 ghost use Rattle.shape.specs.Shape.{treeIn};
 ghost use Rattle.state.specs.declared.Link.{Link};
-ghost use Rattle.state.specs.WayUp.{Climbs};
+ghost use Rattle.totals.specs.WorkedOut.{totalsFor, Roomy, Near};
 ghost use Rattle.calls.specs.Arrival.{arrivalAnswer};
-ghost use Rattle.steps.specs.Fields.{lentTotals};
 ghost use Rattle.steps.specs.Arrivals.{JudgesLeaf, ArrivesOn, TakesOn, lentWaiting};
 use calls::Arrival;
 use checks::Verdict;
@@ -17,7 +16,7 @@ use state::Link;
 use state::Packet;
 use state::mark::marked_with;
 use state::queue;
-use state::way_up::recount;
+use totals::count;
 use units::Bytes;
 
 // Is the length out of range, 0 or above the longest? 13 reads bare lengths, and no charge.
@@ -66,14 +65,16 @@ pub fn arrive(
     packets: &mut [u64; 64],
     bytes: &mut [u64; 64],
 ) -> Arrival
-    requires { ⌜ (sound ≡ true → PlanRules (treeIn (now shape)) × Climbs (treeIn (now shape)) (now packets) (now bytes)) ⌝ }
+    requires { ⌜ (sound ≡ true → PlanRules (treeIn (now shape))
+        × Roomy (totalsFor true (treeIn (now shape)) (now packets) (now bytes) charged)) ⌝ }
     ensures { λ r. ⌜ ((l : Link) → l .tree ≡ treeIn (now (shape .entry))
         → (sound ≡ true → TakesOn (lentWaiting l (now (start .entry)) (now (held .entry)) (now (lengths .entry)) (now (tags .entry))
-        (now (marks .entry)) (lentTotals (now (packets .entry)) (now (bytes .entry)) charged)))
+        (now (marks .entry)) (totalsFor sound (treeIn (now (shape .entry))) (now (packets .entry)) (now (bytes .entry)) charged)))
         → ArrivesOn sound (lentWaiting l (now (start .entry)) (now (held .entry)) (now (lengths .entry)) (now (tags .entry))
-        (now (marks .entry)) (lentTotals (now (packets .entry)) (now (bytes .entry)) charged)) class packet
+        (now (marks .entry)) (totalsFor sound (treeIn (now (shape .entry))) (now (packets .entry)) (now (bytes .entry)) charged)) class packet
         r (lentWaiting l (now (start .entry)) (now (held .exit)) (now (lengths .exit)) (now (tags .exit)) (now (marks .exit))
-        (lentTotals (now (packets .exit)) (now (bytes .exit)) charged))) ⌝ }
+        (totalsFor sound (treeIn (now (shape .entry))) (now (packets .exit)) (now (bytes .exit)) charged))) ⌝ }
+    ensures { λ _. ⌜ Near (now (packets .entry)) (now (packets .exit)) × Near (now (bytes .entry)) (now (bytes .exit)) ⌝ }
 {
     if !sound {
         return refused(Verdict::Refused(checks::NOT_SOUND, 0));
@@ -98,7 +99,7 @@ pub fn arrive(
             tags,
             marks,
         );
-        recount(false, class, packet.length, shape, packets, bytes);
+        count(false, class, packet.length, packets, bytes);
         let waiting = Bytes(bytes[class]);
         return Arrival {
             verdict,

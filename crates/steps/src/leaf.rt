@@ -1,5 +1,6 @@
 // The leaf that sends next: found by its balance, it pays for its first packet, which leaves its queue.
 // Serves demand 2.
+ghost use mathlib.Core.Bool.{true};
 ghost use mathlib.Core.Path.{_≡_};
 ghost use Prim.Native.Nat.{ℕ, _<_, _≤_};
 ghost use lib.ListN.{getD};
@@ -11,7 +12,8 @@ ghost use Rattle.state.specs.Queue.{packetAt};
 ghost use Rattle.state.specs.State.{meaning};
 ghost use Rattle.shape.specs.Shape.{treeIn, Families};
 ghost use Rattle.state.specs.Account.{zipAccounts};
-ghost use Rattle.steps.specs.Fields.{lentLink, lentTotals, Searched, GoesNext};
+ghost use Rattle.steps.specs.Fields.{lentLink, totalsFor, Searched, GoesNext};
+ghost use Rattle.totals.specs.WorkedOut.{Near};
 ghost use Rattle.units.specs.declared.Bytes.{Bytes};
 ghost use Rattle.rules.specs.After.{sentLink};
 use crate::inactive::turn_off;
@@ -21,7 +23,7 @@ use state::lent_accounts::account_of;
 use state::lent_accounts::keep_balance;
 use state::mark::grown;
 use state::queue;
-use state::way_up::recount;
+use totals::count;
 use tree::wide;
 use units::Bytes;
 
@@ -91,27 +93,28 @@ pub fn goes(
     bytes: &mut [u64; 64],
 ) -> Gone
     requires { ⌜ ((size : Bytes) × (place : ℕ) × GoesNext (treeIn (now shape)) size place i active (now balance) (now residual) (now start)
-        (now held) (now lengths) (now tags) (now marks) (lentTotals (now packets) (now bytes) charged))
+        (now held) (now lengths) (now tags) (now marks) (totalsFor true (treeIn (now shape)) (now packets) (now bytes) charged))
         × Families (treeIn (now shape)) (now children) ⌝ }
     ensures { λ r. ⌜ ((size : Bytes) (place : ℕ)
         → GoesNext (treeIn (now (shape .entry))) size place i active (now (balance .entry)) (now (residual .entry)) (now (start .entry))
         (now (held .entry)) (now (lengths .entry)) (now (tags .entry)) (now (marks .entry))
-        (lentTotals (now (packets .entry)) (now (bytes .entry)) charged)
+        (totalsFor true (treeIn (now (shape .entry))) (now (packets .entry)) (now (bytes .entry)) charged)
         → (r .packet ≡ packetAt (lentLink (treeIn (now (shape .entry))) size active place (now (balance .entry)) (now (residual .entry))
         (now (start .entry)) (now (held .entry)) (now (lengths .entry)) (now (tags .entry)) (now (marks .entry))
-        (lentTotals (now (packets .entry)) (now (bytes .entry)) charged)) i 0)
+        (totalsFor true (treeIn (now (shape .entry))) (now (packets .entry)) (now (bytes .entry)) charged)) i 0)
         × (lentLink (treeIn (now (shape .entry))) size (r .active) i (now (balance .exit)) (now (residual .exit)) (now (start .exit))
         (now (held .exit)) (now (lengths .entry)) (now (tags .entry)) (now (marks .entry))
-        (lentTotals (now (packets .exit)) (now (bytes .exit)) (r .charged))
+        (totalsFor true (treeIn (now (shape .entry))) (now (packets .exit)) (now (bytes .exit)) (r .charged))
         ≡ sentLink (lentLink (treeIn (now (shape .entry))) size active place (now (balance .entry)) (now (residual .entry))
         (now (start .entry))
         (now (held .entry)) (now (lengths .entry)) (now (tags .entry)) (now (marks .entry))
-        (lentTotals (now (packets .entry)) (now (bytes .entry)) charged)) i)) ⌝ }
+        (totalsFor true (treeIn (now (shape .entry))) (now (packets .entry)) (now (bytes .entry)) charged)) i)) ⌝ }
+    ensures { λ _. ⌜ Near (now (packets .entry)) (now (packets .exit)) × Near (now (bytes .entry)) (now (bytes .exit)) ⌝ }
 {
     let packet = queue::first(i, start, lengths, tags, marks);
     let cost = units::cost(packet.length);
     pay(i, cost, balance, residual);
-    recount(true, i, packet.length, shape, packets, bytes);
+    count(true, i, packet.length, packets, bytes);
     let total = grown(charged, cost.0);
     let waiting = wide(held[i]);
     queue::take(i, start, held);

@@ -4,6 +4,7 @@
 mod arrival;
 mod inactive;
 mod leaf;
+pub mod once;
 mod reopening;
 
 pub use active::refresh;
@@ -12,11 +13,13 @@ pub use arrival::arrive;
 pub use leaf::Gone;
 pub use leaf::goes;
 pub use opening::open_round;
+ghost use mathlib.Core.Bool.{true};
 ghost use mathlib.Core.Path.{_≡_};
 ghost use mathlib.Core.List.{List};
 ghost use Prim.Native.Nat.{ℕ};
 ghost use Rattle.state.specs.declared.Totals.{Totals};
 ghost use Rattle.shape.specs.Shape.{treeIn, Families};
+ghost use Rattle.totals.specs.WorkedOut.{Near};
 ghost use Rattle.steps.specs.Rounds.{InFields, Going, Kept, Finds, Departs, wentBy, nothingGoes};
 ghost use Rattle.steps.specs.Fields.{lentLink, linkAt};
 use leaf::next_leaf;
@@ -152,15 +155,16 @@ pub fn send(
     packets: &mut [u64; 64],
     bytes: &mut [u64; 64],
 ) -> Went
-    requires { ⌜ InFields (linkAt (treeIn (now shape)) stand (now balance) (now residual) (now start) (now held) (now lengths) (now tags)
+    requires { ⌜ InFields (linkAt true (treeIn (now shape)) stand (now balance) (now residual) (now start) (now held) (now lengths) (now tags)
         (now marks) (now packets) (now bytes))
         × Families (treeIn (now shape)) (now children) × Kept (treeIn (now shape)) (stand .known) (now kept) ⌝ }
-    ensures { λ r. ⌜ Departs (linkAt (treeIn (now (shape .entry))) stand (now (balance .entry)) (now (residual .entry)) (now (start .entry))
+    ensures { λ r. ⌜ Departs (linkAt true (treeIn (now (shape .entry))) stand (now (balance .entry)) (now (residual .entry)) (now (start .entry))
         (now (held .entry)) (now (lengths .entry)) (now (tags .entry)) (now (marks .entry)) (now (packets .entry)) (now (bytes .entry)))
-        r (linkAt (treeIn (now (shape .entry))) (r .stand) (now (balance .exit)) (now (residual .exit)) (now (start .exit))
+        r (linkAt true (treeIn (now (shape .entry))) (r .stand) (now (balance .exit)) (now (residual .exit)) (now (start .exit))
         (now (held .exit))
         (now (lengths .entry)) (now (tags .entry)) (now (marks .entry)) (now (packets .exit)) (now (bytes .exit))) ⌝ }
     ensures { λ r. ⌜ Kept (treeIn (now (shape .entry))) (r .stand .known) (now (kept .exit)) ⌝ }
+    ensures { λ _. ⌜ Near (now (packets .entry)) (now (packets .exit)) × Near (now (bytes .entry)) (now (bytes .exit)) ⌝ }
 {
     if packets[0] == 0 {
         return nothing(stand);

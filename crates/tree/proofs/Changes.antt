@@ -88,41 +88,8 @@ module _ (t : Tree) (rules : PlanRules t) where
   unfolding changedUp
   changed-up f j xs i u many = way-up f 63 j xs i (omega arith) u many
 
--- ---- the way up, walked: more steps than there can be change nothing
-
-module _ (t : Tree) (f : ℕ → ℕ) (lower : (k : ℕ) → 1 ≤ k → k < 64 → parentOf t k < k) where
-  way-stable : (n m j : ℕ) (xs : List ℕ) → j ≤ n → j ≤ m → j < 64 → wayUp n t f j xs ≡ wayUp m t f j xs
-  unfolding wayUp
-  way-stable zero zero j xs a b u = refl
-  way-stable zero (suc m) zero xs a b u = refl
-  way-stable zero (suc m) (suc j) xs a b u = absurd (omega arith)
-  way-stable (suc n) zero zero xs a b u = refl
-  way-stable (suc n) zero (suc j) xs a b u = absurd (omega arith)
-  way-stable (suc n) (suc m) zero xs a b u = refl
-  way-stable (suc n) (suc m) (suc j) xs a b u =
-      let low = lower (suc j) (omega arith) u in
-      way-stable n m (parentOf t (suc j)) (set xs (suc j) (f (getD xs (suc j) 0))) (omega (arith, low)) (omega (arith, low))
-      (omega (arith, low, u))
-
-  pub way-starts : (j : ℕ) (xs : List ℕ) → j < 64 → changedUp t f j xs ≡ wayUp j t f j xs
-  unfolding changedUp
-  way-starts j xs u = way-stable 63 j j xs (omega arith) (omega arith) u
-
-  pub way-next : (j : ℕ) (xs : List ℕ) → 1 ≤ j → j < 64
-      → wayUp j t f j xs ≡ wayUp (parentOf t j) t f (parentOf t j) (set xs j (f (getD xs j 0)))
-  unfolding wayUp
-  way-next zero xs l u = absurd (omega arith)
-  way-next (suc j) xs l u =
-      let low = lower (suc j) l u in
-      way-stable j (parentOf t (suc j)) (parentOf t (suc j)) (set xs (suc j) (f (getD xs (suc j) 0))) (omega (arith, low)) (omega arith)
-      (omega (arith, low, u))
-
-  pub way-ends : (j : ℕ) (xs : List ℕ) → j ≡ 0 → wayUp j t f j xs ≡ set xs 0 (f (getD xs 0 0))
-  unfolding wayUp
-  way-ends j xs e = rw e refl
-
 -- the table keeps its length
-pub way-length : (t : Tree) (f : ℕ → ℕ) (n j : ℕ) (xs : List ℕ) → length (wayUp n t f j xs) ≡ length xs
+way-length : (t : Tree) (f : ℕ → ℕ) (n j : ℕ) (xs : List ℕ) → length (wayUp n t f j xs) ≡ length xs
 unfolding wayUp
 way-length t f zero j xs = length-set xs 0 (f (getD xs 0 0))
 way-length t f (suc n) zero xs = length-set xs 0 (f (getD xs 0 0))

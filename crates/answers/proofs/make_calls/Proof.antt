@@ -1,5 +1,5 @@
 -- `answers::make_calls` meets its contract: the link of the arrays is the one after the calls made so far, and their rows are laid.
-use mathlib.Core.Bool.{true, _&&_}
+use mathlib.Core.Bool.{Bool, true, _&&_}
 use mathlib.Core.Path.{_≡_, refl, sym, ap, subst, _∙_}
 use Prim.Native.Nat.{_+_, _≤_}
 use native.Mathlib.Omega.{arith}
@@ -32,15 +32,22 @@ Inv-loop shape children balance₀ residual₀ start₀ held₀ lengths₀ tags�
     residual start held lengths tags marks
     packets bytes out kept run laid =
     let t = treeIn shape in
-    let link = linkAt t (run .stand) balance residual start held lengths tags marks packets bytes in
-    Making (linkAt t (run₀ .stand) balance₀ residual₀ start₀ held₀ lengths₀ tags₀ marks₀ packets₀ bytes₀) input place out₀
+    let link = linkAt (run .sound) t (run .stand) balance residual start held lengths tags marks packets bytes in
+    Making (linkAt (run₀ .sound) t (run₀ .stand) balance₀ residual₀ start₀ held₀ lengths₀ tags₀ marks₀ packets₀ bytes₀) input place out₀
     (nextOf run link) laid out
-    × Told true link × (run .sound ≡ true) × Kept t (run .stand .known) kept
+    × Told (run .sound) link × (run .sound ≡ true) × Kept t (run .stand .known) kept
 
 abbrev μ-loop : tie.MeasureT-loop
 μ-loop shape children balance₀ residual₀ start₀ held₀ lengths₀ tags₀ marks₀ packets₀ bytes₀ input place out₀ kept₀ run₀ laid₀ balance
     residual start held lengths tags marks
     packets bytes out kept run laid = stepsLeft out₀ (run .more) laid
+
+-- told to be sound
+told-as : {b : Bool} {l : Link} → b ≡ true → Told true l → Told b l
+told-as {l = l} e h = subst (λ (x : Bool). Told x l) (sym e) h
+
+told-is : {b : Bool} {l : Link} → b ≡ true → Told b l → Told true l
+told-is {l = l} e h = subst (λ (x : Bool). Told x l) e h
 
 last-reply-requires : tie.Need-last-reply-requires Inv-loop μ-loop
 last-reply-requires c κs = search needs
@@ -75,8 +82,7 @@ room c =
 event-requires : tie.Need-event-requires Inv-loop μ-loop
 event-requires c κs =
     let h = c .before .before .before .before .before .before .before .before .before .before .before .before in
-    let on = h .loop .inv .2 in
-    (rw on (h .loop .inv .1), λ _. (h .before .before .before .before .before .pre .1, h .loop .inv .3))
+    (h .loop .inv .1, λ _. (h .before .before .before .before .before .pre .1, h .loop .inv .3))
 
 lay-call-requires : tie.Need-lay-call-requires Inv-loop μ-loop
 lay-call-requires c κs = room (c .before .before .before .before .before .before .before .before .before .before .before .before)
@@ -106,7 +112,7 @@ loop-again c =
     let heard = heard-sound on (e .event .ensures .0) in (
       making-on _ (now (a .input)) (a .place) (now (a .out)) _ _ _ (h .loop .inv .0) (both-true (h .loop .run .more) _ (taken t) .0)
           (room t) (lay .lay-call .result) _ _ (heard .next) (lay .lay-call .ensures),
-      heard .told,
+      told-as (heard .same) (heard .told),
       heard .same,
       e .event .ensures .1 on,
     )
@@ -121,13 +127,16 @@ returns c =
     let a = o .before .before .before .before .args in
     let v = h .loop in
     let t = treeIn (now (a .shape)) in
-    let link = linkAt t (v .run .stand) (v .balance) (v .residual) (v .start) (v .held) (v .lengths) (v .tags) (v .marks) (v .packets)
-    (v .bytes) in
-    subst (λ (d : Heard). Served (linkAt t (d .stand) (now (a .balance)) (now (a .residual)) (now (a .start)) (now (a .held))
-    (now (a .lengths)) (now (a .tags)) (now (a .marks)) (now (a .packets)) (now (a .bytes))) (now (a .input)) (a .place) (now (a .out))
-    (record { run = v .run; laid = v .laid }) (v .out) link) (o .outcome .ensures)
-    (making-ends _ (now (a .input)) (a .place) (now (a .out)) (nextOf (v .run) link) (v .laid) (v .out) (v .inv .0) _ refl refl refl refl
-    (sym (c .before .takes-one .ensures) ∙ c .if1 .left) (v .inv .1))
+    let link : Bool → Link = λ sound. linkAt sound t (v .run .stand) (v .balance) (v .residual) (v .start) (v .held) (v .lengths) (v .tags)
+    (v .marks) (v .packets) (v .bytes) in
+    let from : Heard → Link = λ d. linkAt (d .sound) t (d .stand) (now (a .balance)) (now (a .residual)) (now (a .start)) (now (a .held))
+    (now (a .lengths)) (now (a .tags)) (now (a .marks)) (now (a .packets)) (now (a .bytes)) in
+    subst (λ (d : Heard). Served (from d) (now (a .input)) (a .place) (now (a .out)) (record { run = v .run; laid = v .laid }) (v .out)
+    (link true)) (o .outcome .ensures)
+    (subst (λ (b : Bool). Served (from (o .outcome .result)) (now (a .input)) (a .place) (now (a .out)) (record { run = v .run; laid = v .laid }) (v .out)
+    (link b)) (v .inv .2)
+    (making-ends _ (now (a .input)) (a .place) (now (a .out)) (nextOf (v .run) (link (v .run .sound))) (v .laid) (v .out) (v .inv .0) _ refl
+    refl refl refl (sym (c .before .takes-one .ensures) ∙ c .if1 .left) (told-is (v .inv .2) (v .inv .1))))
 
 pub make-calls-spec : {M : Type 1} → statement M
 make-calls-spec =

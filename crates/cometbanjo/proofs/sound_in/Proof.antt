@@ -1,4 +1,5 @@
 -- `sound_in` meets its contract.
+use mathlib.Core.Bool.{false}
 use denote.Ref.{now}
 use Rattle.shape.specs.Shape.{treeIn}
 use Rattle.steps.specs.declared.Stand.{Stand}
@@ -19,7 +20,7 @@ returns c =
     let s = c .before .before in
     let a = s .before .args in
     λ tags marks. decided-standing
-    (λ (x : Stand). linkAt (treeIn (now (a .shape))) x (now (a .balance)) (now (a .residual)) (now (a .start)) (now (a .held))
+    (λ (x : Stand). linkAt false (treeIn (now (a .shape))) x (now (a .balance)) (now (a .residual)) (now (a .start)) (now (a .held))
     (now (a .lengths)) tags marks (now (a .packets)) (now (a .bytes)))
     (s .stand-in .ensures) (c .is-sound-at .ensures .0 tags marks (s .stand-in .result .charged))
 

@@ -7,13 +7,13 @@ use Rattle.state.proofs.Totals.Laws as N′
 use Rattle.state.specs.declared.Link.{Link}
 use Rattle.tree.specs.declared.Tree.{Tree}
 use Rattle.tree.specs.Rules.{PlanRules}
-use Rattle.state.specs.WayUp.{Climbs}
+use Rattle.totals.specs.WorkedOut.{InTotal}
+use Rattle.totals.proofs.Sounds.{sound-total}
 use Rattle.state.specs.State.{linkOf}
 use Rattle.state.proofs.Shapes.{accounts-shaped}
 use Rattle.checks.specs.Check.{Exactly}
 use Rattle.sound.specs.Sound.{SoundLink}
 use Rattle.sound.proofs.Lent.{lent-exactly}
-use Rattle.rules.proofs.Counted.{sound-climbs}
 use borrow.Author.Needs.{needs}
 use Rattle.fields.proofs.arrive_in.Statement.{statement}
 use Rattle.fields.proofs.arrive_in.Tie as tie
@@ -23,6 +23,11 @@ counts : (st : tie.Start) → length (st .args .totals .bytes) ≡ 64
 counts st =
     let n = LL.owed N.the-type N′.the-laws (st .args .totals) _ (st .good .1 .1 .1 .0) in
     sym (length-map (st .args .totals .bytes) _) ∙ n .1 .0 .1 .0 .1
+
+packets-wide : (st : tie.Start) → length (st .args .totals .packets) ≡ 64
+packets-wide st =
+    let n = LL.owed N.the-type N′.the-laws (st .args .totals) _ (st .good .1 .1 .1 .0) in
+    sym (length-map (st .args .totals .packets) _) ∙ n .0 .1 .0 .1
 
 -- there are as many accounts as class numbers
 many : (st : tie.Start) → length (st .args .round .accounts) ≡ 64
@@ -66,17 +71,20 @@ decided s =
 
 arrive-requires : tie.Need-arrive-requires
 arrive-requires c κs =
-    let s = c .before .before .before .before .before .before .before .before in
+    let s = c .before .before .before .before .before .before .before .before .before in
     let l = whole (start-of s) in
     λ on.
     let sound = decided s .sound on in
-    subst (λ (t : Tree). PlanRules t × Climbs t (l .totals .packets) (l .totals .bytes))
-    (sym (apart s .before .before .before .before .shape-of .ensures))
-    (sound .state .fits .tree, sound-climbs l sound)
+    let same = sym (apart s .before .before .before .before .shape-of .ensures) in (
+      subst PlanRules same (sound .state .fits .tree),
+      s .is-sound-at .ensures .1 on,
+      subst (λ (t : Tree). InTotal t (l .totals .packets) (l .totals .bytes)) same
+          (sound-total l sound (packets-wide (start-of s)) (counts (start-of s))),
+    )
 
 returns : tie.Need-returns
 returns c =
-    let s = c .before .before .before .before .before .before .before .before .before in
+    let s = c .before .before .before .before .before .before .before .before .before .before in
     record {
       sound = s .is-sound-at .result;
       exactly = decided s;

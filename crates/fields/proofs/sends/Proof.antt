@@ -16,7 +16,7 @@ zipped-requires : tie.Need-zipped-requires
 zipped-requires c κs =
     let w = c .before .before in
     let fields = w .before .before .before .before .before .before .before .before .pre .0 in
-    departs-wide _ (fields .wide) (fields .sound) (w .send .ensures .0)
+    departs-wide _ (fields .wide) (fields .sound) (w .send .ensures)
 
 answered-requires : tie.Need-answered-requires
 answered-requires c κs = search needs
@@ -25,7 +25,7 @@ returns : tie.Need-returns
 returns c =
     let w = c .before .before .before .before .before .before .before .before in
     rw (c .answered .ensures)
-    (departs-answers _ (w .send .result) _ refl (rw (c .before .before .before .before .before .zipped .ensures) (w .send .ensures .0)))
+    (departs-answers _ (w .send .result) _ refl (rw (c .before .before .before .before .before .zipped .ensures) (w .send .ensures)))
 
 pub sends-spec : {M : Type 1} → statement M
 sends-spec = tie.close (tie.spec send-requires zipped-requires answered-requires returns)

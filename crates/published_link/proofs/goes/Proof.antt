@@ -1,6 +1,7 @@
 -- `goes` meets its contract: a link is made up of its fields.
+use mathlib.Core.Bool.{true}
 use mathlib.Core.List.{List}
-use mathlib.Core.Path.{_≡_, refl, sym, ap₂, subst}
+use mathlib.Core.Path.{_≡_, refl, sym, ap, ap₂, subst, _∙_}
 use Prim.Native.Nat.{ℕ}
 use Rattle.units.specs.declared.Bytes.{Bytes}
 use Rattle.tree.specs.declared.Tree.{Tree}
@@ -10,6 +11,8 @@ use Rattle.state.specs.declared.Account.{Account}
 use Rattle.state.specs.declared.Link.{Link}
 use Rattle.state.specs.declared.Totals.{Totals}
 use Rattle.state.specs.State.{linkOf, roundOf}
+use Rattle.totals.specs.WorkedOut.{totalsFor, InTotal}
+use Rattle.totals.proofs.Sounds.{sound-total, total-is, light-near}
 use Rattle.steps.specs.Fields.{lentLink}
 use Rattle.steps.proofs.Rounding.{none-kept}
 use Rattle.steps.proofs.Wholes.{apart-is}
@@ -53,15 +56,32 @@ residuals-requires c κs = search needs
 abbrev lent : tie.After-residuals → tie.After-shape-of
 lent z = z .before .before .before .before .before .before
 
+-- its totals are worked out
+all : (z : tie.After-residuals)
+    → let l = first (lent z) .args .second .link in InTotal (treeIn (lent z .shape-of .result)) (l .totals .packets) (l .totals .bytes)
+all z =
+    let st = first (lent z) in
+    let l = st .args .second .link in
+    let shape = st .pre .shape .link in
+    subst (λ (t : Tree). InTotal t (l .totals .packets) (l .totals .bytes)) (sym (same (lent z)))
+    (sound-total l (record { state = st .pre .sound .state .state; starts = st .pre .sound .starts }) (shape .packets) (shape .bytes))
+
 -- the link in its fields is the link
 apart : (z : tie.After-residuals)
     → let l = first (lent z) .args .second .link in
-    lentLink (treeIn (lent z .shape-of .result)) (l .round .size) (l .round .active) (l .round .place)
-    (z .before .balances .result) (z .residuals .result) (l .start) (l .held) (l .lengths) (l .tags) (l .marks) (l .totals)
+    let t = treeIn (lent z .shape-of .result) in
+    lentLink t (l .round .size) (l .round .active) (l .round .place)
+    (z .before .balances .result) (z .residuals .result) (l .start) (l .held) (l .lengths) (l .tags) (l .marks)
+    (totalsFor true t (l .totals .packets) (l .totals .bytes) (l .totals .charged))
     ≡ l
 apart z =
     let st = first (lent z) in
-    apart-is (st .args .second .link) _ _ _ (same (lent z)) (st .pre .shape .link) (z .before .balances .ensures) (z .residuals .ensures)
+    let l = st .args .second .link in
+    let t = treeIn (lent z .shape-of .result) in
+    ap (λ (x : Totals). lentLink t (l .round .size) (l .round .active) (l .round .place)
+    (z .before .balances .result) (z .residuals .result) (l .start) (l .held) (l .lengths) (l .tags) (l .marks) x)
+    (sym (total-is true t (l .totals .packets) (l .totals .bytes) (l .totals .charged) (λ _. all z)))
+    ∙ apart-is l _ _ _ (same (lent z)) (st .pre .shape .link) (z .before .balances .ensures) (z .residuals .ensures)
 
 send-requires : tie.Need-send-requires
 send-requires c κs =
@@ -83,16 +103,33 @@ zipped-requires c κs =
     let st = first (lent (taken g)) in
     wide-after (st .args .second) (st .pre) _ (apart (taken g)) (g .send .result) _ _ (g .send .ensures .0)
 
+work-out-requires : tie.Need-work-out-requires
+work-out-requires c κs =
+    let g = c .before .before .before .before .before .before .before in
+    let z = taken g in
+    let l = first (lent z) .args .second .link in
+    let t = treeIn (lent z .shape-of .result) in
+    let near = g .send .ensures .1 .1 in
+    let law = rules (lent z) in
+    λ on. (
+      law,
+      z .before .before .before .before .families .ensures,
+      light-near t law (l .totals .packets) (all z .room .packets) (near .0),
+      light-near t law (l .totals .bytes) (all z .room .bytes) (near .1),
+    )
+
 departure-requires : tie.Need-departure-requires
 departure-requires c κs = search needs
 
 returns : tie.Need-returns
 returns c =
-    let k = c .before .before .before in
+    let e = c .before .before .before in
+    let k = e .before .before .before .before .before in
     let g = k .before .before .before in
     let st = first (lent (taken g)) in
-    sent-whole (st .args .second) (st .pre) _ (apart (taken g)) (g .send .result) _ _ (g .send .ensures .0) (c .departure .result) _
-    (c .departure .ensures) (put-together (st .args .second .link) (same (lent (taken g))) (k .zipped .ensures)) refl
+    rw (e .work-out .ensures .0, e .work-out .ensures .1)
+    (sent-whole (st .args .second) (st .pre) _ (apart (taken g)) (g .send .result) _ _ (g .send .ensures .0) (c .departure .result) _
+    (c .departure .ensures) (put-together (st .args .second .link) (same (lent (taken g))) (k .zipped .ensures)) refl)
 
 pub goes-spec : {M : Type 1} → statement M
 goes-spec =
@@ -104,5 +141,6 @@ goes-spec =
     residuals-requires
     send-requires
     zipped-requires
+    work-out-requires
     departure-requires
     returns)

@@ -33,12 +33,12 @@ returns c =
     let st = c .before .before .before .before .before .before .before .before .before .before .before .before .before .before .before in
     let a = n .next-sender .ensures .0 _ _ _ _ (st .pre .0) in
     let e =
-    g .goes .ensures (n .next-sender .result .size) (visited (a .x) .after .state .round .place)
+    g .goes .ensures .0 (n .next-sender .result .size) (visited (a .x) .after .state .round .place)
     (record { wide = wide-turn _ (st .pre .0) _ _ _ _ _ a; next = sends-next _ (st .pre .0) _ _ _ _ _ a })
     in
     rw (c .has-gone .ensures) (
       sends-wholly _ (st .pre .0) _ _ _ _ _ a (g .goes .result) _ (e .0) (e .1),
-      n .next-sender .ensures .1,
+      (n .next-sender .ensures .1, g .goes .ensures .1),
     )
 
 pub send-spec : {M : Type 1} → statement M

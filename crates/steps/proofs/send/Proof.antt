@@ -1,6 +1,7 @@
 -- `steps::send` meets its contract.
 use mathlib.Core.Path.{sym}
 use Rattle.steps.proofs.Departures.{then-goes, then-departs, going-on, nothing-departs}
+use Rattle.totals.proofs.Sounds.{near-same}
 use borrow.Author.Needs.{needs}
 use Rattle.steps.proofs.send.Statement.{statement}
 use Rattle.steps.proofs.send.Tie as tie
@@ -15,13 +16,13 @@ returns : tie.Need-returns
 returns c =
     let i = c .before in
     let st = c .before .before .before in
-    rw (c .nothing .ensures) (nothing-departs (st .args .stand) _ _ (st .pre .0) (i .if1 .taken), st .pre .2)
+    rw (c .nothing .ensures) (nothing-departs (st .args .stand) _ _ (st .args .packets .now) (st .args .bytes .now) (st .pre .0) (i .if1 .taken), (st .pre .2, (near-same (st .args .packets .now), near-same (st .args .bytes .now))))
 
 next-sender-requires : tie.Need-next-sender-requires
 next-sender-requires c κs =
     let i = c .before .before .before .before .before in
     let st = c .before .before .before .before .before .before .before in
-    ((_, _, _, going-on (st .args .stand) _ _ (st .pre .0) (i .if1 .left)), st .pre .2)
+    ((_, _, _, going-on (st .args .stand) _ _ (st .args .packets .now) (st .args .bytes .now) (st .pre .0) (i .if1 .left)), st .pre .2)
 
 goes-requires : tie.Need-goes-requires
 goes-requires c κs =
@@ -32,7 +33,7 @@ goes-requires c κs =
         _,
         _,
         then-goes _ _ (n .next-sender .result) _ _
-            (n .next-sender .ensures .0 _ _ _ (going-on (st .args .stand) _ _ (st .pre .0) (i .if1 .left))),
+            (n .next-sender .ensures .0 _ _ _ (going-on (st .args .stand) _ _ (st .args .packets .now) (st .args .bytes .now) (st .pre .0) (i .if1 .left))),
       ),
       st .pre .1,
     )
@@ -47,12 +48,12 @@ returns-2 c =
     let i = c .before .before .before .before .before .before .before .before .before .before .before .before .before .before in
     let st = c .before .before .before .before .before .before .before .before .before .before .before .before .before .before .before
     .before in
-    let going = going-on (st .args .stand) _ _ (st .pre .0) (i .if1 .left) in
+    let going = going-on (st .args .stand) _ _ (st .args .packets .now) (st .args .bytes .now) (st .pre .0) (i .if1 .left) in
     let found = n .next-sender .ensures .0 _ _ _ going in
-    let gone = g .goes .ensures _ _ (then-goes _ _ (n .next-sender .result) _ _ found) in
+    let gone = g .goes .ensures .0 _ _ (then-goes _ _ (n .next-sender .result) _ _ found) in
     rw (c .has-gone .ensures) (
       then-departs _ _ (n .next-sender .result) _ _ found (g .goes .result) _ (gone .0) (gone .1) (sym (going .some)),
-      n .next-sender .ensures .1,
+      (n .next-sender .ensures .1, g .goes .ensures .1),
     )
 
 pub send-spec : {M : Type 1} → statement M

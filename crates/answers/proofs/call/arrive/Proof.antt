@@ -1,6 +1,6 @@
 -- `call::arrive` meets its contract.
 use mathlib.Core.Path.{_≡_, refl, subst}
-use mathlib.Core.Bool.{true}
+use mathlib.Core.Bool.{true, false}
 use denote.Ref.{now}
 use Rattle.checks.specs.Check.{Exactly}
 use Rattle.shape.specs.Shape.{treeIn}
@@ -9,7 +9,7 @@ use Rattle.state.specs.Queue.{Shaped}
 use Rattle.sound.specs.Sound.{SoundLink}
 use Rattle.steps.specs.declared.Stand.{Stand}
 use Rattle.steps.specs.Fields.{linkAt}
-use Rattle.rules.proofs.Counted.{sound-climbs}
+use Rattle.totals.proofs.Sounds.{sound-total}
 use Rattle.calls.specs.Arrival.{Arrives, arrivalLeaves}
 use Rattle.calls.proofs.Arrivals.{arrives-by}
 use Rattle.answers.proofs.Events.{arrives-standing}
@@ -24,7 +24,7 @@ start-of k = k .before .before .before .before .before .before .before .before .
 abbrev standing : tie.After-is-sound-at → Stand → Link
 standing k s =
     let a = start-of k .args in
-    linkAt (treeIn (now (a .shape))) s (now (a .balance)) (now (a .residual)) (now (a .start)) (now (a .held)) (now (a .lengths))
+    linkAt false (treeIn (now (a .shape))) s (now (a .balance)) (now (a .residual)) (now (a .start)) (now (a .held)) (now (a .lengths))
     (now (a .tags)) (now (a .marks)) (now (a .packets)) (now (a .bytes))
 
 -- where it stands, as it was read
@@ -49,12 +49,15 @@ is-sound-at-requires c κs = search needs
 
 arrive-requires : tie.Need-arrive-requires
 arrive-requires c κs =
-    let k = c .before .before .before .before .before .before in
-    λ on. let sound = decided k .sound on in (sound .state .fits .tree, sound-climbs (standing k (from k)) sound)
+    let k = c .before .before .before .before .before .before .before in
+    λ on.
+    let sound = decided k .sound on in
+    let shape = known-so k in
+    (sound .state .fits .tree, k .is-sound-at .ensures .1 on, sound-total (standing k (from k)) sound (shape .packets) (shape .bytes))
 
 returns : tie.Need-returns
 returns c =
-    let k = c .before .before .before .before .before .before .before in
+    let k = c .before .before .before .before .before .before .before .before in
     let a = start-of k .args in
     arrives-standing (standing k) (treeIn (now (a .shape))) (now (a .balance)) (now (a .residual)) (now (a .start)) (a .class) (a .packet)
     (k .before .before .before .before .before .before .before .before .before .before .before .before .before .stand-in .ensures)

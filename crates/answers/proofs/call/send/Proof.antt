@@ -30,7 +30,7 @@ start-of k = read k .before .before
 abbrev standing : tie.After-is-sound-at → Stand → Link
 standing k s =
     let a = start-of k .args in
-    linkAt (treeIn (now (a .shape))) s (now (a .balance)) (now (a .residual)) (now (a .start)) (now (a .held)) (now (a .lengths))
+    linkAt false (treeIn (now (a .shape))) s (now (a .balance)) (now (a .residual)) (now (a .start)) (now (a .held)) (now (a .lengths))
     (now (a .tags)) (now (a .marks)) (now (a .packets)) (now (a .bytes))
 
 -- where it stands, as it was read
@@ -91,7 +91,7 @@ returns-2 c =
     let w = c .before .before .before .send in
     rw (c .before .four-of .ensures)
     (sends-standing (standing k) (w .result) _ (c .answered .result) (read k .stand-in .ensures) (known-so k) (decided k .sound on)
-    (c .answered .ensures) refl (w .ensures .0))
+    (c .answered .ensures) refl (w .ensures))
 
 pub send-spec : {M : Type 1} → statement M
 send-spec =

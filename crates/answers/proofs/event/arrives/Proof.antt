@@ -12,7 +12,7 @@ returns : tie.Need-returns
 returns c =
     let a = c .before .before .before .before .before .before .before .args in
     λ l same takes. arrives-in-place (a .sound) _ (arrivedWith (a .class) (a .len) (a .tag)) (c .arrive .result) _
-    (c .arrive .ensures l same takes)
+    (c .arrive .ensures .0 l same takes)
 
 pub arrives-spec : {M : Type 1} → statement M
 arrives-spec = tie.close (tie.spec arrive-requires returns)

@@ -6,7 +6,7 @@ use lib.ListN.{drop}
 use Rattle.state.specs.declared.Link.{Link}
 use Rattle.shape.specs.Shape.{treeIn}
 use Rattle.steps.specs.Fields.{linkAt}
-use Rattle.rules.proofs.Counted.{sound-climbs}
+use Rattle.totals.proofs.Sounds.{sound-roomy}
 use Rattle.plan.specs.declared.EventRead.{EventRead}
 use Rattle.plan.specs.declared.EventRead.the-variants.{NoMore, Fault}
 use Rattle.plan.specs.Event.{usedOf, eventAt}
@@ -19,7 +19,7 @@ use Rattle.answers.proofs.event.event.Tie as tie
 abbrev whole : tie.Start → Link
 whole st =
     let a = st .args in
-    linkAt (treeIn (now (a .shape))) (a .run .stand) (now (a .balance)) (now (a .residual)) (now (a .start)) (now (a .held))
+    linkAt (a .run .sound) (treeIn (now (a .shape))) (a .run .stand) (now (a .balance)) (now (a .residual)) (now (a .start)) (now (a .held))
     (now (a .lengths)) (now (a .tags)) (now (a .marks)) (now (a .packets)) (now (a .bytes))
 
 -- the event that was read stands at the place
@@ -55,7 +55,7 @@ enum-known-read c = search needs
 arrives-requires : tie.Need-arrives-requires
 arrives-requires c κs =
     let st = c .before .before .before .before .before .before .before .before .before .before .before .before .before .before in
-    λ on. let sound = st .pre .0 .exactly .sound on in (sound .state .fits .tree, sound-climbs (whole st) sound)
+    λ on. let sound = st .pre .0 .exactly .sound on in (sound .state .fits .tree, rw on at (sound-roomy (whole st) sound))
 
 outcome-requires-2 : tie.Need-outcome-requires-2
 outcome-requires-2 c κs = search needs

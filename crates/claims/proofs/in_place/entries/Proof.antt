@@ -13,11 +13,14 @@ use Rattle.tree.specs.Rules.{PlanRules}
 use Rattle.shape.specs.Shape.{treeIn}
 use Rattle.plan.specs.Entry.{entryAt}
 use Rattle.state.specs.declared.Link.{Link}
+use Rattle.state.specs.declared.Totals.{Totals}
 use Rattle.state.specs.Queue.{Shaped}
 use Rattle.state.proofs.Shapes.{shaped}
 use Rattle.sound.specs.Sound.{SoundLink}
 use Rattle.steps.specs.declared.Stand.{Stand}
-use Rattle.steps.specs.Fields.{linkAt}
+use Rattle.totals.specs.WorkedOut.{totalsFor, InTotal}
+use Rattle.totals.proofs.Sounds.{sound-roomy, sound-total, total-is, light-here}
+use Rattle.steps.specs.Fields.{lentLink, linkAt}
 use Rattle.steps.specs.Rounds.{Kept}
 use Rattle.steps.proofs.Rounding.{none-kept}
 use Rattle.steps.proofs.Wholes.{apart-is}
@@ -34,9 +37,9 @@ abbrev Inv-loop : tie.InvT-loop
 Inv-loop part place claims last tree shape children kept₀ balance₀ residual₀ start₀ held₀ lengths₀ tags₀ marks₀ packets₀ bytes₀ s₀
     kept balance residual start held lengths tags marks packets bytes s =
     let t = treeIn shape in
-    let link = linkAt t (s .stand) balance residual start held lengths tags marks packets bytes in
+    let link = linkAt true t (s .stand) balance residual start held lengths tags marks packets bytes in
     Loop last place claims part
-    (checkedBy s₀ (linkAt t (s₀ .stand) balance₀ residual₀ start₀ held₀ lengths₀ tags₀ marks₀ packets₀ bytes₀))
+    (checkedBy s₀ (linkAt true t (s₀ .stand) balance₀ residual₀ start₀ held₀ lengths₀ tags₀ marks₀ packets₀ bytes₀))
     (checkedBy s link)
     × Shaped link × Kept t (s .stand .known) kept
 
@@ -62,20 +65,44 @@ lawful : (s : tie.After-shape-of Inv-loop μ-loop) → PlanRules (treeIn (s .sha
 lawful s = subst PlanRules (sym (s .shape-of .ensures)) (s .before .before .before .pre .0 .state .fits .tree)
 
 -- with the numbers that the check began with its fields are the link
+abbrev apartAs : tie.After-goes-on Inv-loop μ-loop → Totals → Stand → Link
+apartAs o totals stand =
+    let l = first o .args .link in
+    lentLink (treeAt o) (stand .size) (stand .active) (stand .place) (o .before .before .before .before .before .before .before .before .before .before .before .balances .result)
+    (o .before .before .before .before .before .before .before .before .before .before .residuals .result)
+    (l .start) (l .held) (l .lengths) (l .tags) (l .marks) totals
+
 abbrev apartAt : tie.After-goes-on Inv-loop μ-loop → Stand → Link
 apartAt o stand =
     let l = first o .args .link in
-    linkAt (treeAt o) stand (o .before .before .before .before .before .before .before .before .before .before .before .balances .result)
-    (o .before .before .before .before .before .before .before .before .before .before .residuals .result)
-    (l .start) (l .held) (l .lengths) (l .tags) (l .marks) (l .totals .packets) (l .totals .bytes)
+    apartAs o (totalsFor true (treeAt o) (l .totals .packets) (l .totals .bytes) (stand .charged)) stand
+
+-- its totals are worked out
+out : (o : tie.After-goes-on Inv-loop μ-loop) → let l = first o .args .link in
+    totalsFor true (treeAt o) (l .totals .packets) (l .totals .bytes) (l .totals .charged) ≡ l .totals
+out o =
+    let st = first o in
+    let l = st .args .link in
+    let long = shaped l _ (st .good .0) in
+    let same = sym (o .before .before .before .before .before .before .before .before .before .before .before .before .before .before
+    .before .shape-of .ensures) in
+    sym (total-is true (treeAt o) (l .totals .packets) (l .totals .bytes) (l .totals .charged) (λ _.
+    subst (λ (t : Tree). InTotal t (l .totals .packets) (l .totals .bytes)) same
+    (sound-total l (st .pre .0) (long .packets) (long .bytes))))
 
 abbrev apart : tie.After-goes-on Inv-loop μ-loop → Did → Link
 apart o d = apartAt o (d .stand)
+
+abbrev standAt : tie.After-goes-on Inv-loop μ-loop → Stand
+standAt o =
+    let l = first o .args .link in
+    record { known = 0; size = l .round .size; active = l .round .active; place = l .round .place; charged = l .totals .charged }
 
 whole : (o : tie.After-goes-on Inv-loop μ-loop) → apart o (o .goes-on .result) ≡ first o .args .link
 whole o =
     let st = first o in
     ap (apart o) (o .goes-on .ensures)
+    ∙ ap (λ (x : Totals). apartAs o x (standAt o)) (out o)
     ∙ apart-is (st .args .link) (treeAt o) _ _ (o .before .before .before .before .before .before .before .before .before .before .before
     .before .before .before .before .shape-of .ensures)
     (shaped (st .args .link) _ (st .good .0)) (o .before .before .before .before .before .before .before .before .before .before .before
@@ -91,10 +118,17 @@ starts c = ap₂ checkedBy (c .goes-on .ensures) (whole c)
 abbrev begun : tie.At-loop Inv-loop μ-loop → tie.Start Inv-loop μ-loop
 begun h = first (h .before)
 
+abbrev linkAs : tie.At-loop Inv-loop μ-loop → Tree → Tree → Link
+linkAs h t u =
+    let v = h .loop in
+    let s = v .s .stand in
+    lentLink t (s .size) (s .active) (s .place) (v .balance) (v .residual) (v .start) (v .held) (v .lengths) (v .tags) (v .marks)
+    (totalsFor true u (v .packets) (v .bytes) (s .charged))
+
 abbrev linkNow : tie.At-loop Inv-loop μ-loop → Tree → Link
 linkNow h t =
     let v = h .loop in
-    linkAt t (v .s .stand) (v .balance) (v .residual) (v .start) (v .held) (v .lengths) (v .tags) (v .marks) (v .packets) (v .bytes)
+    linkAt true t (v .s .stand) (v .balance) (v .residual) (v .start) (v .held) (v .lengths) (v .tags) (v .marks) (v .packets) (v .bytes)
 
 abbrev sofar : tie.At-loop Inv-loop μ-loop → Checked
 sofar h = checkedBy (h .loop .s) (linkNow h (treeAt (h .before)))
@@ -215,16 +249,35 @@ loop-again c =
 zipped-requires : tie.Need-zipped-requires Inv-loop μ-loop
 zipped-requires c κs = c .before .before .before .before .before .loop .inv .1 .accounts
 
+work-out-requires : tie.Need-work-out-requires Inv-loop μ-loop
+work-out-requires c κs =
+    let h = c .before .before .before .before .before .before .before .before .before .before in
+    let o = h .before in
+    let v = h .loop in
+    let t = treeAt o in
+    let rules = lawful (o .before .before .before .before .before .before .before .before .before .before .before .before .before .before
+    .before) in
+    let room = sound-roomy (linkNow h t) (v .inv .0 .sound) in
+    λ on. (
+      rules,
+      o .before .before .before .before .before .before .before .before .before .before .before .before .before .families .ensures,
+      light-here t rules (v .packets) (room .packets),
+      light-here t rules (v .bytes) (room .bytes),
+    )
+
 returns : tie.Need-returns Inv-loop μ-loop
 returns c =
-    let x = c .before .before .before .before .before in
-    let h = c .before .before .before .before .before .before .before .before in
+    let e = c .before .before in
+    let z = e .before .before .before .before .before in
+    let x = z .before .before .before in
+    let h = x .before .before .before in
+    let o = h .before in
     let a = begun h .args in
     let Done : Link → Type 0 = λ after. PartDone (a .last) (a .link) (a .place) (a .claims) (now (a .part))
     (checkedBy (h .loop .s) after) in
-    rw (c .before .before .zipped .ensures)
-    (subst (λ (t : Tree). Done (linkNow h t)) (c .before .before .before .before .before .before .before .before .before .before .before
-    .before .before .before .before .before .before .before .before .before .before .before .before .before .shape-of .ensures)
+    rw (z .zipped .ensures, e .work-out .ensures .0, e .work-out .ensures .1)
+    (subst (λ (t : Tree). Done (linkAs h t (treeAt o))) (o .before .before .before .before .before .before .before .before .before .before .before
+    .before .before .before .before .shape-of .ensures)
     (loop-ends (a .last) (a .link) (a .place) (a .claims) (now (a .part)) _ (sofar h) (starts (h .before)) (h .loop .inv .0)
     (sym (test-same (a .last) (a .place) (now (a .part)) (sofar h)) ∙ sym (x .before .takes-one .ensures) ∙ x .if1 .left)))
 
@@ -251,4 +304,5 @@ entries-spec =
     loop-less
     loop-again
     zipped-requires
+    work-out-requires
     returns)

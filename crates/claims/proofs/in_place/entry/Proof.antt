@@ -1,11 +1,12 @@
 -- `in_place::entry` meets its contract.
+use mathlib.Core.Bool.{true}
 use mathlib.Core.Path.{refl, sym, _∙_}
 use native.Mathlib.Omega.{arith}
 use denote.Ref.{now}
 use Rattle.plan.specs.declared.EntryRead.the-variants.{Ended, Arrives, Claims, Stops}
 use Rattle.plan.proofs.EntryLaws.{within-by}
 use Rattle.state.specs.declared.Link.{Link}
-use Rattle.rules.proofs.Counted.{sound-climbs}
+use Rattle.totals.proofs.Sounds.{sound-roomy}
 use Rattle.shape.specs.Shape.{treeIn}
 use Rattle.steps.specs.Fields.{linkAt}
 use borrow.Author.Needs.{needs}
@@ -17,7 +18,7 @@ use Rattle.claims.proofs.in_place.entry.Tie as tie
 abbrev whole : tie.Start → Link
 whole st =
     let a = st .args in
-    linkAt (treeIn (now (a .shape))) (a .did .stand) (now (a .balance)) (now (a .residual)) (now (a .start)) (now (a .held))
+    linkAt true (treeIn (now (a .shape))) (a .did .stand) (now (a .balance)) (now (a .residual)) (now (a .start)) (now (a .held))
     (now (a .lengths)) (now (a .tags)) (now (a .marks)) (now (a .packets)) (now (a .bytes))
 
 read-entry-requires : tie.Need-read-entry-requires
@@ -39,7 +40,7 @@ arrive-requires : tie.Need-arrive-requires
 arrive-requires c κs =
     let st = c .before .before .before .before .before .before .before .before .before .before .before .before .before .before in
     let sound = st .pre .0 .sound in
-    λ on. (sound .state .fits .tree, sound-climbs (whole st) sound)
+    λ on. (sound .state .fits .tree, sound-roomy (whole st) sound)
 
 add-goes-on : tie.Need-add-goes-on
 add-goes-on c =
@@ -117,7 +118,7 @@ returns-2 c =
       arrival-in-place (whole st) (d .place) (d .claims) (now (st .args .rest)) (on .sound) (on .shape) (v .read .given .0 .0)
           (k .arrive .result) _ _ (d .stand) (sym (g .read-entry .ensures) ∙ v .read .given .1) (c .before .before .before .before .before
           .before .before .before .before .wide .ensures)
-          (k .arrive .ensures (whole st) refl (λ is. record { sound = on .sound; wide = on .shape .bytes })),
+          (k .arrive .ensures .0 (whole st) refl (λ is. record { sound = on .sound; wide = on .shape .bytes })),
       st .pre .4,
     )
 
@@ -133,7 +134,7 @@ returns-3 c =
     rw (c .compared .ensures) (
       claim-in-place (whole st) (d .place) (d .claims) (now (st .args .rest)) (on .sound) (on .shape) (v .read2 .given .0 .0)
           (w .send .result) _ (sym (g .read-entry .ensures) ∙ v .read2 .given .1) (w .send .ensures .0),
-      w .send .ensures .1,
+      w .send .ensures .1 .0,
     )
 
 returns-4 : tie.Need-returns-4

@@ -1,8 +1,10 @@
 -- `leaf::goes` meets its contract.
+use mathlib.Core.Bool.{true}
+use mathlib.Core.Path.{refl}
 use native.Mathlib.Omega.{arith}
 use Rattle.shape.specs.Shape.{treeIn}
-use Rattle.steps.specs.Fields.{lentLink, lentTotals}
-use Rattle.steps.proofs.Goings.{goes-first, goes-takes, goes-pays, goes-climbs, goes-off, goes-more, goes-last}
+use Rattle.steps.specs.Fields.{lentLink, totalsFor}
+use Rattle.steps.proofs.Goings.{goes-first, goes-takes, goes-pays, goes-counts, goes-off, goes-more, goes-last, goes-rules, goes-leaf}
 use borrow.Author.Needs.{needs}
 use Rattle.steps.proofs.leaf.goes.Statement.{statement}
 use Rattle.steps.proofs.leaf.goes.Tie as tie
@@ -20,11 +22,13 @@ pay-requires c κs =
     let st = f .before .before in
     goes-pays (st .pre .0 .2) (f .first .ensures) (k .cost .ensures)
 
-recount-requires : tie.Need-recount-requires
-recount-requires c κs =
+count-requires : tie.Need-count-requires
+count-requires c κs =
     let f = c .before .before .before .before .before .before in
     let st = f .before .before in
-    goes-climbs (st .pre .0 .2) (f .first .ensures) (c .before .before .before .before .before .cost .ensures)
+    let a = st .args in
+    goes-counts (st .pre .0 .2) (f .first .ensures) (c .before .before .before .before .before .cost .ensures) (a .packets .now) (a .bytes .now)
+    (a .charged) refl
 
 grown-requires : tie.Need-grown-requires
 grown-requires c κs = search needs
@@ -50,14 +54,16 @@ returns c =
     let y = n .before .before .before in
     let k = y .before .before .before in
     let f = k .before in
-    let a = f .before .before .args in
-    λ size place s. (
-      f .first .ensures (lentLink (treeIn (a .shape .now)) size (a .active) place (a .balance .now) (a .residual .now) (a .start .now) (a
-          .held .now)
-          (a .lengths .now) (a .tags .now) (a .marks .now) (lentTotals (a .packets .now) (a .bytes .now) (a .charged))) (a .held .now),
-      goes-more s (f .first .ensures) (k .cost .ensures) _ _ (y .pay .ensures) (λ l. m .take .ensures l (a .lengths .now) (a .tags .now)
-          (a .marks .now))
-          (n .recount .ensures) (d .grown .ensures) (omega (arith, w .wide .ensures, c .if1 .taken)),
+    let a = f .before .before .args in (
+      (λ size place s. (
+        f .first .ensures (lentLink (treeIn (a .shape .now)) size (a .active) place (a .balance .now) (a .residual .now) (a .start .now) (a
+            .held .now)
+            (a .lengths .now) (a .tags .now) (a .marks .now) (totalsFor true (treeIn (a .shape .now)) (a .packets .now) (a .bytes .now) (a .charged))) (a .held .now),
+        goes-more s (f .first .ensures) (k .cost .ensures) _ _ (y .pay .ensures) (λ l. m .take .ensures l (a .lengths .now) (a .tags .now)
+            (a .marks .now))
+            (n .count .ensures .0 (treeIn (a .shape .now)) (a .charged) (goes-rules s) (goes-leaf s)) (d .grown .ensures) (omega (arith, w .wide .ensures, c .if1 .taken)),
+      )),
+      (n .count .ensures .1, n .count .ensures .2),
     )
 
 turn-off-requires : tie.Need-turn-off-requires
@@ -79,14 +85,16 @@ returns-2 c =
     let y = n .before .before .before in
     let k = y .before .before .before in
     let f = k .before in
-    let a = f .before .before .args in
-    λ size place s. (
-      f .first .ensures (lentLink (treeIn (a .shape .now)) size (a .active) place (a .balance .now) (a .residual .now) (a .start .now) (a
-          .held .now)
-          (a .lengths .now) (a .tags .now) (a .marks .now) (lentTotals (a .packets .now) (a .bytes .now) (a .charged))) (a .held .now),
-      goes-last s (f .first .ensures) (k .cost .ensures) _ _ (y .pay .ensures) (λ l. m .take .ensures l (a .lengths .now) (a .tags .now)
-          (a .marks .now))
-          (n .recount .ensures) (d .grown .ensures) (omega (arith, w .wide .ensures, g .if1 .left)) _ _ _ (c .turn-off .ensures),
+    let a = f .before .before .args in (
+      (λ size place s. (
+        f .first .ensures (lentLink (treeIn (a .shape .now)) size (a .active) place (a .balance .now) (a .residual .now) (a .start .now) (a
+            .held .now)
+            (a .lengths .now) (a .tags .now) (a .marks .now) (totalsFor true (treeIn (a .shape .now)) (a .packets .now) (a .bytes .now) (a .charged))) (a .held .now),
+        goes-last s (f .first .ensures) (k .cost .ensures) _ _ (y .pay .ensures) (λ l. m .take .ensures l (a .lengths .now) (a .tags .now)
+            (a .marks .now))
+            (n .count .ensures .0 (treeIn (a .shape .now)) (a .charged) (goes-rules s) (goes-leaf s)) (d .grown .ensures) (omega (arith, w .wide .ensures, g .if1 .left)) _ _ _ (c .turn-off .ensures),
+      )),
+      (n .count .ensures .1, n .count .ensures .2),
     )
 
 pub goes-spec : {M : Type 1} → statement M
@@ -96,7 +104,7 @@ goes-spec =
     first-requires
     cost-requires
     pay-requires
-    recount-requires
+    count-requires
     grown-requires
     element-copy-out-wide
     wide-requires

@@ -1,11 +1,11 @@
--- `way_up::changed` meets its contract.
+-- `totals::changed` meets its contract.
 use mathlib.Core.Bool.{true, false}
 use mathlib.Core.Path.{_≡_, refl}
 use native.Mathlib.Omega.{arith}
 use borrow.Author.Needs.{needs}
 use borrow.Author.Tests.{not-true, not-false}
-use Rattle.state.proofs.way_up.changed.Statement.{statement}
-use Rattle.state.proofs.way_up.changed.Tie as tie
+use Rattle.totals.proofs.changed.Statement.{statement}
+use Rattle.totals.proofs.changed.Tie as tie
 
 add-result : tie.Need-add-result
 add-result c = search needs

@@ -1,0 +1,2 @@
+-- The totals of a link in lent tables.
+pub mod WorkedOut
