@@ -163,7 +163,8 @@ pub arrives-standing : (f : Stand → Link) (t : Tree) (balance residual start :
     → Arrives (f s) class p (arrivalLeaves r (linkAt false t s balance residual start held lengths tags marks packets bytes))
     → Arrives (f s′) class p (arrivalLeaves r (linkAt false t s′ balance residual start held lengths tags marks packets bytes))
 arrives-standing f t balance residual start {held} {lengths} {tags} {marks} {packets} {bytes} class p {r = r} e x =
-    subst (λ (s : Stand). Arrives (f s) class p (arrivalLeaves r (linkAt false t s balance residual start held lengths tags marks packets bytes)))
+    subst (λ (s : Stand). Arrives (f s) class p (arrivalLeaves r
+    (linkAt false t s balance residual start held lengths tags marks packets bytes)))
     e x
 
 pub sends-standing : (f : Stand → Link) (w : Went) (after : Link) (d : Departure) {s s′ : Stand} → s ≡ s′ → Shaped (f s)

@@ -79,7 +79,8 @@ fn arrives(
         → (sound ≡ true → TakesOn (lentWaiting l (now (start .entry)) (now (held .entry)) (now (lengths .entry)) (now (tags .entry))
         (now (marks .entry)) (totalsFor sound (treeIn (now (shape .entry))) (now (packets .entry)) (now (bytes .entry)) charged)))
         → ArrivesAs sound (lentWaiting l (now (start .entry)) (now (held .entry)) (now (lengths .entry)) (now (tags .entry))
-        (now (marks .entry)) (totalsFor sound (treeIn (now (shape .entry))) (now (packets .entry)) (now (bytes .entry)) charged)) (arrivedWith class len tag) r
+        (now (marks .entry)) (totalsFor sound (treeIn (now (shape .entry))) (now (packets .entry)) (now (bytes .entry)) charged))
+        (arrivedWith class len tag) r
         (lentWaiting l (now (start .entry)) (now (held .exit)) (now (lengths .exit)) (now (tags .exit)) (now (marks .exit))
         (totalsFor sound (treeIn (now (shape .entry))) (now (packets .exit)) (now (bytes .exit)) charged))) ⌝ }
 {
@@ -126,7 +127,8 @@ fn departs(
     packets: &mut [u64; 64],
     bytes: &mut [u64; 64],
 ) -> Went
-    requires { ⌜ Told sound (linkAt sound (treeIn (now shape)) stand (now balance) (now residual) (now start) (now held) (now lengths) (now tags)
+    requires { ⌜ Told sound (linkAt sound (treeIn (now shape)) stand (now balance) (now residual) (now start) (now held) (now lengths)
+        (now tags)
         (now marks) (now packets) (now bytes))
         × (sound ≡ true → Families (treeIn (now shape)) (now children) × Kept (treeIn (now shape)) (stand .known) (now kept)) ⌝ }
     ensures { λ r. ⌜ DepartsAs sound (linkAt sound (treeIn (now (shape .entry))) stand (now (balance .entry)) (now (residual .entry))
@@ -213,14 +215,17 @@ pub fn event(
     bytes: &mut [u64; 64],
     input: &[u8],
 ) -> Heard
-    requires { ⌜ Told (run .sound) (linkAt (run .sound) (treeIn (now shape)) (run .stand) (now balance) (now residual) (now start) (now held)
+    requires { ⌜ Told (run .sound) (linkAt (run .sound) (treeIn (now shape)) (run .stand) (now balance) (now residual) (now start)
+        (now held)
         (now lengths) (now tags)
         (now marks) (now packets) (now bytes))
         × (run .sound ≡ true → Families (treeIn (now shape)) (now children) × Kept (treeIn (now shape)) (run .stand .known) (now kept)) ⌝ }
-    ensures { λ r. ⌜ Hears (run .sound) (linkAt (run .sound) (treeIn (now (shape .entry))) (run .stand) (now (balance .entry)) (now (residual .entry))
+    ensures { λ r. ⌜ Hears (run .sound) (linkAt (run .sound) (treeIn (now (shape .entry))) (run .stand) (now (balance .entry)) (now
+        (residual .entry))
         (now (start .entry)) (now (held .entry)) (now (lengths .entry)) (now (tags .entry)) (now (marks .entry)) (now (packets .entry))
         (now (bytes .entry))) (now (input .entry)) (run .place) r
-        (linkAt (r .sound) (treeIn (now (shape .entry))) (r .stand) (now (balance .exit)) (now (residual .exit)) (now (start .exit)) (now (held .exit))
+        (linkAt (r .sound) (treeIn (now (shape .entry))) (r .stand) (now (balance .exit)) (now (residual .exit)) (now (start .exit))
+        (now (held .exit))
         (now (lengths .exit)) (now (tags .exit)) (now (marks .exit)) (now (packets .exit)) (now (bytes .exit))) ⌝ }
     ensures { λ r. ⌜ (run .sound ≡ true → Kept (treeIn (now (shape .entry))) (r .stand .known) (now (kept .exit))) ⌝ }
 {

@@ -86,7 +86,8 @@ fn make_calls(
     place: usize,
     out: &mut [u64],
 ) -> CallsDone
-    requires { ⌜ Told true (linkAt true (treeIn (now shape)) stand (now balance) (now residual) (now start) (now held) (now lengths) (now tags)
+    requires { ⌜ Told true (linkAt true (treeIn (now shape)) stand (now balance) (now residual) (now start) (now held) (now lengths)
+        (now tags)
         (now marks) (now packets) (now bytes)) × Families (treeIn (now shape)) (now children) × (stand .known ≡ 0) ⌝ }
     ensures { λ r. ⌜ Served (linkAt true (treeIn (now (shape .entry))) stand (now (balance .entry)) (now (residual .entry))
         (now (start .entry)) (now (held .entry)) (now (lengths .entry)) (now (tags .entry)) (now (marks .entry)) (now (packets .entry))

@@ -141,7 +141,8 @@ fn entry(
         (now (start .entry))
         (now (held .entry)) (now (lengths .entry)) (now (tags .entry)) (now (marks .entry)) (now (packets .entry)) (now (bytes .entry)))
         (did .place) (did .claims) (entryAt (now (rest .entry))) r
-        (linkAt true (treeIn (now (shape .entry))) (r .stand) (now (balance .exit)) (now (residual .exit)) (now (start .exit)) (now (held .exit))
+        (linkAt true (treeIn (now (shape .entry))) (r .stand) (now (balance .exit)) (now (residual .exit)) (now (start .exit)) (now
+        (held .exit))
         (now (lengths .exit)) (now (tags .exit)) (now (marks .exit)) (now (packets .exit)) (now (bytes .exit))) ⌝ }
     ensures { λ r. ⌜ Kept (treeIn (now (shape .entry))) (r .stand .known) (now (kept .exit)) ⌝ }
 {

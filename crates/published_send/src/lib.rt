@@ -37,11 +37,13 @@ fn next_sender(
     lengths: &[u16; 2048],
 ) -> Turned
     requires { ⌜ ((tags : List ℕ) × (marks : List ℕ) × (packets : List ℕ) × (bytes : List ℕ)
-        × Ready (secondOf (linkAt true (treeIn (now shape)) stand (now balance) (now residual) (now start) (now held) (now lengths) tags marks
+        × Ready (secondOf (linkAt true (treeIn (now shape)) stand (now balance) (now residual) (now start) (now held)
+        (now lengths) tags marks
         packets bytes) asked (now quotas)))
         × Kept (treeIn (now shape)) (stand .known) (now kept) ⌝ }
     ensures { λ r. ⌜ ((tags marks packets bytes : List ℕ)
-        → Ready (secondOf (linkAt true (treeIn (now (shape .entry))) stand (now (balance .entry)) (now (residual .entry)) (now (start .entry))
+        → Ready (secondOf (linkAt true (treeIn (now (shape .entry))) stand (now (balance .entry)) (now (residual .entry)) (now
+        (start .entry))
         (now (held .entry)) (now (lengths .entry)) tags marks packets bytes) asked (now (quotas .entry)))
         → Arrived (means (secondOf (linkAt true (treeIn (now (shape .entry))) stand (now (balance .entry)) (now (residual .entry))
         (now (start .entry)) (now (held .entry)) (now (lengths .entry)) tags marks packets bytes) asked (now (quotas .entry)))) r

@@ -71,7 +71,8 @@ pub fn arrive(
         → (sound ≡ true → TakesOn (lentWaiting l (now (start .entry)) (now (held .entry)) (now (lengths .entry)) (now (tags .entry))
         (now (marks .entry)) (totalsFor sound (treeIn (now (shape .entry))) (now (packets .entry)) (now (bytes .entry)) charged)))
         → ArrivesOn sound (lentWaiting l (now (start .entry)) (now (held .entry)) (now (lengths .entry)) (now (tags .entry))
-        (now (marks .entry)) (totalsFor sound (treeIn (now (shape .entry))) (now (packets .entry)) (now (bytes .entry)) charged)) class packet
+        (now (marks .entry)) (totalsFor sound (treeIn (now (shape .entry))) (now (packets .entry)) (now
+        (bytes .entry)) charged)) class packet
         r (lentWaiting l (now (start .entry)) (now (held .exit)) (now (lengths .exit)) (now (tags .exit)) (now (marks .exit))
         (totalsFor sound (treeIn (now (shape .entry))) (now (packets .exit)) (now (bytes .exit)) charged))) ⌝ }
     ensures { λ _. ⌜ Near (now (packets .entry)) (now (packets .exit)) × Near (now (bytes .entry)) (now (bytes .exit)) ⌝ }

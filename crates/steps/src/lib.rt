@@ -155,10 +155,12 @@ pub fn send(
     packets: &mut [u64; 64],
     bytes: &mut [u64; 64],
 ) -> Went
-    requires { ⌜ InFields (linkAt true (treeIn (now shape)) stand (now balance) (now residual) (now start) (now held) (now lengths) (now tags)
+    requires { ⌜ InFields (linkAt true (treeIn (now shape)) stand (now balance) (now residual) (now start) (now held) (now lengths)
+        (now tags)
         (now marks) (now packets) (now bytes))
         × Families (treeIn (now shape)) (now children) × Kept (treeIn (now shape)) (stand .known) (now kept) ⌝ }
-    ensures { λ r. ⌜ Departs (linkAt true (treeIn (now (shape .entry))) stand (now (balance .entry)) (now (residual .entry)) (now (start .entry))
+    ensures { λ r. ⌜ Departs (linkAt true (treeIn (now (shape .entry))) stand (now (balance .entry)) (now (residual .entry)) (now
+        (start .entry))
         (now (held .entry)) (now (lengths .entry)) (now (tags .entry)) (now (marks .entry)) (now (packets .entry)) (now (bytes .entry)))
         r (linkAt true (treeIn (now (shape .entry))) (r .stand) (now (balance .exit)) (now (residual .exit)) (now (start .exit))
         (now (held .exit))

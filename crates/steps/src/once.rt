@@ -1,4 +1,5 @@
-// One call by itself, on a link whose totals are all worked out: the step, and the totals worked out after it. Calls made one after the other
+// One call by itself, on a link whose totals are all worked out: the step, and the totals worked out after it. Calls made one after the
+// other
 // take the steps themselves, and work them out once. Serves demand 2.
 ghost use mathlib.Core.Bool.{true, false};
 ghost use mathlib.Core.Path.{_≡_};

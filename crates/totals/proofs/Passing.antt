@@ -45,7 +45,8 @@ sum-few kin xs add = sum-bound (countIn kin xs) (2 ^ 50) 63 (λ i l u. go i (ome
     go i u true h = omega (arith, add .few i u h)
     go i u false h = omega arith
 
-module _ (kin : ℕ) (xs : List ℕ) (rest sum : ℕ) (add : Adding kin xs rest sum) (i : ℕ) (l : 1 ≤ i) (u : i < 64) (is : has rest i ≡ true) where
+module _ (kin : ℕ) (xs : List ℕ) (rest sum : ℕ) (add : Adding kin xs rest sum) (i : ℕ) (l : 1 ≤ i) (u : i < 64)
+    (is : has rest i ≡ true) where
   less : sumIn rest xs ≡ sumIn (without rest i) xs + getD xs i 0
   unfolding sumIn
   less =

@@ -1,4 +1,5 @@
--- The tables of a sound link: they are worked out, there is room to count one packet more, and where a leaf sends there is enough to count one
+-- The tables of a sound link: they are worked out, there is room to count one packet more, and where a leaf sends there is enough to
+-- count one
 -- less. Demand 2.
 use mathlib.Core.Bool.{Bool, true, false}
 use mathlib.Core.List.{List}
@@ -91,7 +92,8 @@ module _ (t : Tree) (rules : PlanRules t) (xs : List ℕ) (few : (k : ℕ) → k
   pub light-here : Light t xs
   light-here = record { few = λ j leaf. omega (arith, own j leaf) }
 
-module _ (t : Tree) (rules : PlanRules t) (packets bytes : List ℕ) (charged : ℕ) (room : Roomy (totalsFor true t packets bytes charged)) where
+module _ (t : Tree) (rules : PlanRules t) (packets bytes : List ℕ) (charged : ℕ) (room : Roomy
+    (totalsFor true t packets bytes charged)) where
   pub counts-more : (i charge : ℕ) → isLeaf t i ≡ true → CountsAt false 1 i packets × CountsAt false charge i bytes
   counts-more i charge leaf = (more t rules packets (room .packets) 1 i leaf, more t rules bytes (room .bytes) charge i leaf)
 
@@ -125,7 +127,8 @@ module _ (l : Link) (packets bytes : List ℕ) (charged : ℕ) (is : l .totals �
       let here = leaf-counts l i sound leaf some in
       let p = ap (λ (x : Totals). getD (x .packets) i 0) is ∙ worked-out-own (l .tree) packets i u (leaf-not-inner (l .tree) i leaf) in
       let b = ap (λ (x : Totals). getD (x .bytes) i 0) is ∙ worked-out-own (l .tree) bytes i u (leaf-not-inner (l .tree) i leaf) in
-      let p0 = ap (λ (x : Totals). getD (x .packets) 0 0) is ∙ worked-out-own (l .tree) packets 0 (omega arith) (root-not-inner (l .tree)) in
+      let p0 = ap (λ (x : Totals). getD (x .packets) 0 0) is ∙ worked-out-own (l .tree) packets 0 (omega arith) (root-not-inner
+      (l .tree)) in
       let b0 = ap (λ (x : Totals). getD (x .bytes) 0 0) is ∙ worked-out-own (l .tree) bytes 0 (omega arith) (root-not-inner (l .tree)) in
       let all = sound .state .totals 0 (omega arith) in (
         record {

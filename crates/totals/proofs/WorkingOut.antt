@@ -1,4 +1,5 @@
--- Laws of totals in lent tables: what working them out leaves, that a table counted at its leaf and at the root is worked out to the one on the
+-- Laws of totals in lent tables: what working them out leaves, that a table counted at its leaf and at the root is worked out to the one
+-- on the
 -- way up, and that the tables of a sound link are worked out. Demand 2.
 use mathlib.Core.Bool.{Bool, true, false, cond, _&&_, not}
 use mathlib.Core.List.{List}
@@ -71,7 +72,8 @@ pub worked-out-own : (t : Tree) (xs : List ℕ) (i : ℕ) → i < 64 → isInner
 worked-out-own t xs i u off = worked-out-at t xs i u ∙ own-at t xs i off
 
 -- a table is worked out where every inner class counts what its leaves do
-pub worked-out-is : (t : Tree) (xs ys : List ℕ) → length ys ≡ 64 → ((i : ℕ) → i < 64 → getD ys i 0 ≡ workedOutAt t xs i) → ys ≡ workedOut t xs
+pub worked-out-is : (t : Tree) (xs ys : List ℕ) → length ys ≡ 64 →
+    ((i : ℕ) → i < 64 → getD ys i 0 ≡ workedOutAt t xs i) → ys ≡ workedOut t xs
 worked-out-is t xs ys long at =
     ext-getD 0 ys (workedOut t xs) (long ∙ sym (worked-out-length t xs))
     (λ k v. at k (omega (arith, v, long)) ∙ sym (worked-out-at t xs k (omega (arith, v, long))))

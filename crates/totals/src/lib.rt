@@ -1,5 +1,6 @@
 // The totals of a link in lent number arrays, while calls are made one after the other: a packet that comes or goes is counted at its leaf
-// and at the root, and `work_out` works out what the inner classes count, once, before the arrays are handed back. Named for specs/WorkedOut.
+// and at the root, and `work_out` works out what the inner classes count, once, before the arrays are handed back. Named for
+// specs/WorkedOut.
 // Serves demand 2.
 ghost use mathlib.Core.Bool.{true, false};
 ghost use mathlib.Core.Path.{_≡_};

@@ -70,7 +70,8 @@ as-told k s sound =
     let shape = known-so k s in
     ap (λ (x : Totals). lentLink t (s .size) (s .active) (s .place) (now (a .balance)) (now (a .residual)) (now (a .start)) (now (a .held))
     (now (a .lengths)) (now (a .tags)) (now (a .marks)) x)
-    (total-is true t (now (a .packets)) (now (a .bytes)) (s .charged) (λ _. sound-total (standing k s) sound (shape .packets) (shape .bytes)))
+    (total-is true t (now (a .packets)) (now (a .bytes)) (s .charged) (λ _. sound-total (standing k s) sound (shape .packets)
+    (shape .bytes)))
 
 stand-in-requires : tie.Need-stand-in-requires
 stand-in-requires c κs = search needs

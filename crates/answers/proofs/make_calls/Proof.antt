@@ -133,7 +133,8 @@ returns c =
     (now (a .lengths)) (now (a .tags)) (now (a .marks)) (now (a .packets)) (now (a .bytes)) in
     subst (λ (d : Heard). Served (from d) (now (a .input)) (a .place) (now (a .out)) (record { run = v .run; laid = v .laid }) (v .out)
     (link true)) (o .outcome .ensures)
-    (subst (λ (b : Bool). Served (from (o .outcome .result)) (now (a .input)) (a .place) (now (a .out)) (record { run = v .run; laid = v .laid }) (v .out)
+    (subst (λ (b : Bool). Served (from (o .outcome .result)) (now (a .input)) (a .place) (now (a .out))
+    (record { run = v .run; laid = v .laid }) (v .out)
     (link b)) (v .inv .2)
     (making-ends _ (now (a .input)) (a .place) (now (a .out)) (nextOf (v .run) (link (v .run .sound))) (v .laid) (v .out) (v .inv .0) _ refl
     refl refl refl (sym (c .before .takes-one .ensures) ∙ c .if1 .left) (told-is (v .inv .2) (v .inv .1))))

@@ -16,7 +16,11 @@ returns : tie.Need-returns
 returns c =
     let i = c .before in
     let st = c .before .before .before in
-    rw (c .nothing .ensures) (nothing-departs (st .args .stand) _ _ (st .args .packets .now) (st .args .bytes .now) (st .pre .0) (i .if1 .taken), (st .pre .2, (near-same (st .args .packets .now), near-same (st .args .bytes .now))))
+    rw (c .nothing .ensures) (
+      nothing-departs (st .args .stand) _ _ (st .args .packets .now) (st .args .bytes .now) (st .pre .0)
+          (i .if1 .taken),
+      (st .pre .2, (near-same (st .args .packets .now), near-same (st .args .bytes .now))),
+    )
 
 next-sender-requires : tie.Need-next-sender-requires
 next-sender-requires c κs =
@@ -33,7 +37,8 @@ goes-requires c κs =
         _,
         _,
         then-goes _ _ (n .next-sender .result) _ _
-            (n .next-sender .ensures .0 _ _ _ (going-on (st .args .stand) _ _ (st .args .packets .now) (st .args .bytes .now) (st .pre .0) (i .if1 .left))),
+            (n .next-sender .ensures .0 _ _ _ (going-on (st .args .stand) _ _ (st .args .packets .now) (st .args .bytes .now)
+            (st .pre .0) (i .if1 .left))),
       ),
       st .pre .1,
     )

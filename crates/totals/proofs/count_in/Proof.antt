@@ -83,7 +83,8 @@ returns c =
       long,
       ap₂ (λ (x y : ℕ). set (set (a .table .now) (a .class) x) 0 y) (k .changed .ensures)
           (c .changed2 .ensures ∙ ap (changed (a .fewer) (a .by)) same),
-      near-ends (a .fewer) (a .by) (a .class) (a .table .now) (k .changed .result) (c .changed2 .result) long (st .pre .0) (st .pre .1) (st .pre .2)
+      near-ends (a .fewer) (a .by) (a .class) (a .table .now) (k .changed .result) (c .changed2 .result) long (st .pre .0) (st .pre .1)
+          (st .pre .2)
           (k .changed .ensures) (c .changed2 .ensures ∙ ap (changed (a .fewer) (a .by)) same),
     )
 

@@ -36,7 +36,12 @@ next-requires : tie.Need-next-requires Inv-loop μ-loop
 next-requires c κs = omega arith
 
 loop-holds : tie.Need-loop-holds Inv-loop μ-loop
-loop-holds c = let a = c .before .args in (adding-starts (a .set) (a .packets .now), adding-starts (a .set) (a .bytes .now), c .next .ensures)
+loop-holds c = let a = c .before .args in (
+  adding-starts (a .set) (a .packets .now),
+  adding-starts (a .set)
+      (a .bytes .now),
+  c .next .ensures,
+)
 
 mul-many : tie.Need-mul-many Inv-loop μ-loop
 mul-many c = omega (arith, c .loop-test .taken)
@@ -102,7 +107,8 @@ returns c =
     let h = c .before in
     let st = h .before .before in
     let on = h .loop in
-    let none : (i : ℕ) → i < 64 → has (on .rest) i ≡ false = λ i u. on .inv .2 .between i (omega arith) (omega (arith, u, c .loop-test .left)) in (
+    let none : (i : ℕ) → i < 64 → has (on .rest) i ≡ false = λ i u. on .inv .2 .between i (omega arith) (omega
+    (arith, u, c .loop-test .left)) in (
       adding-ends (st .args .set) (st .args .packets .now) (on .rest) (on .many) (on .inv .0) none,
       adding-ends (st .args .set) (st .args .bytes .now) (on .rest) (on .cost) (on .inv .1) none,
     )

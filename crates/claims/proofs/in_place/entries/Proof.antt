@@ -68,7 +68,8 @@ lawful s = subst PlanRules (sym (s .shape-of .ensures)) (s .before .before .befo
 abbrev apartAs : tie.After-goes-on Inv-loop μ-loop → Totals → Stand → Link
 apartAs o totals stand =
     let l = first o .args .link in
-    lentLink (treeAt o) (stand .size) (stand .active) (stand .place) (o .before .before .before .before .before .before .before .before .before .before .before .balances .result)
+    lentLink (treeAt o) (stand .size) (stand .active) (stand .place)
+    (o .before .before .before .before .before .before .before .before .before .before .before .balances .result)
     (o .before .before .before .before .before .before .before .before .before .before .residuals .result)
     (l .start) (l .held) (l .lengths) (l .tags) (l .marks) totals
 
@@ -276,7 +277,8 @@ returns c =
     let Done : Link → Type 0 = λ after. PartDone (a .last) (a .link) (a .place) (a .claims) (now (a .part))
     (checkedBy (h .loop .s) after) in
     rw (z .zipped .ensures, e .work-out .ensures .0, e .work-out .ensures .1)
-    (subst (λ (t : Tree). Done (linkAs h t (treeAt o))) (o .before .before .before .before .before .before .before .before .before .before .before
+    (subst (λ (t : Tree). Done (linkAs h t (treeAt o))) (o .before .before .before .before .before .before .before .before .before
+    .before .before
     .before .before .before .before .shape-of .ensures)
     (loop-ends (a .last) (a .link) (a .place) (a .claims) (now (a .part)) _ (sofar h) (starts (h .before)) (h .loop .inv .0)
     (sym (test-same (a .last) (a .place) (now (a .part)) (sofar h)) ∙ sym (x .before .takes-one .ensures) ∙ x .if1 .left)))

@@ -132,7 +132,8 @@ linkAs h sound t u =
 abbrev linkNow : tie.At-loop Inv-loop μ-loop → Tree → Link
 linkNow h t =
     let v = h .loop in
-    linkAt (v .run .sound) t (v .run .stand) (v .balance) (v .residual) (v .start) (v .held) (v .lengths) (v .tags) (v .marks) (v .packets) (v .bytes)
+    linkAt (v .run .sound) t (v .run .stand) (v .balance) (v .residual) (v .start) (v .held) (v .lengths) (v .tags) (v .marks)
+    (v .packets) (v .bytes)
 
 as-sound : (h : tie.At-loop Inv-loop μ-loop)
     → Exactly (first (h .before) .args .sound) (SoundLink (linkNow h (treeAt (h .before))))

@@ -49,7 +49,8 @@ returns c =
           let now = lentWaiting l (a .start .now) (a .held .now) (a .lengths .now) (a .tags .now) (a .marks .now)
           (totalsFor false (treeIn (a .shape .now)) (a .packets .now) (a .bytes .now) (a .charged)) in
           rw (not-true (a .sound) (i .if1 .taken))
-          (refuses false now (a .class) (a .packet) _ (c .refused .result) (c .refused .ensures) (sym (unsound-number (meaning now) _ _)) refl)),
+          (refuses false now (a .class) (a .packet) _ (c .refused .result) (c .refused .ensures) (sym (unsound-number
+          (meaning now) _ _)) refl)),
       (near-same (a .packets .now), near-same (a .bytes .now)),
     )
 
@@ -158,7 +159,8 @@ count-requires c κs =
     let a = begun j .args in
     let on = begun j .pre (sounds j) in
     let t = treeIn (a .shape .now) in
-    let counts = counts-more t (on .0) (a .packets .now) (a .bytes .now) (a .charged) (on .1) (a .class) (costOf (a .packet .length)) (leaf-in j) in
+    let counts = counts-more t (on .0) (a .packets .now) (a .bytes .now) (a .charged) (on .1) (a .class) (costOf (a .packet .length))
+    (leaf-in j) in
     (leaf-least t (on .0) (a .class) (leaf-in j), inside j, counts .0, counts .1)
 
 mul-t32 : tie.Need-mul-t32
@@ -182,7 +184,8 @@ returns-3 c =
           let laid = p .put .ensures l ∙ ap (laidLast waits (a .class)) (m .marked-with .ensures) in
           let t = treeIn (a .shape .now) in
           let rules = begun j .pre (sounds j) .0 in
-          let link = ap₂ withTotals laid (n .count .ensures .0 t (a .charged) rules (leaf-in j) ∙ ap (λ (t : Tree). recounted false t (a .class) (costOf (a .packet
+          let link = ap₂ withTotals laid (n .count .ensures .0 t (a .charged) rules (leaf-in j) ∙ ap (λ (t : Tree). recounted false t
+          (a .class) (costOf (a .packet
           .length))
           (totalsFor true (treeIn (a .shape .now)) (a .packets .now) (a .bytes .now) (a .charged))) (sym same)) in
           let on = rw (sounds j) at (takes (sounds j)) in

@@ -4,7 +4,8 @@ use mathlib.Core.Path.{refl}
 use native.Mathlib.Omega.{arith}
 use Rattle.shape.specs.Shape.{treeIn}
 use Rattle.steps.specs.Fields.{lentLink, totalsFor}
-use Rattle.steps.proofs.Goings.{goes-first, goes-takes, goes-pays, goes-counts, goes-off, goes-more, goes-last, goes-rules, goes-leaf}
+use Rattle.steps.proofs.Goings.{goes-first, goes-takes, goes-pays, goes-counts}
+use Rattle.steps.proofs.Goings.{goes-off, goes-more, goes-last, goes-rules, goes-leaf}
 use borrow.Author.Needs.{needs}
 use Rattle.steps.proofs.leaf.goes.Statement.{statement}
 use Rattle.steps.proofs.leaf.goes.Tie as tie
@@ -27,7 +28,8 @@ count-requires c κs =
     let f = c .before .before .before .before .before .before in
     let st = f .before .before in
     let a = st .args in
-    goes-counts (st .pre .0 .2) (f .first .ensures) (c .before .before .before .before .before .cost .ensures) (a .packets .now) (a .bytes .now)
+    goes-counts (st .pre .0 .2) (f .first .ensures) (c .before .before .before .before .before .cost .ensures) (a .packets .now)
+    (a .bytes .now)
     (a .charged) refl
 
 grown-requires : tie.Need-grown-requires
@@ -58,10 +60,12 @@ returns c =
       (λ size place s. (
         f .first .ensures (lentLink (treeIn (a .shape .now)) size (a .active) place (a .balance .now) (a .residual .now) (a .start .now) (a
             .held .now)
-            (a .lengths .now) (a .tags .now) (a .marks .now) (totalsFor true (treeIn (a .shape .now)) (a .packets .now) (a .bytes .now) (a .charged))) (a .held .now),
+            (a .lengths .now) (a .tags .now) (a .marks .now) (totalsFor true (treeIn (a .shape .now)) (a .packets .now) (a .bytes .now)
+            (a .charged))) (a .held .now),
         goes-more s (f .first .ensures) (k .cost .ensures) _ _ (y .pay .ensures) (λ l. m .take .ensures l (a .lengths .now) (a .tags .now)
             (a .marks .now))
-            (n .count .ensures .0 (treeIn (a .shape .now)) (a .charged) (goes-rules s) (goes-leaf s)) (d .grown .ensures) (omega (arith, w .wide .ensures, c .if1 .taken)),
+            (n .count .ensures .0 (treeIn (a .shape .now)) (a .charged) (goes-rules s) (goes-leaf s)) (d .grown .ensures) (omega
+            (arith, w .wide .ensures, c .if1 .taken)),
       )),
       (n .count .ensures .1, n .count .ensures .2),
     )
@@ -89,10 +93,12 @@ returns-2 c =
       (λ size place s. (
         f .first .ensures (lentLink (treeIn (a .shape .now)) size (a .active) place (a .balance .now) (a .residual .now) (a .start .now) (a
             .held .now)
-            (a .lengths .now) (a .tags .now) (a .marks .now) (totalsFor true (treeIn (a .shape .now)) (a .packets .now) (a .bytes .now) (a .charged))) (a .held .now),
+            (a .lengths .now) (a .tags .now) (a .marks .now) (totalsFor true (treeIn (a .shape .now)) (a .packets .now) (a .bytes .now)
+            (a .charged))) (a .held .now),
         goes-last s (f .first .ensures) (k .cost .ensures) _ _ (y .pay .ensures) (λ l. m .take .ensures l (a .lengths .now) (a .tags .now)
             (a .marks .now))
-            (n .count .ensures .0 (treeIn (a .shape .now)) (a .charged) (goes-rules s) (goes-leaf s)) (d .grown .ensures) (omega (arith, w .wide .ensures, g .if1 .left)) _ _ _ (c .turn-off .ensures),
+            (n .count .ensures .0 (treeIn (a .shape .now)) (a .charged) (goes-rules s) (goes-leaf s)) (d .grown .ensures) (omega
+            (arith, w .wide .ensures, g .if1 .left)) _ _ _ (c .turn-off .ensures),
       )),
       (n .count .ensures .1, n .count .ensures .2),
     )

@@ -43,7 +43,8 @@ returns c =
     total-is (a .sound) t (a .packets .now) (a .bytes .now) (a .charged) (λ on. st .pre on .2)
     in
     λ l same takes.
-    let on : Totals → Link = λ totals. lentWaiting l (a .start .now) (a .held .now) (a .lengths .now) (a .tags .now) (a .marks .now) totals in
+    let on : Totals → Link = λ totals. lentWaiting l (a .start .now) (a .held .now) (a .lengths .now) (a .tags .now)
+    (a .marks .now) totals in
     rw (c .work-out .ensures .0, c .work-out .ensures .1)
     (r .arrive .ensures .0 l same (λ is. subst (λ (x : Totals). TakesOn (on x)) out (takes is))
     ∙ ap (λ (x : Totals). arrivalOf (a .sound) (on x) (a .class) (a .packet)) (sym out))

@@ -20,19 +20,22 @@ lent-64-requires-2 : tie.Need-lent-64-requires-2
 lent-64-requires-2 c κs = search needs
 
 -- the totals are worked out
-all : (w : tie.After-lent-642) → let a = w .before .before .before .before .args in InTotal (treeIn (a .shape .now)) (a .packets .now) (a .bytes .now)
+all : (w : tie.After-lent-642) → let a = w .before .before .before .before .args in InTotal (treeIn (a .shape .now)) (a .packets .now)
+    (a .bytes .now)
 all w =
     let st = w .before .before .before .before in
     let a = st .args in
     sound-total (linkAt false (treeIn (a .shape .now)) (a .stand) (a .balance .now) (a .residual .now) (a .start .now) (a .held .now)
-    (a .lengths .now) (a .tags .now) (a .marks .now) (a .packets .now) (a .bytes .now)) (st .pre .0 .sound) (w .before .before .lent-64 .ensures)
+    (a .lengths .now) (a .tags .now) (a .marks .now) (a .packets .now) (a .bytes .now)) (st .pre .0 .sound)
+    (w .before .before .lent-64 .ensures)
     (w .lent-642 .ensures)
 
 -- the link with other totals
 abbrev with-totals : tie.After-lent-642 → Totals → Link
 with-totals w totals =
     let a = w .before .before .before .before .args in
-    lentLink (treeIn (a .shape .now)) (a .stand .size) (a .stand .active) (a .stand .place) (a .balance .now) (a .residual .now) (a .start .now)
+    lentLink (treeIn (a .shape .now)) (a .stand .size) (a .stand .active) (a .stand .place) (a .balance .now) (a .residual .now)
+    (a .start .now)
     (a .held .now) (a .lengths .now) (a .tags .now) (a .marks .now) totals
 
 -- and so they are those of a link that is told to be sound
