@@ -1,5 +1,7 @@
 // Refusals: their numbers, which docs/refusals.md tells one by one, and the verdict of checks made in a fixed order (R4 to R7).
 // Serves demand 1: a refusal is a number and a place, for the first check that fails.
+#![tactic(auto)]
+
 ghost use Rattle.std.specs.Prelude.{◌≡◌};
 ghost use Rattle.checks.specs.Check.{number_of, place_of, first_broken, input_checks};
 

@@ -1,5 +1,7 @@
 // A text, and a number's decimal digits, laid into a lent buffer. A number is laid two digits at a time, without a loop: its upper part,
 // then its last two, four or eight digits. The digits are those of R166.
+#![tactic(auto)]
+
 ghost use Rattle.std.specs.Prelude.{◌≡◌, ◌<◌, ◌+◌, ◌≤◌, length};
 ghost use Rattle.digits.specs.Decimal.{digit, decimal};
 ghost use Rattle.digits.specs.Laid.{two_digits, four_digits, eight_digits, LaidAt};

@@ -1,4 +1,6 @@
 // Sets of classes in a 64-bit number: is a class in, put one in, take one out, the common ones, and the next one from a place on.
+#![tactic(auto)]
+
 ghost use Rattle.std.specs.Prelude.{◌≡◌, true, cond, ◌≤◌, ◌<◌};
 ghost use Rattle.sets.specs.Set.{has, with, without, Both, Next};
 

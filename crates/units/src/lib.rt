@@ -1,5 +1,7 @@
 // Weights and bytes as two types (R8), and the only four places where they meet (R9 to R13); what a packet costs (R14 to R18).
 // Serves demand 2: a share is never taken for a byte count.
+#![tactic(auto)]
+
 ghost use Rattle.std.specs.Prelude.{◌≡◌, ◌+◌, ◌-◌, ◌*◌, ◌^◌, ◌<◌, ◌≤◌, max, leb};
 ghost use Rattle.units.specs.Unit.{due_of, quota_of, surplus_of, size_of};
 ghost use Rattle.units.specs.Cost.{cost_of};

@@ -2,15 +2,8 @@
 use borrow.Author.Rules.{rules}
 use Rattle.sets.proofs.Bits.{one_at}
 use Rattle.sets.proofs.Laws.{and_without}
-use Rattle.sets.proofs.without.Statement.{statement}
-use Rattle.sets.proofs.without.Tie as tie
+use Rattle.sets.proofs.without.Goals as goal
 
-shl-result : tie.Need-overflow-shl-result
-shl-result c = search rules
-
-returns : tie.Need-returns
+pub returns : goal.returns
 returns c =
     rw (one_at c.args.class c.requires) (and_without c.args.set c.args.class c.ranges.set.fits c.requires)
-
-pub without-spec : {M : Type 1} → statement M
-without-spec = tie.close (tie.spec shl-result returns)

@@ -5,15 +5,8 @@ use borrow.Author.Rules.{rules}
 use lib.Bits.{and_mask}
 use lib.Dec.{eqb}
 use Rattle.sets.specs.Set.{has}
-use Rattle.sets.proofs.has.Statement.{statement}
-use Rattle.sets.proofs.has.Tie as tie
+use Rattle.sets.proofs.has.Goals as goal
 
-shr-result : tie.Need-overflow-shr-result
-shr-result c = search rules
-
-returns : tie.Need-returns
+pub returns : goal.returns
 unfolding has
 returns c = ap (λ (x : ℕ). eqb x 1) (and_mask (c.args.set / 2 ^ c.args.class) 1)
-
-pub has-spec : {M : Type 1} → statement M
-has-spec = tie.close (tie.spec shr-result returns)
