@@ -20,7 +20,7 @@ use steps::{Stand, Went};
 
 // How far a run has come beside the arrays: whether its link is sound, what the last event answered, whether the run goes on and at which
 // place of the input, and where the link stands.
-#[derive(Drop)]
+#[derive(Clone, Copy)]
 pub struct Heard {
     pub sound: bool,
     pub reply: Reply,

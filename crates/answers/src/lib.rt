@@ -22,7 +22,7 @@ use units::Bytes;
 
 // The answer of a call: 16 for an arrival, 17 for a send; its verdict; the class, the length and the tag of the packet that came or goes;
 // of an arrival the charged bytes then waiting in its leaf, of a send what its packet waited; the rounds opened.
-#[derive(Drop)]
+#[derive(Clone, Copy)]
 pub struct Reply {
     pub kind: u64,
     pub verdict: Verdict,

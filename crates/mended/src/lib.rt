@@ -15,7 +15,7 @@ use tree::Tree;
 use units::Weight;
 
 // A changed class with its old and its new weight.
-#[derive(Drop)]
+#[derive(Clone, Copy)]
 pub struct Change {
     pub class: usize,
     pub old: Weight,

@@ -7,7 +7,7 @@ ghost use Rattle.plan.specs.Kind.{gives_leaf, gives_rule, gives_arrival, gives_c
 
 // What a record gives: the end of the plan, a class, a rule, an arrival, a send, a claim that a packet was sent or that none waited, or
 // nothing where its kind is unknown.
-#[derive(Drop)]
+#[derive(Clone, Copy)]
 pub enum Given {
     End,
     Inner,
@@ -22,7 +22,7 @@ pub enum Given {
 
 // A row of the table of kinds: the length of the body, whether the kind may stand inside a plan, among events and in a recording, what its
 // record gives.
-#[derive(Drop)]
+#[derive(Clone, Copy)]
 pub struct RecordKind {
     pub body: u8,
     pub plan: bool,

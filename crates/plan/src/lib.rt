@@ -28,7 +28,7 @@ pub struct PlanRead {
 }
 
 // One arrival: a class, a length and a tag, any at all.
-#[derive(Drop)]
+#[derive(Clone, Copy)]
 pub struct Arrived {
     pub class: u8,
     pub length: u16,
@@ -36,7 +36,7 @@ pub struct Arrived {
 }
 
 // What the event reader says: the input has ended, an arrival, a send, or a refusal's number and place.
-#[derive(Drop)]
+#[derive(Clone, Copy)]
 pub enum EventRead {
     NoMore,
     Arrive(Arrived),
@@ -45,7 +45,7 @@ pub enum EventRead {
 }
 
 // A claim of a recording: the packet that was sent, or that none waited.
-#[derive(Drop)]
+#[derive(Clone, Copy)]
 pub enum Claim {
     Sent(Arrived),
     Idle,

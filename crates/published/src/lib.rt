@@ -6,7 +6,7 @@ use checks::Verdict;
 use state::Link;
 
 // The second engine's link: one of the first, the set of the classes that have their quota in this round, and the quotas (R316).
-#[derive(Drop)]
+#[derive(Clone, Copy)]
 pub struct Second {
     pub link: Link,
     pub asked: u64,

@@ -22,7 +22,7 @@ use units::Bytes;
 
 // The numbers of one class that the clauses of soundness speak of: child says whether a child of it is active; packets and bytes are its
 // totals, waiting and cost what its children's add to.
-#[derive(Drop)]
+#[derive(Clone, Copy)]
 pub struct View {
     pub class: usize,
     pub place: usize,

@@ -13,21 +13,21 @@ use tree::Tree;
 use units::Bytes;
 
 // What a class holds: a balance B, and for the root and inner classes a residual R.
-#[derive(Drop)]
+#[derive(Clone, Copy)]
 pub struct Account {
     pub balance: Bytes,
     pub residual: Bytes,
 }
 
 // A packet as it comes and goes.
-#[derive(Drop)]
+#[derive(Clone, Copy)]
 pub struct Packet {
     pub length: u16,
     pub tag: u32,
 }
 
 // One that waits: its mark is the running total when it was accepted.
-#[derive(Drop)]
+#[derive(Clone, Copy)]
 pub struct Waiting {
     pub length: u16,
     pub tag: u32,
@@ -36,7 +36,7 @@ pub struct Waiting {
 
 // The totals of each class number, the packets and their charged bytes that wait at the leaves at or below it; and the running total of the
 // bytes charged on the link, 64 bits that wrap.
-#[derive(Drop)]
+#[derive(Clone, Copy)]
 pub struct Totals {
     pub packets: [u64; Link::CLASSES],
     pub bytes: [u64; Link::CLASSES],
@@ -44,7 +44,7 @@ pub struct Totals {
 }
 
 // Where a link stands in its round: the round size in force, the set of active classes, the place, and each class's account.
-#[derive(Drop)]
+#[derive(Clone, Copy)]
 pub struct Round {
     pub size: Bytes,
     pub active: u64,
@@ -54,7 +54,7 @@ pub struct Round {
 
 // The link: class i's packets lie in the 32 places from i * 32 on, the first of them at its start, and the others follow round the 32.
 // Its round stands last: a small field that joins it moves no other.
-#[derive(Drop)]
+#[derive(Clone, Copy)]
 pub struct Link {
     pub tree: Tree,
     pub lengths: [u16; 2048],

@@ -25,7 +25,7 @@ use units::Bytes;
 
 // Where a link stands, beside its arrays: the active set whose weight sums are kept, the size in force, who is active, the place, the
 // running total.
-#[derive(Drop)]
+#[derive(Clone, Copy)]
 pub struct Stand {
     pub known: u64,
     pub size: Bytes,
@@ -36,7 +36,7 @@ pub struct Stand {
 
 // What a send gives beside the arrays it changes: whether a packet goes, which and of which class, the rounds opened in the call, and where
 // the link then stands.
-#[derive(Drop)]
+#[derive(Clone, Copy)]
 pub struct Went {
     pub some: bool,
     pub class: usize,

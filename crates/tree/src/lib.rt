@@ -11,7 +11,7 @@ pub use class_rules::class_fault;
 use units::Weight;
 
 // Classes 1 to count, by number; class 0 is the root. What a plan does not set is 0.
-#[derive(Drop)]
+#[derive(Clone, Copy)]
 pub struct Tree {
     pub count: usize,
     pub leaves: u64,

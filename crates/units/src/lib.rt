@@ -7,11 +7,11 @@ ghost use Rattle.units.specs.Unit.{due_of, quota_of, surplus_of, size_of};
 ghost use Rattle.units.specs.Cost.{cost_of};
 
 // A class's share of its parent, or a sum of such shares: a bare number.
-#[derive(Drop)]
+#[derive(Clone, Copy)]
 pub struct Weight(pub u32);
 
 // Bytes: a balance, a residual, a round size, what a packet costs.
-#[derive(Drop)]
+#[derive(Clone, Copy)]
 pub struct Bytes(pub u64);
 
 impl Weight {
