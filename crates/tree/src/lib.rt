@@ -1,5 +1,7 @@
 // The class tree (R21 to R37) as a value. What is decided of it stands in the modules: the rules of a class record, and those after the
 // end record; the plan rules and the round size of any tree whatever are decided over its shape. Serves demands 1 and 3.
+#![tactic(auto)]
+
 mod after_end;
 mod class_rules;
 

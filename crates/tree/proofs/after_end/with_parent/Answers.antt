@@ -9,8 +9,7 @@ use borrow.Author.Tests.{eq-eqb, ne_eqb}
 use Rattle.sets.specs.Set.{has, with}
 use Rattle.sets.proofs.Laws.{has_with_same, has_with_other}
 use borrow.Author.Rules.{rules}
-use Rattle.tree.proofs.after_end.with_parent.Statement.{statement}
-use Rattle.tree.proofs.after_end.with_parent.Tie as tie
+use Rattle.tree.proofs.after_end.with_parent.Goals as goal
 
 -- what is in a set with class i put in
 has_with : (s i k : ℕ) → has (with s i) k ≡ (has s k || eqb i k)
@@ -20,15 +19,9 @@ has_with s i k = go (ℕ_discrete k i)
     go (yes e) = rw (e, has_with_same s i, eq-eqb i i refl) (sym (or-true (has s i)))
     go (no e) = rw (has_with_other s i k e, ne_eqb i k (λ z. e (sym z))) (sym (or-false (has s k)))
 
-returns : tie.Need-returns
-returns c = λ p u. rw (ne_eqb c.before.args.parent p (λ e. omega (arith, e, u, c.if1.true)))
-    (sym (or-false (has c.before.args.parents p)))
+pub returns-then-p-ge-CLASSES : goal.returns-then-p-ge-CLASSES
+returns-then-p-ge-CLASSES c = λ p u. rw (ne_eqb c.args.parent p (λ e. omega (arith, e, u, c.if-p-ge-CLASSES.true)))
+    (sym (or-false (has c.args.parents p)))
 
-with-requires : tie.Need-with-requires
-with-requires c κs = search rules
-
-returns-2 : tie.Need-returns-2
-returns-2 c = λ p u. rw c.with.ensures (has_with _ _ p)
-
-pub with-parent-spec : {M : Type 1} → statement M
-with-parent-spec = tie.close (tie.spec returns with-requires returns-2)
+pub returns : goal.returns
+returns c = λ p u. rw c.with.ensures (has_with _ _ p)

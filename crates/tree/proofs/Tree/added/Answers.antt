@@ -1,0 +1,6 @@
+-- `tree::Tree::added` meets its contract.
+use borrow.Author.Rules.{rules}
+use Rattle.tree.proofs.Tree.added.Goals as goal
+
+pub returns : goal.returns
+returns c = rw c.with_if-leaves.ensures

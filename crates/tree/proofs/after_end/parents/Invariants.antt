@@ -1,0 +1,19 @@
+-- `after_end::parents` meets its contract.
+use mathlib.Core.Bool.{Bool, ◌||◌}
+use mathlib.Core.Path.{◌≡◌, sym, ap, ◌∙◌}
+use Prim.Native.Nat.{ℕ, ◌+◌, ◌-◌, ◌≤◌, ◌<◌}
+use native.Mathlib.Omega.{arith}
+use Rattle.sets.specs.Set.{has}
+use Rattle.sets.proofs.Laws.{has_empty}
+use Rattle.tree.specs.Class.{is_child, has_child}
+use Rattle.tree.specs.Sum.{some_to}
+use Rattle.tree.proofs.Sums.{some_none, some_step}
+use borrow.Author.Rules.{rules}
+use Rattle.tree.proofs.after_end.parents.Given as goal
+
+abbrev pub invariant-loop-child : goal.invariant-loop-child
+invariant-loop-child l =
+    (1 ≤ l.child) × (l.child ≤ l.tree.count + 1) × ((p : ℕ) → p < 64 → has l.parents p ≡ some_to (is_child l.tree p) (l.child - 1))
+
+abbrev pub decreases-loop-child : goal.decreases-loop-child
+decreases-loop-child l = l.tree.count + 1 - l.child
