@@ -2,6 +2,8 @@
 // fault. Entries for callers (R1, R196).
 // Serves demand 1. What they are made of stands in the modules, each named for its specs file; `reader::read_records` reads
 // the records alone.
+#![tactic(auto)]
+
 pub mod entry;
 pub mod event;
 pub mod kind;

@@ -1,5 +1,7 @@
 // A tree as one array of numbers that is lent to the steps of a link: made once, and read by the names of the tree. Named for specs/Shape.
 // Serves demand 2: what is read is the tree's.
+#![tactic(auto)]
+
 mod back;
 mod size;
 

@@ -1,5 +1,7 @@
 // The link's state (R86 to R100): accounts, waiting places and the record that holds them; the steps on each stand in the modules.
 // Serves demand 2: each step is one equation, and what a state means is its packets in order, not where they lie.
+#![tactic(auto)]
+
 mod accounts;
 pub mod lent_accounts;
 pub mod mark;

@@ -1,0 +1,6 @@
+-- `event::read_arrival` meets its contract.
+use borrow.Author.Rules.{rules}
+use Rattle.plan.proofs.event.read_arrival.Goals as goal
+
+pub returns : goal.returns
+returns c = rw (c.number_16.ensures, c.number_32.ensures)

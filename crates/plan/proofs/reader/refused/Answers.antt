@@ -1,0 +1,6 @@
+-- `reader::refused` meets its contract.
+use borrow.Author.Rules.{rules}
+use Rattle.plan.proofs.reader.refused.Goals as goal
+
+pub returns : goal.returns
+returns c = rw c.none-tree.ensures

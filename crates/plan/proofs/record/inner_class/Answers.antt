@@ -1,0 +1,6 @@
+-- `record::inner_class` meets its contract.
+use borrow.Author.Rules.{rules}
+use Rattle.plan.proofs.record.inner_class.Goals as goal
+
+pub returns : goal.returns
+returns c = rw c.number_32.ensures

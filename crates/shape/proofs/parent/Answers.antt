@@ -1,0 +1,8 @@
+-- `shape::parent` meets its contract.
+use mathlib.Core.Path.{sym}
+use Rattle.shape.proofs.Read.{parent_in}
+use borrow.Author.Rules.{rules}
+use Rattle.shape.proofs.parent.Goals as goal
+
+pub returns : goal.returns
+returns c = sym (parent_in c.args.shape.now c.args.class c.requires)

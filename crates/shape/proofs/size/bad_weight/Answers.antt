@@ -1,0 +1,13 @@
+-- `size::bad_weight` meets its contract.
+use mathlib.Core.Path.{refl}
+use borrow.Author.Tests.{lt-ltb, le-ltb}
+use Rattle.tree.specs.Rules.{bad_weight}
+use Rattle.shape.proofs.size.bad_weight.Goals as goal
+
+pub returns-then-weight-lt1 : goal.returns-then-weight-lt1
+unfolding bad_weight
+returns-then-weight-lt1 c = λ t i w. rw (w, lt-ltb _ _ c.if-weight-lt1.true) refl
+
+pub returns : goal.returns
+unfolding bad_weight
+returns c = λ t i w. rw (w, le-ltb _ _ c.if-weight-lt1.false) refl

@@ -1,0 +1,9 @@
+-- `size::round_size` meets its contract.
+use mathlib.Core.Path.{refl, ◌∙◌}
+use borrow.Author.Rules.{rules}
+use Rattle.shape.proofs.size.round_size.Goals as goal
+
+pub returns : goal.returns
+returns c =
+    let p = c.plan_size-judged.ensures in
+    p.size ∙ rw (p.right.complete c.requires) refl
