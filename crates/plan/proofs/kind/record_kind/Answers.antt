@@ -39,7 +39,7 @@ returns-in-19 c = rw c.in-19.is c.kind_row-in-19.ensures
 pub returns-in_default : goal.returns-in_default
 unfolding record_kind
 returns-in_default c =
-    let r = c.in_default.rest in
+    let r = c.in_default.in_default-own.rest in
     let q = r.0.0 in
     rw (
       ne_eqb _ _ q.0.0.0.0.0.1,

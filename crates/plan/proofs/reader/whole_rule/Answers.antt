@@ -66,6 +66,6 @@ returns-in-2 c =
 pub returns-in_default : goal.returns-in_default
 returns-in_default c =
     let bad =
-    rule_bad _ (gives (goal.at.returns-in_default c).Else-not-gives_rule) (λ z. c.in_default.rest.0.1 (rule_read (goal.at.returns-in_default c).After-read_rule-rule ∙ z)) (λ z. c.in_default.rest.1 (rule_read (goal.at.returns-in_default c).After-read_rule-rule ∙ z))
+    rule_bad _ (gives (goal.at.returns-in_default c).Else-not-gives_rule) (λ z. c.in_default.in_default-own.rest.0.1 (rule_read (goal.at.returns-in_default c).After-read_rule-rule ∙ z)) (λ z. c.in_default.in_default-own.rest.1 (rule_read (goal.at.returns-in_default c).After-read_rule-rule ∙ z))
     in
     opening_none _ (λ r. not_true_and_false bad r.right)

@@ -113,7 +113,7 @@ said c =
 
 pub returns-then-not-judged : goal.returns-then-not-judged
 returns-then-not-judged c =
-    let is = class_in_lem (tree_of (goal.at.returns-then-not-judged c).After-class_right-judged) c.loop-i.i (omega (arith, c.loop-i-test.taken)) c.loop-i.invariant.0 in (
+    let is = class_in_lem (tree_of (goal.at.returns-then-not-judged c).After-class_right-judged) c.loop-i.i (omega (arith, c.loop-i-test.true)) c.loop-i.invariant.0 in (
       exactly_no (λ p. not_true_and_false ((said (goal.at.returns-then-not-judged c).After-class_right-judged).0.complete (p.at c.loop-i.i is)) (not-true _ c.if-not-judged.true)),
       λ e. absurd (not_true_and_false e refl),
       word (goal.at.returns-then-not-judged c).After-leaves-leaves,
@@ -136,10 +136,10 @@ among c =
     omega (arith, c.parent-p.ensures, lower_parent (tree_of (goal.at.Else-not-judged c).After-class_right-judged) (class_of (goal.at.Else-not-judged c).After-class_right-judged) (own c).parent, within (goal.at.Else-not-judged c).In-loop-i)
 
 pub offset_bounds-sums-p : goal.offset_bounds-sums-p
-offset_bounds-sums-p c = omega (arith, among c)
+offset_bounds-sums-p c = omega (arith, among (goal.at.offset_bounds-sums-p c).Else-not-judged)
 
 pub bounds-sums-p : goal.bounds-sums-p
-bounds-sums-p c = among c
+bounds-sums-p c = among (goal.at.bounds-sums-p c).Else-not-judged
 
 pub overflow_add-sums : goal.overflow_add-sums
 overflow_add-sums c =
@@ -201,14 +201,14 @@ overflow_add-packets c =
     )
 
 pub loop-i-smaller : goal.loop-i-smaller
-loop-i-smaller c = omega (arith, c.loop-i-test.taken)
+loop-i-smaller c = omega (arith, c.loop-i-test.true)
 
 pub loop-i-preserved : goal.loop-i-preserved
 loop-i-preserved c =
     let t = tree_of (goal.at.loop-i-preserved c).After-class_right-judged in
     let i = c.loop-i.i in
     let p = parent_read (goal.at.loop-i-preserved c).Else-not-judged in
-    let low : 1 ≤ i = omega (arith, c.loop-i-test.taken) in
+    let low : 1 ≤ i = omega (arith, c.loop-i-test.true) in
     let u = c.loop-i.invariant.0 in
     let z : parent_of t i ≡ p = sym c.parent-p.ensures in
     let w = weight_in_lem (numbers_of (goal.at.loop-i-preserved c).After-class_right-judged) i (within (goal.at.loop-i-preserved c).In-loop-i) in (
