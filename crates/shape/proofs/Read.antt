@@ -31,7 +31,7 @@ list_table d xs n many =
 
 -- a tree has as many weights as class numbers
 pub tree_weights : (t : Tree) (values : List Val) → Is T.the_row t values → length t.weight ≡ 64
-tree_weights t values is = sym (length-map t.weight _) ∙ (LL.owed T.the_type T'.the_laws t values is).1.1.1.0.1.0.1
+tree_weights t values is = (LL.owed T.the_type T'.the_laws t values is).1.1.1.0.1.0.1
 
 -- what is read of the numbers is the tree's
 module _ (s : List ℕ) where

@@ -135,11 +135,17 @@ among : (c : Else-not-judged) → parent_read c < 64
 among c =
     omega (arith, c.parent-p.ensures, lower_parent (tree_of (goal.at.Else-not-judged c).After-class_right-judged) (class_of (goal.at.Else-not-judged c).After-class_right-judged) (own c).parent, within (goal.at.Else-not-judged c).In-loop-i)
 
+-- the same before that answer was read
+unread : (k : After-class_right-judged) → k.class_right-judged.result.right ≡ true → k.parent-p.result < 64
+unread k right =
+    omega (arith, k.parent-p.ensures, lower_parent (tree_of k) (class_of k) ((said k).0.sound right).parent, within (goal.at.After-class_right-judged k).In-loop-i)
+
 pub offset_bounds-sums-p : goal.offset_bounds-sums-p
-offset_bounds-sums-p c = omega (arith, among (goal.at.offset_bounds-sums-p c).Else-not-judged)
+offset_bounds-sums-p c =
+    omega (arith, unread (goal.at.offset_bounds-sums-p c).After-class_right-judged (not-false _ c.if-not-judged.false))
 
 pub bounds-sums-p : goal.bounds-sums-p
-bounds-sums-p c = among (goal.at.bounds-sums-p c).Else-not-judged
+bounds-sums-p c = unread (goal.at.bounds-sums-p c).After-class_right-judged (not-false _ c.if-not-judged.false)
 
 pub overflow_add-sums : goal.overflow_add-sums
 overflow_add-sums c =
