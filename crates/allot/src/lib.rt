@@ -2,6 +2,8 @@
 // and what stays unallotted at it. The entry takes any of these (R196).
 // Requests are added up in one pass from the highest class down. Then, class by class from the root upward in number, a class whose
 // request is not met finds its F by halving between 0 and what it has plus 1: 30 probes at most, each over all classes.
+#![tactic(auto)]
+
 ghost use Rattle.std.specs.Prelude.{◌≡◌, cond, ◌&&◌, ◌*◌, ◌^◌, ◌≤◌, ◌<◌, min, eqb, ltb};
 ghost use Rattle.checks.specs.Check.{first_broken, class_by_class};
 ghost use Rattle.checks.specs.declared.Verdict.TheVariants.{Passed};

@@ -1,5 +1,7 @@
 // A plan written back: the bytes of any tree laid into a lent buffer (R258 to R263). The entry asks nothing (R196).
 // Classes are laid upward, one after the other.
+#![tactic(auto)]
+
 ghost use Rattle.std.specs.Prelude.{◌≡◌, cond, ◌+◌, ◌≤◌, ◌<◌, length};
 ghost use Rattle.io.specs.Counts.{IsPrefixLen};
 ghost use Rattle.digits.specs.Laid.{LaidAt};

@@ -1,0 +1,20 @@
+-- `allot::children_get` meets its contract.
+use mathlib.Core.Path.{◌≡◌, sym}
+use Prim.Native.Nat.{◌+◌, ◌-◌, ◌≤◌}
+use native.Mathlib.Omega.{arith}
+use Rattle.tree.specs.Sum.{sum_to}
+use Rattle.tree.specs.Class.{is_child, of_child, children_sum}
+use Rattle.tree.proofs.Rules.{few_classes}
+use Rattle.tree.proofs.Sums.{sum_none, sum_step, sum_bound}
+use Rattle.allot.specs.Request.{entry}
+use Rattle.allot.specs.Share.{share_at}
+use Rattle.allot.proofs.Fair.{share_small, share_fits}
+use borrow.Author.Rules.{rules}
+use Rattle.allot.proofs.children_get.Given as goal
+
+abbrev pub invariant-loop-i : goal.invariant-loop-i
+invariant-loop-i l =
+    (l.tree.count ≤ 63) × (1 ≤ l.i) × (l.i ≤ l.tree.count + 1) × (l.sum ≡ sum_to (of_child l.tree (share_at l.tree (entry l.requests) l.f) l.p) (l.i - 1))
+
+abbrev pub decreases-loop-i : goal.decreases-loop-i
+decreases-loop-i l = l.tree.count + 1 - l.i

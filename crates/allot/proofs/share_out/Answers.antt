@@ -1,0 +1,82 @@
+-- `allot::share_out` meets its contract: the root, then class by class upward.
+use mathlib.Core.Path.{◌≡◌}
+use Prim.Native.Nat.{◌+◌, ◌-◌, ◌≤◌, ◌<◌}
+use native.Mathlib.Omega.{arith}
+use Rattle.tree.specs.Class.{parent_of, weight_of}
+use Rattle.tree.proofs.Rules.{few_classes, parent_below}
+use Rattle.allot.specs.Request.{entry}
+use Rattle.allot.specs.Steps.{Settled}
+use Rattle.allot.proofs.Fair.{share_fits}
+use Rattle.allot.proofs.Settling.{gets_within, settled_root, settled_more}
+use borrow.Author.Rules.{rules}
+use Rattle.allot.proofs.share_out.Goals as goal
+use Rattle.allot.proofs.share_out.Goals.{In-loop-i}
+
+pub loop-i-init : goal.loop-i-init
+loop-i-init c =
+    let a = c.args in (
+      few_classes a.tree c.requires.0.rules,
+      omega arith,
+      omega arith,
+      settled_root a.tree a.requests a.has c.settled-shares.result c.settled-shares.ensures,
+    )
+
+-- the parent of the class at hand has a lower number
+low : (c : In-loop-i) → parent_of c.args.tree c.loop-i.i < c.loop-i.i
+low c =
+    parent_below c.args.tree c.loop-i.i c.requires.0.rules c.loop-i.invariant.1 (omega arith)
+
+pub offset_bounds-shares-p : goal.offset_bounds-shares-p
+offset_bounds-shares-p c = omega (arith, low (goal.at.offset_bounds-shares-p c).In-loop-i)
+
+pub bounds-shares-p : goal.bounds-shares-p
+bounds-shares-p c = omega (arith, low (goal.at.bounds-shares-p c).In-loop-i)
+
+pub offset_bounds-requests-p : goal.offset_bounds-requests-p
+offset_bounds-requests-p c = omega (arith, low (goal.at.offset_bounds-requests-p c).In-loop-i)
+
+pub bounds-requests-p : goal.bounds-requests-p
+bounds-requests-p c = omega (arith, low (goal.at.bounds-requests-p c).In-loop-i)
+
+pub offset_bounds-shares-p-in-loop-i : goal.offset_bounds-shares-p-in-loop-i
+offset_bounds-shares-p-in-loop-i c = omega (arith, low (goal.at.offset_bounds-shares-p-in-loop-i c).In-loop-i)
+
+pub bounds-shares-p-in-loop-i : goal.bounds-shares-p-in-loop-i
+bounds-shares-p-in-loop-i c = omega (arith, low (goal.at.bounds-shares-p-in-loop-i c).In-loop-i)
+
+pub child_gets-gets-requires : goal.child_gets-gets-requires
+child_gets-gets-requires c =
+    let p = parent_of c.args.tree c.loop-i.i in
+    let f = (c.loop-i.invariant.3.splits p (omega (arith, low (goal.at.child_gets-gets-requires c).In-loop-i))).small in
+    share_fits c.args.tree c.args.requests c.requires.0 (entry c.loop-i.shares.fair p) c.loop-i.i c.loop-i.invariant.1
+    c.loop-i-test.true (omega arith)
+
+pub settled-shares-requires-in-loop-i : goal.settled-shares-requires-in-loop-i
+settled-shares-requires-in-loop-i c =
+    let t = c.args.tree in
+    let p = parent_of t c.loop-i.i in
+    let s = c.loop-i.shares in
+    let asks = entry c.args.requests in
+    let most = gets_within (entry s.gets p) (asks p) (asks c.loop-i.i) (weight_of t c.loop-i.i) (entry s.fair p) in
+    let small = c.requires.0.small c.loop-i.i in (
+      c.requires.0,
+      omega (arith, c.loop-i-test.true, c.loop-i.invariant.0),
+      c.loop-i-test.true,
+      omega (arith, c.child_gets-gets.ensures, most, small),
+    )
+
+pub loop-i-preserved : goal.loop-i-preserved
+loop-i-preserved c =
+    let e : c.loop-i.i + 1 - 1 ≡ c.loop-i.i = omega arith in (
+      c.loop-i.invariant.0,
+      omega arith,
+      omega (arith, c.loop-i-test.true),
+      rw e (settled_more c.args.tree c.args.requests c.args.has c.child_gets-gets.result c.loop-i.i c.loop-i.shares
+          c.settled-shares-in-loop-i.result c.requires.0.rules c.loop-i.invariant.1 (omega (arith, c.loop-i-test.true, c.loop-i.invariant.0))
+          c.loop-i.invariant.3 c.settled-shares-in-loop-i.ensures c.child_gets-gets.ensures),
+    )
+
+pub returns : goal.returns
+returns c =
+    let e : c.loop-i.i - 1 ≡ c.args.tree.count = omega arith in
+    rw e at c.loop-i.invariant.3

@@ -1,0 +1,7 @@
+-- `Account::hand_down` meets its contract.
+use Rattle.std.proofs.Common.{ℕ, ap, rules}
+use Rattle.state.specs.Account.{account}
+use Rattle.state.proofs.Account.hand_down.Goals as goal
+
+pub returns : goal.returns
+returns c = ap (λ (n : ℕ). account n c.args.self.residual.0) c.less.ensures

@@ -1,0 +1,7 @@
+-- `Account::send` meets its contract.
+use Rattle.std.proofs.Common.{ℕ, ap, rules}
+use Rattle.state.specs.Account.{account}
+use Rattle.state.proofs.Account.send.Goals as goal
+
+pub returns : goal.returns
+returns c = ap (λ (n : ℕ). account n c.args.self.residual.0) c.less.ensures

@@ -1,0 +1,20 @@
+-- `written::put_classes` meets its contract: one class after the other.
+use mathlib.Core.Path.{◌≡◌, refl, ap, ◌∙◌}
+use Prim.Native.Nat.{ℕ, ◌+◌, ◌-◌, ◌≤◌}
+use native.Mathlib.Omega.{arith}
+use lib.ListN.{length, length-append}
+use Rattle.digits.specs.Laid.{LaidAt}
+use Rattle.digits.proofs.Laying.{laid_same, laid_as}
+use Rattle.tree.specs.declared.Tree.{Tree}
+use Rattle.written.specs.Bytes.{class_bytes, classes_bytes}
+use Rattle.written.proofs.Lengths.{classes_last, classes_none, classes_grow}
+use Rattle.written.proofs.Laying.{laid_none}
+use borrow.Author.Rules.{rules}
+use Rattle.written.proofs.put_classes.Given as goal
+
+abbrev pub invariant-loop-i : goal.invariant-loop-i
+invariant-loop-i l =
+    (1 ≤ l.i) × (l.i ≤ l.n + 1) × LaidAt l.at (classes_bytes l.tree (l.i - 1)) l.initial.out l.next l.out × (length l.out ≡ length l.initial.out)
+
+abbrev pub decreases-loop-i : goal.decreases-loop-i
+decreases-loop-i l = l.n + 1 - l.i
