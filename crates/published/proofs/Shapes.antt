@@ -15,4 +15,4 @@ use Rattle.published.proofs.Second.TheLaws as S'
 pub shaped_second : (l : Second) (values : List Val) → Is S.the_row l values → ShapedSecond l
 shaped_second l values is =
     let o = LL.owed S.the_type S'.the_laws l values is in
-    record { link = shaped l.link _ o.0; quotas = sym (length-map l.quotas _) ∙ o.1.1.0.1.0.1 }
+    record { link = shaped l.link _ o.0; quotas = o.1.1.0.1.0.1 }

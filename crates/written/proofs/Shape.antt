@@ -15,7 +15,7 @@ pub arrays : (t : Tree) (values : List Val) → Is T.the_row t values → Arrays
 arrays t values is =
     let o = LL.owed T.the_type T'.the_laws t values is in
     record {
-      parents = sym (length-map t.parent _) ∙ o.1.1.0.1.0.1;
-      weights = sym (length-map t.weight _) ∙ o.1.1.1.0.1.0.1;
-      longests = sym (length-map t.longest _) ∙ o.1.1.1.1.0.1.0.1;
+      parents = o.1.1.0.1.0.1;
+      weights = o.1.1.1.0.1.0.1;
+      longests = o.1.1.1.1.0.1.0.1;
     }

@@ -22,12 +22,12 @@ use Rattle.fields.proofs.arrive_in.Tie as tie
 counts : (st : tie.Start) → length st.args.totals.bytes ≡ 64
 counts st =
     let n = LL.owed N.the_type N'.the_laws st.args.totals _ st.well-formed.1.1.1.0 in
-    sym (length-map st.args.totals.bytes _) ∙ n.1.0.1.0.1
+    n.1.0.1.0.1
 
 packets_wide : (st : tie.Start) → length st.args.totals.packets ≡ 64
 packets_wide st =
     let n = LL.owed N.the_type N'.the_laws st.args.totals _ st.well-formed.1.1.1.0 in
-    sym (length-map st.args.totals.packets _) ∙ n.0.1.0.1
+    n.0.1.0.1
 
 -- there are as many accounts as class numbers
 many : (st : tie.Start) → length st.args.round.accounts ≡ 64

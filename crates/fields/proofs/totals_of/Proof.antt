@@ -51,8 +51,8 @@ returns-2 c = λ tags marks.
     let l = whole st tags marks in
     let n = LL.owed N.the_type N'.the_laws st.args.totals _ st.well-formed.1.1.1.0 in
     let right =
-    sound_totals l ((s.is-sound-of.ensures tags marks).sound on) (sym (length-map l.totals.packets _) ∙ n.0.1.0.1)
-    (sym (length-map l.totals.bytes _) ∙ n.1.0.1.0.1)
+    sound_totals l ((s.is-sound-of.ensures tags marks).sound on) (n.0.1.0.1)
+    (n.1.0.1.0.1)
     in
     record {
       sound = s.is-sound-of.result;
