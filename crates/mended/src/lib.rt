@@ -1,6 +1,8 @@
 // Mending a plan whose shares don't add up (R267 to R274): any bytes in; the tree with each inner weight the least that the rules allow
 // and the list of what changed, or a refusal. The entry takes any bytes (R196).
 // One pass from the highest class down: each class adds its mended weight to its parent's sum, which is whole when the parent's turn comes.
+#![tactic(auto)]
+
 ghost use Rattle.std.specs.Prelude.{◌≡◌, cond, ◌&&◌, not, [], ◌≤◌, ◌<◌, max};
 ghost use Rattle.checks.specs.Check.{first_broken, class_by_class};
 ghost use Rattle.checks.specs.declared.Verdict.TheVariants.{Passed, Refused};

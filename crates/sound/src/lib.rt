@@ -1,5 +1,7 @@
 // Whether a link record, any record of numbers whatever, is sound (R101 to R115), decided with no overflow and no fault.
 // Serves demand 1: refusal 11 rests on it.
+#![tactic(auto)]
+
 mod queue;
 
 ghost use Rattle.std.specs.Prelude.{◌≡◌, ℕ, ◌<◌, ◌≤◌, true, List, length};

@@ -1,0 +1,16 @@
+-- `mend::has_child` meets its contract.
+use mathlib.Core.Bool.{false}
+use mathlib.Core.Path.{◌≡◌, sym, ◌∙◌}
+use Prim.Native.Nat.{ℕ, ◌+◌, ◌-◌, ◌≤◌, ◌<◌}
+use native.Mathlib.Omega.{arith}
+use borrow.Author.Tests.{eq-eqb, ne_eqb}
+use Rattle.tree.specs.Class.{is_child, has_child}
+use Rattle.tree.proofs.Sums.{some_found, none_more, some_never}
+use borrow.Author.Rules.{rules}
+use Rattle.mended.proofs.has_child.Given as goal
+
+abbrev pub invariant-loop-i : goal.invariant-loop-i
+invariant-loop-i l = (1 ≤ l.i) × (l.i ≤ l.tree.count + 1) × ((k : ℕ) → 1 ≤ k → k < l.i → is_child l.tree l.p k ≡ false)
+
+abbrev pub decreases-loop-i : goal.decreases-loop-i
+decreases-loop-i l = l.tree.count + 1 - l.i

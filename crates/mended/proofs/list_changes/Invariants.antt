@@ -1,0 +1,21 @@
+-- `mend::list_changes` meets its contract: class by class upward, one entry where the weight is another.
+use mathlib.Core.List.{List}
+use mathlib.Core.Path.{◌≡◌, refl, sym, ap, ◌∙◌}
+use Prim.Native.Nat.{◌+◌, ◌-◌, ◌≤◌}
+use native.Mathlib.Omega.{arith}
+use lib.ListN.{get_or}
+use Rattle.units.specs.declared.Weight.{Weight}
+use Rattle.tree.specs.Class.{no_weight}
+use Rattle.mended.specs.declared.Changes.{Changes}
+use Rattle.mended.specs.Answer.{changes_to, listed}
+use Rattle.mended.proofs.Least.{mended_at}
+use Rattle.mended.proofs.Listing.{changes_none, changes_few, list_step}
+use borrow.Author.Rules.{rules}
+use Rattle.mended.proofs.list_changes.Given as goal
+
+abbrev pub invariant-loop-i : goal.invariant-loop-i
+invariant-loop-i l =
+    (1 ≤ l.i) × (l.i ≤ l.tree.count + 1) × (l.changes ≡ listed (changes_to l.tree (l.i - 1)))
+
+abbrev pub decreases-loop-i : goal.decreases-loop-i
+decreases-loop-i l = l.tree.count + 1 - l.i

@@ -1,0 +1,17 @@
+-- `queue::above_of` meets its contract.
+use Rattle.std.proofs.Common.{◌-◌, ◌∙◌, rules}
+use Rattle.sound.proofs.Places.{four_wraps}
+use Rattle.sound.proofs.queue.above_of.Goals as goal
+
+pub returns : goal.returns
+returns c =
+    c.wrapping_add_u16.ensures
+    ∙ rw (
+      c.wrapping_add_u16-last.ensures,
+      c.above-4.ensures,
+      c.above-3.ensures,
+      c.wrapping_add_u16-first.ensures,
+      c.above-2.ensures,
+      c.above.ensures,
+    )
+    (four_wraps (c.args.a - 59) (c.args.b - 59) (c.args.c - 59) (c.args.d - 59))
