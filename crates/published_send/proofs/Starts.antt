@@ -60,7 +60,7 @@ module _ (l : Second) (r : Ready l) where
   unfolding settled
   waits_settled =
       let w = waits_leaf (meaning l.link) r.waits in
-      record { leaf = w.leaf; class = w.class; is_leaf_lem = w.is_leaf; holds = w.holds }
+      record { leaf = w.leaf; class = w.class; is_leaf = w.is_leaf; holds = w.holds }
 
   way : OnTheWay (means l) (means l) 0
   way = way_starts (means l) r.sound.state wide_of waits_settled

@@ -127,7 +127,7 @@ waits_leaf s e =
     record {
       leaf = w.0;
       class = class_in_lem s.tree w.0 w.1 w.2;
-      is_leaf_lem = b.0;
+      is_leaf = b.0;
       holds = leb-true 1 (length (queue_at s w.0))
           b.1;
     }

@@ -73,7 +73,7 @@ leaf_most s sound = omega (arith, (first_range (ready s) (64 - s.round.place) s.
 -- what a state has waiting, it has waiting when a round has opened
 pub opened_waits : (size : ℕ) (s : State) → Waits s → Waits (opened_with size s)
 unfolding opened_with
-opened_waits size s w = record { leaf = w.leaf; class = w.class; is_leaf_lem = w.is_leaf; holds = w.holds }
+opened_waits size s w = record { leaf = w.leaf; class = w.class; is_leaf = w.is_leaf; holds = w.holds }
 
 -- a main round sends: the root and the active inner classes keep less than their weight sums, so the leaves hold too much for none to send
 pub main_sends : (s : State) (size : ℕ) → Sound s → Wide s → Resizes s size → next_leaf s ≡ 64 → Waits s → next_kind s ≡ main

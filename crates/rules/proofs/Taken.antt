@@ -200,7 +200,7 @@ taken_grows s sound i e = go (dec_le i s.tree.count) (is_leaf s.tree i) refl
         let l = (sound.above i (omega (arith, few_classes s.tree rules))).leaf_below_lem ab e in
         (taken_by_leaf s rules).from_leaf i ab (record {
           leaf = l.leaf;
-          is_leaf_lem = l.is_leaf;
+          is_leaf = l.is_leaf;
           is_active = leaf_in l.leaf (below_class s.tree i l.leaf l.below) l.is_leaf l.is_active;
           below = l.below;
         })

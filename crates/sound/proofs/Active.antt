@@ -64,13 +64,13 @@ module _ (t : Tree) (active : ℕ) (rules : PlanRules t) where
           low = omega (arith, parent_lower t c.child' rules c.class, c.parent)
 
           at : (b : Bool) → is_leaf t c.child' ≡ b → ActiveLeafBelow t active i
-          at true l = record { leaf = c.child'; is_leaf_lem = l; is_active = c.is_active; below = child c.child' c.class c.parent }
+          at true l = record { leaf = c.child'; is_leaf = l; is_active = c.is_active; below = child c.child' c.class c.parent }
           at false l =
               let r = ih c.child' (omega (arith, low)) (record { class = (class_range t c.child' c.class).1; inner = l })
               c.is_active in
               record {
                 leaf = r.leaf;
-                is_leaf_lem = r.is_leaf;
+                is_leaf = r.is_leaf;
                 is_active = r.is_active;
                 below = below_trans t i c.child' (child c.child' c.class c.parent) r.leaf r.below;
               }
@@ -98,7 +98,7 @@ module _ (t : Tree) (active : ℕ) (rules : PlanRules t) where
           leaf_no_child a k (under x is b) q = leaf_no_child a (parent_of t x) b q
       active_at (inr d) false l =
           by.from_leaf j (record { class = (class_range t j is).1; inner = l })
-          (record { leaf = w.0; is_leaf_lem = w.1; is_active = w.2; below = d })
+          (record { leaf = w.0; is_leaf = w.1; is_active = w.2; below = d })
   find_child by i m (under j is b) w = find_child by i (parent_of t j) b (w.0, w.1, w.2, inr (up w.3))
     where
       up : (w.0 ≡ j) ⊎ Below t j w.0 → Below t (parent_of t j) w.0
@@ -116,12 +116,12 @@ module _ (t : Tree) (active : ℕ) (rules : PlanRules t) where
     where
       leaf_of : {i : ℕ} → (c : ActiveChild t active i) → (b : Bool) → is_leaf t c.child' ≡ b → ActiveLeafBelow t active i
       leaf_of c true l =
-          record { leaf = c.child'; is_leaf_lem = l; is_active = c.is_active; below = child c.child' c.class c.parent }
+          record { leaf = c.child'; is_leaf = l; is_active = c.is_active; below = child c.child' c.class c.parent }
       leaf_of {i} c false l =
           let r = by.has_leaf c.child' (record { class = (class_range t c.child' c.class).1; inner = l }) c.is_active in
           record {
             leaf = r.leaf;
-            is_leaf_lem = r.is_leaf;
+            is_leaf = r.is_leaf;
             is_active = r.is_active;
             below = below_trans t i c.child' (child c.child' c.class c.parent) r.leaf r.below;
           }

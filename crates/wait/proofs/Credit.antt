@@ -93,7 +93,7 @@ module _ (s : State) (i k : ℕ) (h : Holds s i k) where
 
   -- a packet waits
   pub holds_some_lem : Waits s
-  holds_some_lem = record { leaf = i; class = holds_class; is_leaf_lem = h.leaf; holds = omega (arith, h.behind) }
+  holds_some_lem = record { leaf = i; class = holds_class; is_leaf = h.leaf; holds = omega (arith, h.behind) }
 
   -- every packet costs something
   pub first_costs : 1 ≤ cost_of (first_of s i).length

@@ -1,5 +1,5 @@
 -- `sound::is_sound_at` meets its contract: it says yes exactly where the link of these numbers is sound.
-use Rattle.std.proofs.Common.{◌≡◌, Bool, cond, sym, refl, ap, ◌∙◌, arith, rules}
+use Rattle.std.proofs.Common.{◌≡◌, Bool, cond, sym, refl, ap, ◌∙◌, arith}
 use borrow.Author.Tests.{not-true, not-false}
 use Rattle.checks.proofs.Laws.{exactly_no, not_true_and_false}
 use Rattle.tree.specs.Rules.{PlanRules}

@@ -5,12 +5,12 @@ use Rattle.sound.proofs.queue.above_of.Goals as goal
 
 pub returns : goal.returns
 returns c =
-    c.wrapping_add_u16.ensures
+    c.wrapping_add_u16.ensures.value
     ∙ rw (
-      c.wrapping_add_u16-last.ensures,
+      c.wrapping_add_u16-last.ensures.value,
       c.above-4.ensures,
       c.above-3.ensures,
-      c.wrapping_add_u16-first.ensures,
+      c.wrapping_add_u16-first.ensures.value,
       c.above-2.ensures,
       c.above.ensures,
     )

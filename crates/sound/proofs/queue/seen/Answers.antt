@@ -21,4 +21,4 @@ unfolding seen_of
 returns c =
     let fits : c.wrapping_sub_u16.result < 65_536 = search rules in
     rw (lt-ltb _ _ c.if-held-turn.false)
-    (less_one c.args.length c.wrapping_sub_u16.result (omega (arith, c.ranges.length.fits)) fits c.wrapping_sub_u16.ensures)
+    (less_one c.args.length c.wrapping_sub_u16.result (omega (arith, c.ranges.length.fits)) fits c.wrapping_sub_u16.ensures.value)
