@@ -1,6 +1,8 @@
 // Who is active in a round that opens, and the weight sums: one pass from the highest class down each, unless they are known. The tree is
 // lent as its numbers (`shape`). Named for rules/specs/Active and specs/Known.
 // Serves demand 2.
+#![tactic(auto)]
+
 ghost use Rattle.std.specs.Prelude.{◌≡◌, true, cond, ◌&&◌, ℕ, ◌+◌, ◌^◌, ◌<◌, leb, length, get_or};
 ghost use Rattle.sets.specs.Set.{has};
 ghost use Rattle.rules.specs.Steps.{holds_some};

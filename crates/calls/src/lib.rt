@@ -1,5 +1,7 @@
 // What the calls of the library answer (R151 to R163): the answers, the rules of the calls as definitions, and their laws; no code: the
 // calls stand in `link`. Serves demands 1 and 2.
+#![tactic(auto)]
+
 use checks::Verdict;
 use state::{Link, Totals};
 use units::Bytes;

@@ -2,6 +2,8 @@
 // and at the root, and `work_out` works out what the inner classes count, once, before the arrays are handed back. Named for
 // specs/WorkedOut.
 // Serves demand 2.
+#![tactic(auto)]
+
 ghost use Rattle.std.specs.Prelude.{true, false, ◌≡◌, ℕ, ◌+◌, ◌^◌, ◌≤◌, ◌<◌, length};
 ghost use Rattle.sets.specs.Set.{has};
 ghost use Rattle.units.specs.Cost.{cost_of};

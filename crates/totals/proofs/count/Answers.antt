@@ -14,8 +14,7 @@ use Rattle.state.specs.WayUp.{changed}
 use Rattle.totals.specs.WorkedOut.{worked_out, changed_ends, CountsAt}
 use Rattle.totals.proofs.WorkingOut.{ends_work_out}
 use borrow.Author.Rules.{rules}
-use Rattle.totals.proofs.count.Statement.{statement}
-use Rattle.totals.proofs.count.Tie as tie
+use Rattle.totals.proofs.count.Goals as goal
 
 -- a number that is changed so is, with the one it was, what another and its own change are
 steps_with : (fewer : Bool) (by x a b : ℕ) → (fewer ≡ true → by ≤ x) → b + x ≡ a + changed fewer by x → changed fewer by a ≡ b
@@ -31,38 +30,24 @@ counted fewer by class before after long counts e t rules leaf =
     ∙ ends_work_out t rules (changed fewer by) class leaf before long
     (λ a b. steps_with fewer by (get_or before class 0) a b counts.less)
 
-cost-requires : tie.Need-cost-requires
-cost-requires c κs = search rules
-
-count-in-requires : tie.Need-count-in-requires
-count-in-requires c κs = search rules
-
-count-in-requires-2 : tie.Need-count-in-requires-2
+pub count_in-requires-2 : goal.count_in-requires-2
 unfolding cost_of
-count-in-requires-2 c κs =
-    let k = c.before.before.before in
-    let st = c.before.before.before.before in
-    (st.requires.0, st.requires.1, omega (arith, k.cost.ensures), rw k.cost.ensures st.requires.3)
+count_in-requires-2 c =
+    (c.requires.0, c.requires.1, omega (arith, c.cost-cost.ensures), rw c.cost-cost.ensures c.requires.3)
 
-returns : tie.Need-returns
+pub returns : goal.returns
 returns c =
-    let f = c.before.before in
-    let k = c.before.before.before.before in
-    let st = c.before.before.before.before.before in
-    let a = st.args in (
+    let a = c.args in (
       λ t charged rules leaf.
           let packets =
-          counted a.fewer 1 a.class a.packets.now _ f.count_in_lem.ensures.0 st.requires.2 f.count_in_lem.ensures.1 t rules leaf
+          counted a.fewer 1 a.class a.packets.now _ c.count_in.ensures.0 c.requires.2 c.count_in.ensures.1 t rules leaf
           in
           let bytes =
-          counted a.fewer (cost_of a.length) a.class a.bytes.now _ c.count-in2.ensures.0 st.requires.3
-          (c.count-in2.ensures.1 ∙ ap (λ (n : ℕ). changed_ends (changed a.fewer n) a.class a.bytes.now) k.cost.ensures) t
+          counted a.fewer (cost_of a.length) a.class a.bytes.now _ c.count_in-2.ensures.0 c.requires.3
+          (c.count_in-2.ensures.1 ∙ ap (λ (n : ℕ). changed_ends (changed a.fewer n) a.class a.bytes.now) c.cost-cost.ensures) t
           rules leaf
           in
           λ n. record { packets = packets n; bytes = bytes n; charged = charged },
-      f.count_in_lem.ensures.2,
-      c.count-in2.ensures.2,
+      c.count_in.ensures.2,
+      c.count_in-2.ensures.2,
     )
-
-pub count_spec : {M : Type 1} → statement M
-count_spec = tie.close (tie.spec cost-requires count-in-requires count-in-requires-2 returns)

@@ -1,0 +1,161 @@
+-- `active::active_size` meets its contract: class by class upward, each active one adds its weight, and a leaf what its longest packet
+-- costs.
+use mathlib.Core.Bool.{Bool, cond}
+use mathlib.Core.Path.{◌≡◌, refl, ap, ap₂, ◌∙◌}
+use Prim.Native.Nat.{ℕ, ◌+◌, ◌-◌, ◌*◌, ◌≤◌, ◌<◌}
+use native.Mathlib.Omega.{arith}
+use Rattle.sets.specs.Set.{has}
+use Rattle.units.specs.Cost.{cost_of, most_cost}
+use Rattle.tree.specs.declared.Tree.{Tree}
+use Rattle.tree.specs.Class.{weight_of, longest_of, is_leaf}
+use Rattle.tree.specs.Rules.{PlanRules}
+use Rattle.tree.specs.Size.{longest_cost, all_weights, all_longest}
+use Rattle.tree.specs.Sum.{sum_to}
+use Rattle.tree.proofs.Classes.{class_in_lem}
+use Rattle.tree.proofs.Rules.{few_classes, rules_light, weights_ceiling, longest_ceiling}
+use Rattle.tree.proofs.Sums.{sum_none, sum_step, sum_grows}
+use Rattle.shape.specs.Shape.{tree_in}
+use Rattle.rules.specs.Sizes.{if_active, active_weights, active_longest, active_size}
+use Rattle.rules.proofs.Sizes.{active_part}
+use borrow.Author.Rules.{rules}
+use Rattle.active.proofs.active_size.Goals as goal
+use Rattle.active.proofs.active_size.Goals.{After-active_longest, In-loop-i, Start}
+
+module _ (t : Tree) (active : ℕ) where
+  -- what the classes 1 to n add
+  abbrev weighs : ℕ → ℕ
+  weighs n = sum_to (if_active active (weight_of t)) n
+
+  abbrev costs : ℕ → ℕ
+  costs n = sum_to (if_active active (longest_cost t)) n
+
+  weighs_more : (i : ℕ) → 1 ≤ i → weighs (i + 1 - 1) ≡ weighs (i - 1) + cond (has active i) (weight_of t i) 0
+  unfolding if_active
+  weighs_more i l = sum_step _ i l
+
+  costs_more : (i : ℕ) → 1 ≤ i → costs (i + 1 - 1) ≡ costs (i - 1) + cond (has active i) (cond (has t.leaves i) (cost_of (longest_of t i))
+      0) 0
+  unfolding if_active longest_cost is_leaf
+  costs_more i l = sum_step _ i l
+
+  weighs_most : PlanRules t → (n : ℕ) → n ≤ t.count → weighs n ≤ 63_000_000
+  unfolding all_weights
+  weighs_most rules n u =
+      omega (
+        arith,
+        sum_grows (if_active active (weight_of t)) n t.count u,
+        active_part active (weight_of t) t.count,
+        weights_ceiling t rules,
+      )
+
+  costs_most : PlanRules t → (n : ℕ) → n ≤ t.count → costs n ≤ 63 * most_cost
+  unfolding all_longest
+  costs_most rules n u =
+      omega (
+        arith,
+        sum_grows (if_active active (longest_cost t)) n t.count u,
+        active_part active (longest_cost t) t.count,
+        longest_ceiling t rules,
+      )
+
+-- all of them add up to rule 2's size
+size_is : (t : Tree) (active : ℕ) → weighs t active t.count + costs t active t.count ≡ active_size t active
+unfolding active_size active_weights active_longest
+size_is t active = refl
+
+-- the tree
+abbrev treeAt : Start → Tree
+treeAt st = tree_in st.args.shape.now
+
+-- the class at hand is a class of the tree, and a class number
+at_hand : (c : In-loop-i) → c.loop-i.i ≤ (treeAt (goal.at.In-loop-i c).Start).count
+at_hand c = omega (arith, c.loop-i-test.true, c.count-last.ensures)
+
+here : (c : In-loop-i) → c.loop-i.i < 64
+here c = omega (arith, few_classes (treeAt (goal.at.In-loop-i c).Start) c.requires, at_hand c)
+
+pub loop-i-init : goal.loop-i-init
+loop-i-init c = (
+  omega arith,
+  omega arith,
+  omega (arith, sum_none (if_active c.args.active (weight_of (treeAt (goal.at.loop-i-init c).Start)))),
+  omega (arith, sum_none (if_active c.args.active (longest_cost (treeAt (goal.at.loop-i-init c).Start)))),
+)
+
+pub weight-w-requires : goal.weight-w-requires
+weight-w-requires c = (c.requires, here c)
+
+pub has-counts-requires : goal.has-counts-requires
+has-counts-requires c = here (goal.at.has-counts-requires c).In-loop-i
+
+pub with_active-weights-requires : goal.with_active-weights-requires
+with_active-weights-requires c =
+    let t = treeAt (goal.at.with_active-weights-requires c).Start in
+    let most = weighs_most t c.args.active c.requires (c.loop-i.i - 1) (omega (arith, at_hand (goal.at.with_active-weights-requires c).In-loop-i)) in
+    let light = (rules_light t c.requires).light c.loop-i.i (class_in_lem t c.loop-i.i c.loop-i.invariant.0 (at_hand (goal.at.with_active-weights-requires c).In-loop-i)) in
+    omega (arith, most, light, c.loop-i.invariant.2, c.weight-w.ensures)
+
+pub has-requires : goal.has-requires
+has-requires c = here (goal.at.has-requires c).In-loop-i
+
+pub longest-requires : goal.longest-requires
+longest-requires c = (c.requires, here (goal.at.longest-requires c).In-loop-i)
+
+-- what it adds for its longest packet
+longest_is : (c : After-active_longest)
+    → c.active_longest.result.0
+    ≡ cond (has c.args.active c.loop-i.i)
+    (cond (has (treeAt (goal.at.After-active_longest c).Start).leaves c.loop-i.i) (cost_of (longest_of (treeAt (goal.at.After-active_longest c).Start) c.loop-i.i)) 0) 0
+longest_is c =
+    let i = c.loop-i.i in
+    c.active_longest.ensures
+    ∙ ap₂ (λ (x y : Bool). cond x (cond y (cost_of c.longest.result) 0) 0) c.has-counts.ensures c.has.ensures
+    ∙ ap₂ (λ (s n : ℕ). cond (has c.args.active i) (cond (has s i) (cost_of n) 0) 0) c.leaves-leaves.ensures c.longest.ensures
+
+pub plus-packets-requires : goal.plus-packets-requires
+plus-packets-requires c =
+    let most = costs_most (treeAt (goal.at.plus-packets-requires c).Start) c.args.active c.requires (c.loop-i.i + 1 - 1) (omega (arith, at_hand (goal.at.plus-packets-requires c).In-loop-i)) in
+    omega (arith, most, costs_more (treeAt (goal.at.plus-packets-requires c).Start) c.args.active c.loop-i.i c.loop-i.invariant.0, longest_is c, c.loop-i.invariant.3)
+
+pub overflow_add-i : goal.overflow_add-i
+overflow_add-i c = omega (arith, here (goal.at.overflow_add-i c).In-loop-i)
+
+pub loop-i-smaller : goal.loop-i-smaller
+loop-i-smaller c = omega (arith, at_hand (goal.at.loop-i-smaller c).In-loop-i)
+
+pub loop-i-preserved : goal.loop-i-preserved
+loop-i-preserved c =
+    let t = treeAt (goal.at.loop-i-preserved c).Start in
+    let active = c.args.active in
+    let i = c.loop-i.i in
+    let weight =
+    c.with_active-weights.ensures
+    ∙ ap₂ (λ (on : Bool) (n : ℕ). c.loop-i.weights.0 + cond on n 0) c.has-counts.ensures c.weight-w.ensures
+    in (
+      omega arith,
+      omega (arith, at_hand (goal.at.loop-i-preserved c).In-loop-i),
+      omega (arith, weight, c.loop-i.invariant.2, weighs_more t active i c.loop-i.invariant.0),
+      omega (arith, c.plus-packets.ensures, longest_is (goal.at.loop-i-preserved c).After-active_longest, c.loop-i.invariant.3, costs_more t active i c.loop-i.invariant.0),
+    )
+
+pub size-requires : goal.size-requires
+size-requires c =
+    let t = treeAt (goal.at.size-requires c).Start in
+    let active = c.args.active in
+    let u : c.loop-i.i - 1 ≤ t.count = omega (arith, c.loop-i.invariant.1) in
+    omega (
+      arith,
+      weighs_most t active c.requires (c.loop-i.i - 1) u,
+      costs_most t active c.requires (c.loop-i.i - 1) u,
+      c.loop-i.invariant.2,
+      c.loop-i.invariant.3,
+    )
+
+pub returns : goal.returns
+returns c =
+    let t = treeAt (goal.at.returns c).Start in
+    let active = c.args.active in
+    let e : c.loop-i.i - 1 ≡ t.count = omega (arith, c.loop-i.invariant.1, c.loop-i-test.false, c.count-last.ensures) in
+    c.size.ensures
+    ∙ ap₂ ◌+◌ (c.loop-i.invariant.2 ∙ ap (weighs t active) e) (c.loop-i.invariant.3 ∙ ap (costs t active) e)
+    ∙ size_is t active

@@ -1,0 +1,32 @@
+-- `totals::work_out` meets its contract.
+use mathlib.Core.Path.{refl, ◌∙◌}
+use Rattle.shape.specs.Shape.{tree_in}
+use Rattle.totals.proofs.WorkingOut.{flat_worked_out}
+use borrow.Author.Rules.{rules}
+use borrow.Author.Tests.{not-true, not-false}
+use Rattle.totals.proofs.work_out.Goals as goal
+
+pub returns-then-not-sound : goal.returns-then-not-sound
+returns-then-not-sound c =
+    rw c.if-not-sound.true (refl, refl)
+
+pub returns-then-children-leaves : goal.returns-then-children-leaves
+returns-then-children-leaves c =
+    let a = c.args in
+    let t = tree_in a.shape.now in
+    let on = c.if-not-sound.false in
+    let pre = c.requires on in
+    let flat = c.if-children-leaves.true ∙ c.leaves.ensures in
+    rw on (
+      flat_worked_out t pre.0 a.children.now pre.1 flat a.packets.now c.lent_64-many.ensures,
+      flat_worked_out t pre.0 a.children.now pre.1 flat a.bytes.now c.lent_64-wide.ensures,
+    )
+
+pub work_out_inner-requires : goal.work_out_inner-requires
+work_out_inner-requires c =
+    let pre = c.requires c.if-not-sound.false in
+    (pre.0, pre.1, c.lent_64-many.ensures, c.lent_64-wide.ensures, pre.2, pre.3)
+
+pub returns : goal.returns
+returns c =
+    rw c.if-not-sound.false c.work_out_inner.ensures
