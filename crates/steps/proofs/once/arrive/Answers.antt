@@ -9,22 +9,18 @@ use Rattle.totals.specs.WorkedOut.{totals_for}
 use Rattle.totals.proofs.Sounds.{total_is, light_near}
 use Rattle.steps.specs.Arrivals.{lent_waiting, TakesOn}
 use borrow.Author.Rules.{rules}
-use Rattle.steps.proofs.once.arrive.Statement.{statement}
-use Rattle.steps.proofs.once.arrive.Tie as tie
+use Rattle.steps.proofs.once.arrive.Goals as goal
 
-arrive-requires : tie.Need-arrive-requires
-arrive-requires c κs =
-    let st = c.before.before.before.before.before.before in
-    λ on. let pre = st.requires on in (pre.0, record { packets = pre.2.room.packets; bytes = pre.2.room.bytes })
+pub arrive-answer-requires : goal.arrive-answer-requires
+arrive-answer-requires c =
+    λ on. let pre = c.requires on in (pre.0, record { packets = pre.2.room.packets; bytes = pre.2.room.bytes })
 
-work-out-requires : tie.Need-work-out-requires
-work-out-requires c κs =
-    let r = c.before.before in
-    let st = r.before.before.before.before.before.before.before in
-    let a = st.args in
-    let near = r.arrive.ensures.1 in
+pub work_out-requires : goal.work_out-requires
+work_out-requires c =
+    let a = c.args in
+    let near = c.arrive-answer.ensures.near in
     λ on.
-    let pre = st.requires on in
+    let pre = c.requires on in
     let t = tree_in a.shape.now in (
       pre.0,
       pre.1,
@@ -32,22 +28,17 @@ work-out-requires c κs =
       light_near t pre.0 a.bytes.now pre.2.room.bytes near.1,
     )
 
-returns : tie.Need-returns
+pub returns : goal.returns
 returns c =
-    let r = c.before.before.before in
-    let st = r.before.before.before.before.before.before.before in
-    let a = st.args in
+    let a = c.args in
     let t = tree_in a.shape.now in
     let out : totals_for false t a.packets.now a.bytes.now a.charged
     ≡ totals_for a.sound t a.packets.now a.bytes.now a.charged =
-    total_is a.sound t a.packets.now a.bytes.now a.charged (λ on. (st.requires on).2)
+    total_is a.sound t a.packets.now a.bytes.now a.charged (λ on. (c.requires on).2)
     in
     λ l same takes.
     let on : Totals → Link = λ totals. lent_waiting l a.start.now a.held.now a.lengths.now a.tags.now
     a.marks.now totals in
-    rw (c.work-out.ensures.0, c.work-out.ensures.1)
-    (r.arrive.ensures.0 l same (λ is. subst (λ (x : Totals). TakesOn (on x)) out (takes is))
+    rw (c.work_out.ensures.0, c.work_out.ensures.1)
+    (c.arrive-answer.ensures.arrives_on l same (λ is. subst (λ (x : Totals). TakesOn (on x)) out (takes is))
     ∙ ap (λ (x : Totals). arrival_of a.sound (on x) a.class a.packet) (sym out))
-
-pub arrive-spec : {M : Type 1} → statement M
-arrive-spec = tie.close (tie.spec arrive-requires work-out-requires returns)
