@@ -1,16 +1,18 @@
 // The box's loop on standard input: `lent_parts::part` keeps one link record and lends it to both calls (R164), and what each part laid is
 // printed. It reads what `linkrun` reads and prints the same lines (R185 to R195). Serves demands 1 and 2. `box_runs` runs it in the gate.
-use libc::{STDIN_FILENO, STDOUT_FILENO};
+#![tactic(auto)]
+
 use parts::PartRun;
+use std::io;
 
 // The bytes of a part at most.
 const TEXT: usize = 65_536;
 
 // A whole run of an input: its first line, and then part after part into one buffer.
-fn whole(input: &[u8]) {
+fn whole(rt: &impl Print, input: &[u8]) -> io::Result<()> {
     let step = run::first(input);
     let line = step.line;
-    shown::print(line);
+    shown::print(rt, line)?;
     let link = step.link;
     let mut part = PartRun {
         laid: 0,
@@ -22,18 +24,19 @@ fn whole(input: &[u8]) {
     while part.more {
         part = lent_parts::part(part.link, input, part.place, &mut text);
         let laid = part.laid;
-        io::write_all(STDOUT_FILENO, &text[..laid]);
+        shown::word(rt, &text[..laid])?;
     }
+    Ok(())
 }
 
 // A whole run of the next bytes of standard input, as many as there is room for.
-pub fn run_next(room: &mut [u8]) {
-    let n = io::read_full(STDIN_FILENO, room);
-    whole(&room[..n]);
+pub fn run_next(rt: &(impl Input + Print), room: &mut [u8]) -> io::Result<()> {
+    let n = shown::read_full(rt, room)?;
+    whole(rt, &room[..n])
 }
 
 // A whole run of standard input.
-pub fn run() {
+pub fn run(rt: &(impl Input + Print)) -> io::Result<()> {
     let mut room = [0u8; checks::MOST_INPUT + 1];
-    run_next(&mut room);
+    run_next(rt, &mut room)
 }

@@ -1,6 +1,8 @@
 // Commands on one link record, a line for each answer: fresh links, arrivals, sends and soundness of any record of numbers (demands 1
 // and 2), in both engines; it runs, and is compared with the written-down answers. The record is the second engine's: the first engine's
 // calls take the link inside.
+#![tactic(auto)]
+
 mod books;
 mod fields;
 mod fit;
@@ -11,12 +13,12 @@ ghost use Rattle.std.specs.Prelude.{◌<◌, ◌≤◌};
 ghost use Rattle.state.specs.Queue.{start_of, held_of};
 
 use checks::Verdict;
-use libc::STDIN_FILENO;
 use link::Departure;
 use packed::command::{next, number_8, number_16, number_32, number_64, part};
 use published_link::Second;
 use shown::{either, number, pair, word};
 use state::{Link, Packet, Waiting, queue};
+use std::io;
 use tree::Tree;
 
 // Commands by their first bytes, each with its body. A name: length 1, text.
@@ -77,32 +79,32 @@ const SECOND_SOUND: u64 = 18;
 const QUOTAS: u64 = 19;
 
 // A word, then a verdict's number and place.
-pub(crate) fn print_verdict(text: &[u8], v: Verdict) {
-    pair(text, checks::number(v) as u64, checks::place(v) as u64);
+pub(crate) fn print_verdict(rt: &impl Print, text: &[u8], v: Verdict) -> io::Result<()> {
+    pair(rt, text, checks::number(v) as u64, checks::place(v) as u64)
 }
 
 // The name of a case.
-fn name(command: &[u8]) {
-    word(b"# ");
-    word(part(command, 2, 2 + number_8(command, 1) as usize));
-    word(b"\n");
+fn name(rt: &impl Print, command: &[u8]) -> io::Result<()> {
+    word(rt, b"# ")?;
+    word(rt, part(command, 2, 2 + number_8(command, 1) as usize))?;
+    word(rt, b"\n")
 }
 
 // A fresh link of a tree.
-fn fresh(tree: Tree) -> Link {
+fn fresh(rt: &impl Print, tree: Tree) -> io::Result<Link> {
     let got = link::fresh(tree);
     let verdict = got.verdict;
     let after = got.link;
-    print_verdict(b"fresh ", verdict);
-    number(b" size ", after.round.size.0);
-    word(b"\n");
-    after
+    print_verdict(rt, b"fresh ", verdict)?;
+    number(rt, b" size ", after.round.size.0)?;
+    word(rt, b"\n")?;
+    Ok(after)
 }
 
 // A fresh link of a plan's tree.
-fn plan(command: &[u8]) -> Link {
+fn plan(rt: &impl Print, command: &[u8]) -> io::Result<Link> {
     let read = plan::read_plan(part(command, 3, 3 + number_16(command, 1) as usize));
-    fresh(read.tree)
+    fresh(rt, read.tree)
 }
 
 // How many packets a class holds; none where there is no such class number.
@@ -114,13 +116,13 @@ fn held(link: Link, class: usize) -> u64 {
 }
 
 // Whether a record is the very same as one before; the record after.
-fn compared(before: Link, after: Link) -> Link {
-    either(same::same_link(before, after), b" same\n", b" changed\n");
-    after
+fn compared(rt: &impl Print, before: Link, after: Link) -> io::Result<Link> {
+    either(rt, same::same_link(before, after), b" same\n", b" changed\n")?;
+    Ok(after)
 }
 
 // An arrival, and whether the record came back the very same.
-fn arrive(before: Link, command: &[u8]) -> Link {
+fn arrive(rt: &impl Print, before: Link, command: &[u8]) -> io::Result<Link> {
     let class = number_64(command, 1) as usize;
     let length = number_16(command, 9) as u16;
     let tag = number_32(command, 11) as u32;
@@ -129,27 +131,27 @@ fn arrive(before: Link, command: &[u8]) -> Link {
     let answer = got.answer;
     let verdict = answer.verdict;
     let after = got.link;
-    print_verdict(b"in ", verdict);
-    number(b" bytes ", answer.bytes.0);
-    number(b" held ", held(after, class));
-    compared(before, after)
+    print_verdict(rt, b"in ", verdict)?;
+    number(rt, b" bytes ", answer.bytes.0)?;
+    number(rt, b" held ", held(after, class))?;
+    compared(rt, before, after)
 }
 
 // A packet that left.
-fn took(packet: Waiting) {
-    pair(b"took ", packet.length as u64, packet.tag as u64);
-    number(b" mark ", packet.mark);
-    word(b"\n");
+fn took(rt: &impl Print, packet: Waiting) -> io::Result<()> {
+    pair(rt, b"took ", packet.length as u64, packet.tag as u64)?;
+    number(rt, b" mark ", packet.mark)?;
+    word(rt, b"\n")
 }
 
 // No packet left.
-fn untaken(link: Link) -> Link {
-    word(b"took nothing\n");
-    link
+fn untaken(rt: &impl Print, link: Link) -> io::Result<Link> {
+    word(rt, b"took nothing\n")?;
+    Ok(link)
 }
 
 // The first packet of a class leaves.
-fn left(mut link: Link, class: usize) -> Link
+fn left(rt: &impl Print, mut link: Link, class: usize) -> io::Result<Link>
     requires { (class < 64) × (start_of link class < 32) × (1 ≤ held_of link class) }
 {
     let mut start = link.start;
@@ -157,26 +159,26 @@ fn left(mut link: Link, class: usize) -> Link
     let lengths = link.lengths;
     let tags = link.tags;
     let marks = link.marks;
-    took(queue::first(class, &start, &lengths, &tags, &marks));
+    took(rt, queue::first(class, &start, &lengths, &tags, &marks))?;
     queue::take(class, &mut start, &mut held);
     link.start = start;
     link.held = held;
-    link
+    Ok(link)
 }
 
 // It does where there is one, and the totals fit then.
-fn take(before: Link, command: &[u8]) -> Link {
+fn take(rt: &impl Print, before: Link, command: &[u8]) -> io::Result<Link> {
     let class = number_64(command, 1) as usize;
     if 63 < class {
-        return untaken(before);
+        return untaken(rt, before);
     }
     if before.held[class] < 1 {
-        return untaken(before);
+        return untaken(rt, before);
     }
     if 31 < before.start[class] {
-        return untaken(before);
+        return untaken(rt, before);
     }
-    fit::fit(left(before, class))
+    Ok(fit::fit(left(rt, before, class)?))
 }
 
 // A value stored into one number of the record.
@@ -187,68 +189,68 @@ fn store(before: Second, command: &[u8]) -> Second {
 }
 
 // Whether the record is sound.
-fn sound(link: Link) -> Link {
-    either(sound::is_sound(link), b"sound yes\n", b"sound no\n");
-    link
+fn sound(rt: &impl Print, link: Link) -> io::Result<Link> {
+    either(rt, sound::is_sound(link), b"sound yes\n", b"sound no\n")?;
+    Ok(link)
 }
 
 // Whether the record is the very same as the kept one.
-fn compare(held: Second, kept: Second) -> Second {
-    word(b"kept");
-    second::compared(kept, held)
+fn compare(rt: &impl Print, held: Second, kept: Second) -> io::Result<Second> {
+    word(rt, b"kept")?;
+    second::compared(rt, kept, held)
 }
 
 // A send's answer.
-pub(crate) fn sent(answer: Departure) {
+pub(crate) fn sent(rt: &impl Print, answer: Departure) -> io::Result<()> {
     let verdict = answer.verdict;
-    print_verdict(b"out ", verdict);
-    number(b" class ", answer.class as u64);
-    number(b" length ", answer.length as u64);
-    number(b" tag ", answer.tag as u64);
-    number(b" rounds ", answer.rounds as u64);
-    number(b" waited ", answer.waited);
+    print_verdict(rt, b"out ", verdict)?;
+    number(rt, b" class ", answer.class as u64)?;
+    number(rt, b" length ", answer.length as u64)?;
+    number(rt, b" tag ", answer.tag as u64)?;
+    number(rt, b" rounds ", answer.rounds as u64)?;
+    number(rt, b" waited ", answer.waited)
 }
 
 // A send, and whether the record came back the very same.
-fn send(before: Link) -> Link {
+fn send(rt: &impl Print, before: Link) -> io::Result<Link> {
     let got = link::send(before);
-    sent(got.answer);
-    compared(before, got.link)
+    sent(rt, got.answer)?;
+    compared(rt, before, got.link)
 }
 
 // The link inside after a command on it alone.
-fn link_after(link: Link, command: &[u8]) -> Link {
+fn link_after(rt: &impl Print, link: Link, command: &[u8]) -> io::Result<Link> {
     match number_8(command, 0) {
-        ARRIVE => arrive(link, command),
-        TAKE => take(link, command),
-        SOUND => sound(link),
-        SEND => send(link),
-        BOOKS => books::show(link),
-        TOTALS => books::totals(link),
-        FIT => fit::fit(link),
-        _ => link,
+        ARRIVE => arrive(rt, link, command),
+        TAKE => take(rt, link, command),
+        SOUND => sound(rt, link),
+        SEND => send(rt, link),
+        BOOKS => books::show(rt, link),
+        TOTALS => books::totals(rt, link),
+        FIT => Ok(fit::fit(link)),
+        _ => Ok(link),
     }
 }
 
 // The record after a command. A fresh link of the first engine is one in which no class has a quota.
-fn after(held: Second, kept: Second, command: &[u8]) -> Second {
+fn after(rt: &impl Print, held: Second, kept: Second, command: &[u8]) -> io::Result<Second> {
     let link = held.link;
     match number_8(command, 0) {
         NAME => {
-            name(command);
-            held
+            name(rt, command)?;
+            Ok(held)
         }
-        PLAN => second::unasked(plan(command)),
-        FRESH => second::unasked(fresh(link.tree)),
-        STORE => store(held, command),
-        BACK => kept,
-        COMPARE => compare(held, kept),
-        SECOND_FRESH => second::fresh(held),
-        SECOND_ARRIVE => second::arrive(held, command),
-        SECOND_SEND => second::send(held),
-        SECOND_SOUND => second::sound(held),
-        QUOTAS => second::quotas(held),
-        _ => second::with_link(held, link_after(link, command)),
+        PLAN => Ok(second::unasked(plan(rt, command)?)),
+        FRESH => Ok(second::unasked(fresh(rt, link.tree)?)),
+        STORE => Ok(store(held, command)),
+        BACK => Ok(kept),
+        COMPARE => compare(rt, held, kept),
+        SECOND_FRESH => second::fresh(rt, held),
+        SECOND_ARRIVE => second::arrive(rt, held, command),
+        SECOND_SEND => second::send(rt, held),
+        SECOND_SOUND => second::sound(rt, held),
+        QUOTAS => second::quotas(rt, held),
+        _ => Ok(second::with_link(held, link_after(rt, link, command)?)),
     }
 }
 
@@ -275,28 +277,29 @@ fn size(command: &[u8]) -> usize
 }
 
 // Every command, one after the other, on one link record and a kept one.
-fn run(input: &[u8]) {
+fn run(rt: &impl Print, input: &[u8]) -> io::Result<()> {
     let mut held = second::unasked(Link::none());
     let mut kept = held;
     let mut at: usize = 0;
     while at < input.len() {
         let command = &input[at..];
-        held = after(held, kept, command);
+        held = after(rt, held, kept, command)?;
         kept = kept_after(held, kept, command);
         at = next(at, size(command), input.len());
     }
+    Ok(())
 }
 
 // The most bytes of commands.
 const MOST: usize = 131_072;
 
 // Every command of standard input, read into the room that is lent.
-fn run_read(room: &mut [u8]) {
-    let n = io::read_full(STDIN_FILENO, room);
-    run(&room[..n]);
+fn run_read(rt: &(impl Input + Print), room: &mut [u8]) -> io::Result<()> {
+    let n = shown::read_full(rt, room)?;
+    run(rt, &room[..n])
 }
 
-fn main() {
+fn main(rt: HostRuntime) -> io::Result<()> {
     let mut room = [0u8; MOST];
-    run_read(&mut room);
+    run_read(&rt, &mut room)
 }

@@ -7,6 +7,7 @@ use packed::command::{number_16, number_32, number_64};
 use published_link::Second;
 use shown::{either, number, word};
 use state::{Link, Packet};
+use std::io;
 
 // A link of the first engine, in which no class has a quota.
 pub(crate) fn unasked(link: Link) -> Second {
@@ -46,83 +47,85 @@ fn same(a: Second, b: Second) -> bool {
 }
 
 // Whether a record is the very same as one before; the record after.
-pub(crate) fn compared(before: Second, after: Second) -> Second {
-    either(same(before, after), b" same\n", b" changed\n");
-    after
+pub(crate) fn compared(rt: &impl Print, before: Second, after: Second) -> io::Result<Second> {
+    either(rt, same(before, after), b" same\n", b" changed\n")?;
+    Ok(after)
 }
 
 // A fresh link of the record's tree.
-pub(crate) fn fresh(second: Second) -> Second {
+pub(crate) fn fresh(rt: &impl Print, second: Second) -> io::Result<Second> {
     let first = second.link;
     let got = published_link::fresh(first.tree);
     let verdict = got.verdict;
     let after = got.link;
     let made = after.link;
-    print_verdict(b"fresh ", verdict);
-    number(b" size ", made.round.size.0);
-    word(b"\n");
-    after
+    print_verdict(rt, b"fresh ", verdict)?;
+    number(rt, b" size ", made.round.size.0)?;
+    word(rt, b"\n")?;
+    Ok(after)
 }
 
 // An arrival's answer.
-fn answered(answer: Arrival) {
+fn answered(rt: &impl Print, answer: Arrival) -> io::Result<()> {
     let verdict = answer.verdict;
-    print_verdict(b"in ", verdict);
-    number(b" bytes ", answer.bytes.0);
+    print_verdict(rt, b"in ", verdict)?;
+    number(rt, b" bytes ", answer.bytes.0)
 }
 
 // An arrival, and whether the record came back the very same.
-pub(crate) fn arrive(before: Second, command: &[u8]) -> Second {
+pub(crate) fn arrive(rt: &impl Print, before: Second, command: &[u8]) -> io::Result<Second> {
     let class = number_64(command, 1) as usize;
     let length = number_16(command, 9) as u16;
     let tag = number_32(command, 11) as u32;
     let packet = Packet { length, tag };
     let got = published_link::arrive(before, class, packet);
-    answered(got.answer);
-    compared(before, got.link)
+    answered(rt, got.answer)?;
+    compared(rt, before, got.link)
 }
 
 // A send, and whether the record came back the very same.
-pub(crate) fn send(before: Second) -> Second {
+pub(crate) fn send(rt: &impl Print, before: Second) -> io::Result<Second> {
     let got = published_link::send(before);
-    sent(got.answer);
-    compared(before, got.link)
+    sent(rt, got.answer)?;
+    compared(rt, before, got.link)
 }
 
 // Whether the record is sound.
-pub(crate) fn sound(second: Second) -> Second {
+pub(crate) fn sound(rt: &impl Print, second: Second) -> io::Result<Second> {
     either(
+        rt,
         published_link::is_sound(second),
         b"sound yes\n",
         b"sound no\n",
-    );
-    second
+    )?;
+    Ok(second)
 }
 
 // The quota of a class.
-fn quota(value: u64) {
-    number(b" ", value);
+fn quota(rt: &impl Print, value: u64) -> io::Result<()> {
+    number(rt, b" ", value)
 }
 
 // The quota of every class, from the root to the last.
-fn each_quota(held: Second, last: usize) {
+fn each_quota(rt: &impl Print, held: Second, last: usize) -> io::Result<()> {
     for i in 0..64 {
         if last < i {
-            return;
+            return Ok(());
         }
-        quota(held.quotas[i]);
+        quota(rt, held.quotas[i])?;
     }
+    Ok(())
 }
 
 // Who has asked, and the quotas.
-pub(crate) fn quotas(second: Second) -> Second {
+pub(crate) fn quotas(rt: &impl Print, second: Second) -> io::Result<Second> {
     let first = second.link;
     let tree = first.tree;
-    number(b"asked ", second.asked);
-    word(b" quotas");
-    each_quota(second, tree.count);
-    word(b"\n");
-    second
+    number(rt, b"asked ", second.asked)?;
+    word(rt, b" quotas")?;
+    each_quota(rt, second, tree.count)?;
+    word(rt, b"\n")?;
+    Ok(second)
 }
 
 // A value stored into one number of the record: field 19 is who has asked, 20 the quota at a class number, all others are of the link.

@@ -1,16 +1,18 @@
 // A whole run: a plan and its events from standard input, one line for each thing (R185 to R195); run and compared with the listing.
 // It reads, calls and writes, part by part; the lines are those of `run` and `parts`. Serves demands 1 and 2.
-use libc::{STDIN_FILENO, STDOUT_FILENO};
+#![tactic(auto)]
+
 use parts::PartRun;
+use std::io;
 
 // The bytes of a part at most.
 const TEXT: usize = 65_536;
 
 // Prints the lines of a whole run: the first one, then those of the events.
-fn whole(input: &[u8]) {
+fn whole(rt: &impl Print, input: &[u8]) -> io::Result<()> {
     let step = run::first(input);
     let line = step.line;
-    shown::print(line);
+    shown::print(rt, line)?;
     let link = step.link;
     let mut part = PartRun {
         laid: 0,
@@ -22,12 +24,13 @@ fn whole(input: &[u8]) {
     while part.more {
         part = parts::part(part.link, input, part.place, &mut text);
         let laid = part.laid;
-        io::write_all(STDOUT_FILENO, &text[..laid]);
+        shown::word(rt, &text[..laid])?;
     }
+    Ok(())
 }
 
-fn main() {
+fn main(rt: HostRuntime) -> io::Result<()> {
     let mut input = [0u8; checks::MOST_INPUT + 1];
-    let n = io::read_full(STDIN_FILENO, &mut input);
-    whole(&input[..n]);
+    let n = shown::read_full(&rt, &mut input)?;
+    whole(&rt, &input[..n])
 }

@@ -1,11 +1,13 @@
 // A whole run of input of any length (R248): a plan and its events from standard input, read window by window, one line for each thing. It
 // prints the lines of `linkrun`, but for number 10. It reads, calls and writes; what a window gives stands in `stream`. Its memory is that
 // of one window and one text. Run and compared with the listing.
-ghost use Rattle.std.specs.Prelude.{◌≡◌, ◌+◌, ◌^◌, ◌≤◌, ◌<◌, length};
+#![tactic(auto)]
 
-use libc::{STDIN_FILENO, STDOUT_FILENO};
+ghost use Rattle.std.specs.Prelude.{◌≡◌, ◌+◌, ◌^◌, ◌≤◌, ◌<◌, length, IfOk};
+
 use parts::PartRun;
 use state::Link;
+use std::io;
 
 // The bytes of a window, and of a part's text at most.
 const WINDOW: usize = 65_536;
@@ -25,9 +27,9 @@ struct At {
 }
 
 // Prints the lines of the events of a window from a place on, and tells with which link and at which place they end.
-fn in_window(link: Link, window: &[u8], place: usize) -> PartRun
+fn in_window(rt: &impl Print, link: Link, window: &[u8], place: usize) -> io::Result<PartRun>
     requires { place ≤ length window.now }
-    ensures { result.place ≤ length window.now }
+    ensures { IfOk result (λ (r : PartRun). r.place ≤ length window.now) }
 {
     let mut part = PartRun {
         laid: 0,
@@ -39,9 +41,9 @@ fn in_window(link: Link, window: &[u8], place: usize) -> PartRun
     while part.more {
         part = stream::part(part.link, window, part.place, &mut text);
         let laid = part.laid;
-        io::write_all(STDOUT_FILENO, &text[..laid]);
+        shown::word(rt, &text[..laid])?;
     }
-    part
+    Ok(part)
 }
 
 // Whether the run ends at the rest of a window: the input ends there, or what stands there waits for no more bytes.
@@ -53,26 +55,26 @@ fn ends(rest: &[u8], last: bool) -> bool {
 }
 
 // A window of a run: its lines, and where the run ends with it the last line.
-fn next_window(at: At, window: &[u8], last: bool) -> At
+fn next_window(rt: &impl Print, at: At, window: &[u8], last: bool) -> io::Result<At>
     requires { (at.place ≤ length window.now) × (at.offset + length window.now < 2 ^ 64) }
-    ensures { (result.place ≤ length window.now) × (result.offset ≡ at.offset) }
+    ensures { IfOk result (λ (r : At). (r.place ≤ length window.now) × (r.offset ≡ at.offset)) }
 {
     let link = at.link;
-    let part = in_window(link, window, at.place);
+    let part = in_window(rt, link, window, at.place)?;
     let link = part.link;
     let place = part.place;
     let offset = at.offset;
     let rest = plan::events_after(window, place);
     let end = ends(rest, last);
     if end {
-        shown::print(stream::last_line(link, rest, offset + place));
+        shown::print(rt, stream::last_line(link, rest, offset + place))?;
     }
-    At {
+    Ok(At {
         more: !end,
         link,
         place,
         offset,
-    }
+    })
 }
 
 // The next window begins where the last one's events end.
@@ -90,22 +92,22 @@ fn moved_on(at: At) -> At
 }
 
 // Fills a window anew: the bytes from a place up to its end first, and what is read after them.
-fn refilled(window: &mut [u8], from: usize, to: usize) -> usize
+fn refilled(rt: &impl Input, window: &mut [u8], from: usize, to: usize) -> io::Result<usize>
     requires { (from ≤ to) × (to ≤ length window.old) }
-    ensures { result ≤ length window.new }
+    ensures { IfOk result (λ n. n ≤ length window.new) }
 {
     let kept = stream::carry(window, from, to);
-    kept + io::read_full(STDIN_FILENO, &mut window[kept..])
+    Ok(kept + shown::read_full(rt, &mut window[kept..])?)
 }
 
-fn main() {
+fn main(rt: HostRuntime) -> io::Result<()> {
     let mut window = [0u8; WINDOW];
-    let mut n = io::read_full(STDIN_FILENO, &mut window);
+    let mut n = shown::read_full(&rt, &mut window)?;
     let step = run::begin(&window[..n]);
     let line = step.line;
-    shown::print(line);
+    shown::print(&rt, line)?;
     if !step.more {
-        return;
+        return Ok(());
     }
     let link = step.link;
     let mut at = At {
@@ -116,13 +118,14 @@ fn main() {
     };
     let mut left = WINDOWS;
     while 0 < left {
-        at = next_window(at, &window[..n], n < WINDOW);
+        at = next_window(&rt, at, &window[..n], n < WINDOW)?;
         if !at.more {
-            return;
+            return Ok(());
         }
         let place = at.place;
         at = moved_on(at);
-        n = refilled(&mut window, place, n);
+        n = refilled(&rt, &mut window, place, n)?;
         left -= 1;
     }
+    Ok(())
 }

@@ -1,18 +1,22 @@
 // Number 10 in the gate: the first line of a run on 65,536 bytes, the longest input that is taken, and then of one on 65,537 (both tree
 // P, and zeros after it).
-use libc::STDIN_FILENO;
+#![tactic(auto)]
+
+use std::io;
+
 
 // The first line of a run on the next bytes of standard input, as many as there is room for.
-fn begins(room: &mut [u8]) {
-    let n = io::read_full(STDIN_FILENO, room);
+fn begins(rt: &(impl Input + Print), room: &mut [u8]) -> io::Result<()> {
+    let n = shown::read_full(rt, room)?;
     let step = run::first(&room[..n]);
     let line = step.line;
-    shown::print(line);
+    shown::print(rt, line)?;
+    Ok(())
 }
 
-fn main() {
+fn main(rt: HostRuntime) -> io::Result<()> {
     let mut kept = [0u8; checks::MOST_INPUT];
-    begins(&mut kept);
+    begins(&rt, &mut kept)?;
     let mut passed = [0u8; checks::MOST_INPUT + 1];
-    begins(&mut passed);
+    begins(&rt, &mut passed)
 }

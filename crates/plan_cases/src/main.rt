@@ -1,6 +1,8 @@
 // Named cases of the plan rules, the readers (R21 to R67) and the writer, packed as commands: each is run, and its lines are compared with
 // the written-down ones. Serves demand 1: what the plan reader, the event reader, the plan rules and the writer say. The cases are edited
 // in cases/plan_cases.txt.
+#![tactic(auto)]
+
 mod events;
 mod kinds;
 mod output;
@@ -9,9 +11,9 @@ mod texts;
 mod trees;
 mod writes;
 
-use libc::STDIN_FILENO;
 use packed::command::{next, number_8};
 use shown::word;
+use std::io;
 use tree::Tree;
 
 // Commands by their first bytes; then a name (length 1, text) and a body (length 2, bytes). A remark: its name on a line.
@@ -50,46 +52,52 @@ const COUNT: u64 = 11;
 const WRITE: u64 = 12;
 
 // A remark.
-fn remark(text: &[u8]) {
-    word(text);
-    word(b"\n");
+fn remark(rt: &impl Print, text: &[u8]) -> io::Result<()> {
+    word(rt, text)?;
+    word(rt, b"\n")
 }
 
 // The tree at hand after a command.
-fn after(tree: Tree, command: u64, name: &[u8], body: &[u8]) -> Tree {
+fn after(rt: &impl Print, tree: Tree, command: u64, name: &[u8], body: &[u8]) -> io::Result<Tree> {
     match command {
-        PLAN => plans::answer(name, body),
-        CLASSES => trees::class_lines(tree),
-        TREE => plans::tree_of(body),
-        STORE => trees::stored(tree, body),
-        RULES => trees::rules(name, tree),
-        WRITE => writes::written(name, tree, body),
-        _ => tree,
+        PLAN => plans::answer(rt, name, body),
+        CLASSES => trees::class_lines(rt, tree),
+        TREE => Ok(plans::tree_of(body)),
+        STORE => Ok(trees::stored(tree, body)),
+        RULES => trees::rules(rt, name, tree),
+        WRITE => writes::written(rt, name, tree, body),
+        _ => Ok(tree),
     }
 }
 
 // The count of unknown kinds after a command.
-fn count_after(count: u64, command: u64, name: &[u8], body: &[u8]) -> u64 {
+fn count_after(
+    rt: &impl Print,
+    count: u64,
+    command: u64,
+    name: &[u8],
+    body: &[u8],
+) -> io::Result<u64> {
     match command {
-        PLAN_KIND => kinds::in_plan(count, body),
-        EVENT_KIND => kinds::among_events(count, body),
-        COUNT => kinds::counted(count, name, body),
-        _ => count,
+        PLAN_KIND => kinds::in_plan(rt, count, body),
+        EVENT_KIND => kinds::among_events(rt, count, body),
+        COUNT => kinds::counted(rt, count, name, body),
+        _ => Ok(count),
     }
 }
 
 // What a command does that leaves tree and count alone.
-fn print_only(command: u64, name: &[u8], body: &[u8]) {
+fn print_only(rt: &impl Print, command: u64, name: &[u8], body: &[u8]) -> io::Result<()> {
     match command {
-        REMARK => remark(name),
-        EVENT => events::single(name, body),
-        EVENTS => events::plan_and_events(name, body),
-        _ => (),
+        REMARK => remark(rt, name),
+        EVENT => events::single(rt, name, body),
+        EVENTS => events::plan_and_events(rt, name, body),
+        _ => Ok(()),
     }
 }
 
 // Every command, one after the other.
-fn run(input: &[u8]) {
+fn run(rt: &impl Print, input: &[u8]) -> io::Result<()> {
     let mut tree = Tree::none();
     let mut count: u64 = 0;
     let mut at: usize = 0;
@@ -98,23 +106,24 @@ fn run(input: &[u8]) {
         let command = number_8(rest, 0);
         let name = texts::name(rest);
         let body = texts::body(rest);
-        print_only(command, name, body);
-        tree = after(tree, command, name, body);
-        count = count_after(count, command, name, body);
+        print_only(rt, command, name, body)?;
+        tree = after(rt, tree, command, name, body)?;
+        count = count_after(rt, count, command, name, body)?;
         at = next(at, texts::size(rest), input.len());
     }
+    Ok(())
 }
 
 // The most bytes of commands.
 const MOST: usize = 65_536;
 
 // Every command of standard input, read into the room that is lent.
-fn run_read(room: &mut [u8]) {
-    let n = io::read_full(STDIN_FILENO, room);
-    run(&room[..n]);
+fn run_read(rt: &(impl Input + Print), room: &mut [u8]) -> io::Result<()> {
+    let n = shown::read_full(rt, room)?;
+    run(rt, &room[..n])
 }
 
-fn main() {
+fn main(rt: HostRuntime) -> io::Result<()> {
     let mut room = [0u8; MOST];
-    run_read(&mut room);
+    run_read(&rt, &mut room)
 }

@@ -1,52 +1,56 @@
 // Reads a plan from standard input and prints its classes and its round size, or where it is refused; run and compared with written-down
 // lines. Serves demand 1: a crew sees the number and the place of docs/refusals.md.
+#![tactic(auto)]
+
 ghost use Rattle.std.specs.Prelude.{◌<◌};
 
 use checks::Verdict;
-use libc::STDIN_FILENO;
 use shown::{number, pair, word};
+use std::io;
 use tree::Tree;
 
 // A refusal's number and place.
-fn stop(n: u8, place: usize) {
-    pair(b"stop ", n as u64, place as u64);
-    word(b"\n");
+fn stop(rt: &impl Print, n: u8, place: usize) -> io::Result<()> {
+    pair(rt, b"stop ", n as u64, place as u64)?;
+    word(rt, b"\n")
 }
 
 // The longest packet of a class, where it is a leaf.
-fn longest_of(tree: Tree, i: usize)
+fn longest_of(rt: &impl Print, tree: Tree, i: usize) -> io::Result<()>
     requires { i < 64 }
 {
     if sets::has(tree.leaves, i) {
-        number(b", longest ", tree.longest[i] as u64);
+        number(rt, b", longest ", tree.longest[i] as u64)?;
     }
+    Ok(())
 }
 
 // One class of a tree.
-fn class_line(tree: Tree, i: usize)
+fn class_line(rt: &impl Print, tree: Tree, i: usize) -> io::Result<()>
     requires { i < 64 }
 {
     if tree.count < i {
-        return;
+        return Ok(());
     }
-    number(b"class ", i as u64);
+    number(rt, b"class ", i as u64)?;
     if sets::has(tree.leaves, i) {
-        word(b": leaf");
+        word(rt, b": leaf")?;
     } else {
-        word(b": inner");
+        word(rt, b": inner")?;
     }
     let weight = tree.weight[i];
-    number(b", parent ", tree.parent[i] as u64);
-    number(b", weight ", weight.0 as u64);
-    longest_of(tree, i);
-    word(b"\n");
+    number(rt, b", parent ", tree.parent[i] as u64)?;
+    number(rt, b", weight ", weight.0 as u64)?;
+    longest_of(rt, tree, i)?;
+    word(rt, b"\n")
 }
 
 // Each class of a tree.
-fn class_lines(tree: Tree) {
+fn class_lines(rt: &impl Print, tree: Tree) -> io::Result<()> {
     for i in 1..Tree::CLASSES {
-        class_line(tree, i);
+        class_line(rt, tree, i)?;
     }
+    Ok(())
 }
 
 // The round size Q; 0 where the tree breaks the plan rules.
@@ -58,40 +62,40 @@ fn round_size(tree: Tree) -> u64 {
 }
 
 // An accepted plan: its first line ends with the rule of the round size where that is rule 2.
-fn accepted(tree: Tree, used: usize) {
-    number(b"plan ", tree.count as u64);
-    number(b" classes, Q ", round_size(tree));
-    number(b", ", used as u64);
-    word(b" bytes used");
+fn accepted(rt: &impl Print, tree: Tree, used: usize) -> io::Result<()> {
+    number(rt, b"plan ", tree.count as u64)?;
+    number(rt, b" classes, Q ", round_size(tree))?;
+    number(rt, b", ", used as u64)?;
+    word(rt, b" bytes used")?;
     if tree.follows {
-        word(b", rule 2");
+        word(rt, b", rule 2")?;
     }
-    word(b"\n");
-    class_lines(tree);
+    word(rt, b"\n")?;
+    class_lines(rt, tree)
 }
 
 // What the reader says of the input.
-fn answer(input: &[u8]) {
+fn answer(rt: &impl Print, input: &[u8]) -> io::Result<()> {
     let read = plan::read_plan(input);
     let verdict = read.verdict;
     let tree = read.tree;
     match verdict {
-        Verdict::Passed => accepted(tree, read.used),
-        Verdict::Refused(n, place) => stop(n, place),
+        Verdict::Passed => accepted(rt, tree, read.used),
+        Verdict::Refused(n, place) => stop(rt, n, place),
     }
 }
 
 // The input, or number 10 before all else.
-fn judged(input: &[u8]) {
+fn judged(rt: &impl Print, input: &[u8]) -> io::Result<()> {
     let verdict = checks::input_length(input.len());
     match verdict {
-        Verdict::Passed => answer(input),
-        Verdict::Refused(n, place) => stop(n, place),
+        Verdict::Passed => answer(rt, input),
+        Verdict::Refused(n, place) => stop(rt, n, place),
     }
 }
 
-fn main() {
+fn main(rt: HostRuntime) -> io::Result<()> {
     let mut input = [0u8; checks::MOST_INPUT + 1];
-    let n = io::read_full(STDIN_FILENO, &mut input);
-    judged(&input[..n]);
+    let n = shown::read_full(&rt, &mut input)?;
+    judged(&rt, &input[..n])
 }

@@ -2,13 +2,15 @@
 // The cases are the lines of its input: `# NAME` begins a case with no tree, `inner PARENT WEIGHT` and `leaf PARENT WEIGHT` add a class,
 // `wild COUNT` sets the class count, `capacity N`, `every N` and `request CLASS N` set what is asked, and `answer` prints the rates.
 // The expected lines are worked out by cases/rate_cases.py.
+#![tactic(auto)]
+
 ghost use Rattle.std.specs.Prelude.{◌≤◌, ◌<◌, length};
 
 use allot::Allotted;
 use checks::Verdict;
-use libc::STDIN_FILENO;
 use lines::Line;
 use shown::word;
+use std::io;
 use tree::{Class, Tree};
 use units::Weight;
 use words::Number;
@@ -26,7 +28,7 @@ fn after_space(line: &[u8], at: usize) -> usize
     requires { at ≤ length line.now }
     ensures { result ≤ length line.now }
 {
-    let space = bytes::scan::find(line, at, line.len(), b' ');
+    let space = at + words::place_of(&line[at..], b' ');
     if space == line.len() {
         return space;
     }
@@ -37,7 +39,7 @@ fn after_space(line: &[u8], at: usize) -> usize
 fn number_at(line: &[u8], at: usize) -> u64
     requires { at ≤ length line.now }
 {
-    let end = bytes::scan::find(line, at, line.len(), b' ');
+    let end = at + words::place_of(&line[at..], b' ');
     let number = words::read_number(&line[at..end]);
     match number {
         Number::Is(n) => n,
@@ -55,16 +57,16 @@ fn second(line: &[u8]) -> u64 {
 }
 
 // A case begins.
-fn begun(line: &[u8]) -> Case {
-    word(line);
-    word(b"\n");
+fn begun(rt: &impl Print, line: &[u8]) -> io::Result<Case> {
+    word(rt, line)?;
+    word(rt, b"\n")?;
     let tree = Tree::none();
     let requests = [0u64; Tree::CLASSES];
-    Case {
+    Ok(Case {
         tree,
         capacity: 0,
         requests,
-    }
+    })
 }
 
 // A class more; a leaf's longest packet is 1.
@@ -120,74 +122,77 @@ fn with_request(mut case: Case, line: &[u8]) -> Case {
 }
 
 // The rates of class number k; nothing where all are 0 and none has to be shown.
-fn print_rate(a: Allotted, k: usize, show: bool)
+fn print_rate(rt: &impl Print, a: Allotted, k: usize, show: bool) -> io::Result<()>
     requires { k < 64 }
 {
     let request = a.requests[k];
     let gets = a.gets[k];
     let unallotted = a.unallotted[k];
     if show || request != 0 || gets != 0 || unallotted != 0 {
-        shown::print(Line::Rate(k as u64, request, gets, unallotted));
+        shown::print(rt, Line::Rate(k as u64, request, gets, unallotted))?;
     }
+    Ok(())
 }
 
 // Where a tree is refused, and whether it is not.
-fn print_stop(verdict: Verdict) -> bool {
+fn print_stop(rt: &impl Print, verdict: Verdict) -> io::Result<bool> {
     match verdict {
-        Verdict::Passed => true,
+        Verdict::Passed => Ok(true),
         Verdict::Refused(n, place) => {
-            shown::print(Line::Stop(n as u64, place as u64));
-            false
+            shown::print(rt, Line::Stop(n as u64, place as u64))?;
+            Ok(false)
         }
     }
 }
 
 // The lines of an answer: each class, and any other number that is not 0.
-fn answered(case: Case) -> Case {
+fn answered(rt: &impl Print, case: Case) -> io::Result<Case> {
     let tree = case.tree;
     let requests = case.requests;
     let a = allot::rates(tree, case.capacity, requests);
     let verdict = a.verdict;
-    let passed = print_stop(verdict);
+    let passed = print_stop(rt, verdict)?;
     for k in 0..Tree::CLASSES {
-        print_rate(a, k, passed && k <= tree.count);
+        print_rate(rt, a, k, passed && k <= tree.count)?;
     }
-    case
+    Ok(case)
 }
 
 // One command.
-fn command(case: Case, line: &[u8]) -> Case {
+fn command(rt: &impl Print, case: Case, line: &[u8]) -> io::Result<Case> {
     if line.len() == 0 {
-        return case;
+        return Ok(case);
     }
     match line[0] {
-        b'#' => begun(line),
-        b'i' => with_class(case, line, false),
-        b'l' => with_class(case, line, true),
-        b'w' => with_count(case, line),
-        b'c' => with_capacity(case, line),
-        b'e' => with_every(case, line),
-        b'r' => with_request(case, line),
-        b'a' => answered(case),
-        _ => case,
+        b'#' => begun(rt, line),
+        b'i' => Ok(with_class(case, line, false)),
+        b'l' => Ok(with_class(case, line, true)),
+        b'w' => Ok(with_count(case, line)),
+        b'c' => Ok(with_capacity(case, line)),
+        b'e' => Ok(with_every(case, line)),
+        b'r' => Ok(with_request(case, line)),
+        b'a' => answered(rt, case),
+        _ => Ok(case),
     }
 }
 
 // Each line of a text.
-fn each_line(text: &[u8]) {
+fn each_line(rt: &impl Print, text: &[u8]) -> io::Result<()> {
     let mut case = begun(
+        rt,
         b"Rates: rate CLASS REQUEST GETS UNALLOTTED for each class, or stop NUMBER PLACE",
-    );
+    )?;
     let mut at = 0;
     while at < text.len() {
-        let end = bytes::scan::find(text, at, text.len(), b'\n');
-        case = command(case, &text[at..end]);
+        let end = at + words::place_of(&text[at..], b'\n');
+        case = command(rt, case, &text[at..end])?;
         at = end + 1;
     }
+    Ok(())
 }
 
-fn main() {
-    let mut input = io::large_buffer();
-    let n = io::read_full(STDIN_FILENO, &mut input);
-    each_line(&input[..n]);
+fn main(rt: HostRuntime) -> io::Result<()> {
+    let mut input = [0u8; 65_536];
+    let n = shown::read_full(&rt, &mut input)?;
+    each_line(&rt, &input[..n])
 }

@@ -2,13 +2,15 @@
 // a sum over their bytes. Where 128 is added to the first of the three, it does the same for the run over the second engine, and for the
 // lines that say why each leaf is silent and those of each class's totals, after the plan and after each event. The expected sums are
 // those of the second program's lines (bin/record writes both files). Serves demands 1 and 2.
+#![tactic(auto)]
+
 ghost use Rattle.std.specs.Prelude.{◌<◌};
 
-use libc::STDIN_FILENO;
 use lines::Line;
 use parts::PartRun;
 use shown::{number, word};
 use state::Link;
+use std::io;
 use tree::wide;
 
 // What was printed of a run so far: its lines, and a sum in which each byte counts by its place.
@@ -178,29 +180,29 @@ fn after_each(input: &[u8]) -> Both {
 }
 
 // How many lines, and the sum over them.
-fn show(tally: Tally) {
-    number(b" lines ", tally.lines);
-    number(b" sum ", tally.sum);
+fn show(rt: &impl Print, tally: Tally) -> io::Result<()> {
+    number(rt, b" lines ", tally.lines)?;
+    number(rt, b" sum ", tally.sum)
 }
 
 // What was told.
-fn show_both(both: Both) {
-    word(b" silent");
-    show(both.silent);
-    word(b" totals");
-    show(both.totals);
+fn show_both(rt: &impl Print, both: Both) -> io::Result<()> {
+    word(rt, b" silent")?;
+    show(rt, both.silent)?;
+    word(rt, b" totals")?;
+    show(rt, both.totals)
 }
 
 // The line of a run.
-fn show_run(k: usize, asked: bool, input: &[u8]) {
-    number(b"run ", k as u64);
-    show(whole(input));
+fn show_run(rt: &impl Print, k: usize, asked: bool, input: &[u8]) -> io::Result<()> {
+    number(rt, b"run ", k as u64)?;
+    show(rt, whole(input))?;
     if asked {
-        word(b" second");
-        show(whole_second(input));
-        show_both(after_each(input));
+        word(rt, b" second")?;
+        show(rt, whole_second(input))?;
+        show_both(rt, after_each(input))?;
     }
-    word(b"\n");
+    word(rt, b"\n")
 }
 
 // The most inputs.
@@ -210,12 +212,12 @@ const RUNS: usize = 10_000;
 const ASKED: usize = 8_388_608;
 
 // The number before the next input; 0 where there is none.
-fn next_head() -> usize {
+fn next_head(rt: &impl Input) -> io::Result<usize> {
     let mut head = [0u8; 3];
-    if io::read_full(STDIN_FILENO, &mut head) < 3 {
-        return 0;
+    if shown::read_full(rt, &mut head)? < 3 {
+        return Ok(0);
     }
-    wide(head[0]) * 65_536 + wide(head[1]) * 256 + wide(head[2])
+    Ok(wide(head[0]) * 65_536 + wide(head[1]) * 256 + wide(head[2]))
 }
 
 // The length of the input after it plus 1, at most what is refused as too long.
@@ -230,26 +232,27 @@ fn length_of(head: usize) -> usize
 }
 
 // Reads an input into a part of the buffer, and runs it.
-fn read_and_run(k: usize, asked: bool, part: &mut [u8]) {
-    let n = io::read_full(STDIN_FILENO, part);
-    show_run(k, asked, &part[..n]);
+fn read_and_run(rt: &(impl Input + Print), k: usize, asked: bool, part: &mut [u8]) -> io::Result<()> {
+    let n = shown::read_full(rt, part)?;
+    show_run(rt, k, asked, &part[..n])
 }
 
 // One run of an input of n bytes.
-fn one(k: usize, asked: bool, n: usize)
+fn one(rt: &(impl Input + Print), k: usize, asked: bool, n: usize) -> io::Result<()>
     requires { n < 65_538 }
 {
     let mut input = [0u8; checks::MOST_INPUT + 1];
-    read_and_run(k, asked, &mut input[..n]);
+    read_and_run(rt, k, asked, &mut input[..n])
 }
 
-fn main() {
+fn main(rt: HostRuntime) -> io::Result<()> {
     for k in 0..RUNS {
-        let head = next_head();
+        let head = next_head(&rt)?;
         let n = length_of(head);
         if n == 0 {
-            return;
+            return Ok(());
         }
-        one(k, ASKED <= head, n - 1);
+        one(&rt, k, ASKED <= head, n - 1)?;
     }
+    Ok(())
 }
