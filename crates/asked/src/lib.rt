@@ -23,7 +23,7 @@ pub struct Asked {
 }
 
 // The answer: the last class that has a line, and the rates.
-#[derive(Drop)]
+#[derive(Clone, Copy)]
 pub struct Answer {
     pub last: usize,
     pub allotted: Allotted,

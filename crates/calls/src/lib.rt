@@ -14,7 +14,7 @@ pub struct AfterFresh {
 }
 
 // What an arrival answers: its verdict, and the charged bytes that wait in its leaf then, the new packet included; 0 where it is refused.
-#[derive(Drop)]
+#[derive(Clone, Copy)]
 pub struct Arrival {
     pub verdict: Verdict,
     pub bytes: Bytes,
@@ -29,7 +29,7 @@ pub struct AfterArrival {
 
 // What a send answers: a verdict, the packet that goes with its class, the rounds opened in the call, and the bytes charged on the link
 // from the packet's acceptance to its end. All numbers of a refused one are 0.
-#[derive(Drop)]
+#[derive(Clone, Copy)]
 pub struct Departure {
     pub verdict: Verdict,
     pub class: usize,

@@ -15,7 +15,7 @@ use state::Link;
 
 // What a recording is judged to be: good, with the number of its claims; the place of the first false claim; or a refusal's number and
 // place.
-#[derive(Drop)]
+#[derive(Clone, Copy)]
 pub enum Judged {
     Good(usize),
     FalseAt(usize),
@@ -24,7 +24,7 @@ pub enum Judged {
 
 // How far a check has come: what the recording is judged to be so far, whether the check goes on, with which link, at which place, and how
 // many claims were true. At a false claim the link is the one after its send.
-#[derive(Drop)]
+#[derive(Clone, Copy)]
 pub struct Checked {
     pub judged: Judged,
     pub more: bool,

@@ -19,7 +19,7 @@ pub enum Why {
 }
 
 // One line for each thing.
-#[derive(Drop)]
+#[derive(Clone, Copy)]
 pub enum Line {
     // classes, Q
     Link(u64, u64),

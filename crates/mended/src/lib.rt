@@ -25,7 +25,7 @@ pub struct Change {
 }
 
 // The changes in class order: so many, and 0 in the other entries.
-#[derive(Drop)]
+#[derive(Clone, Copy)]
 pub struct Changes {
     pub count: usize,
     pub at: [Change; Tree::CLASSES],

@@ -9,7 +9,7 @@ use units::Bytes;
 // What is offered: the verdict of the arrival, D, the charged bytes that would then wait in its leaf, and how many bytes the whole link
 // would
 // send at most until the packet has gone. Both are 0 where it would be refused.
-#[derive(Drop)]
+#[derive(Clone, Copy)]
 pub struct Offered {
     pub verdict: Verdict,
     pub bytes: Bytes,

@@ -15,7 +15,7 @@ use tree::Tree;
 use units::{Bytes, Weight};
 
 // What is promised: a verdict, and how many bytes the whole link sends at most until the packet has gone.
-#[derive(Drop)]
+#[derive(Clone, Copy)]
 pub struct Promised {
     pub verdict: Verdict,
     pub bytes: Bytes,

@@ -14,7 +14,7 @@ use tree::wide;
 use units::Bytes;
 
 // Why a leaf sends nothing.
-#[derive(Drop)]
+#[derive(Clone, Copy)]
 pub enum Reason {
     // it holds no packet
     Empty,
@@ -27,7 +27,7 @@ pub enum Reason {
 }
 
 // The answer: a reason, or a refusal's number and place.
-#[derive(Drop)]
+#[derive(Clone, Copy)]
 pub enum Silence {
     Because(Reason),
     NotTold(u8, usize),

@@ -20,6 +20,43 @@ use Rattle.rules.proofs.Sizes.{active_part}
 use borrow.Author.Rules.{rules}
 use Rattle.active.proofs.active_size.Given as goal
 
+module _ (t : Tree) (active : ℕ) where
+  -- what the classes 1 to n add
+  abbrev pub weighs : ℕ → ℕ
+  weighs n = sum_to (if_active active (weight_of t)) n
+
+  abbrev pub costs : ℕ → ℕ
+  costs n = sum_to (if_active active (longest_cost t)) n
+
+  pub weighs_more : (i : ℕ) → 1 ≤ i → weighs (i + 1 - 1) ≡ weighs (i - 1) + cond (has active i) (weight_of t i) 0
+  unfolding if_active
+  weighs_more i l = sum_step _ i l
+
+  pub costs_more : (i : ℕ) → 1 ≤ i → costs (i + 1 - 1) ≡ costs (i - 1) + cond (has active i) (cond (has t.leaves i) (cost_of (longest_of t i))
+      0) 0
+  unfolding if_active longest_cost is_leaf
+  costs_more i l = sum_step _ i l
+
+  pub weighs_most : PlanRules t → (n : ℕ) → n ≤ t.count → weighs n ≤ 63_000_000
+  unfolding all_weights
+  weighs_most rules n u =
+      omega (
+        arith,
+        sum_grows (if_active active (weight_of t)) n t.count u,
+        active_part active (weight_of t) t.count,
+        weights_ceiling t rules,
+      )
+
+  pub costs_most : PlanRules t → (n : ℕ) → n ≤ t.count → costs n ≤ 63 * most_cost
+  unfolding all_longest
+  costs_most rules n u =
+      omega (
+        arith,
+        sum_grows (if_active active (longest_cost t)) n t.count u,
+        active_part active (longest_cost t) t.count,
+        longest_ceiling t rules,
+      )
+
 abbrev pub invariant-loop-i : goal.invariant-loop-i
 invariant-loop-i l =
     let t = tree_in l.shape in
