@@ -10,7 +10,7 @@ ghost use Rattle.lines.specs.Laid.{end_of};
 ghost use Rattle.lines.specs.declared.Line.TheVariants.{In, Out, Silent};
 
 // Why a leaf is silent, in a word.
-#[derive(Drop)]
+#[derive(Clone, Copy)]
 pub enum Why {
     Empty,
     Waits,

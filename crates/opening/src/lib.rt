@@ -1,5 +1,7 @@
 // A round opens: main or surplus, and what each account then shares out; the tree (`shape`), the weight sums and the accounts
 // (`state::lent_accounts`) are lent arrays. Named for specs/Opens. Serves demand 2.
+#![tactic(auto)]
+
 ghost use Rattle.std.specs.Prelude.{◌≡◌, true, false, not, ◌&&◌, length, get_or, set, ◌+◌, ◌*◌, ◌≤◌, ◌<◌};
 ghost use Rattle.state.specs.Account.{account_of, funds_of, zip_accounts};
 ghost use Rattle.rules.specs.Steps.{CanOpen, CanResize};

@@ -1,5 +1,7 @@
 // Why a leaf is silent: for any link and any class number one of four reasons, with the exact shortfall, or a refusal as for an arrival
 // (R207 to R213). `why` is an entry for callers outside: it asks nothing (R196), and the link that it reads stays as it is.
+#![tactic(auto)]
+
 ghost use Rattle.std.specs.Prelude.{◌≡◌, true, ◌+◌, ◌<◌};
 ghost use Rattle.units.specs.Cost.{cost_of};
 ghost use Rattle.tree.specs.Class.{is_leaf};

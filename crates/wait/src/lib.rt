@@ -1,1 +1,3 @@
 // The bounded wait (demand 3): a theorem about the rules of sending, carried to the library's calls. No code.
+
+#![tactic(auto)]
