@@ -1,5 +1,7 @@
 // What a plan promises of a packet's wait (R237 to R241): the bound of demand 3 as a number, for any tree, any class number and any D; and
 // of a leaf the two that a planner asks for. Entries for callers outside: they ask nothing (R196). Serves demands 1 and 3.
+#![tactic(auto)]
+
 ghost use Rattle.std.specs.Prelude.{true, ◌≡◌, ◌*◌, ◌≤◌, ◌<◌};
 ghost use Rattle.checks.specs.declared.Verdict.TheVariants.{Passed, Refused};
 ghost use Rattle.units.specs.Cost.{cost_of, most_cost};

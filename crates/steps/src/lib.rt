@@ -1,6 +1,8 @@
 // The steps of a link over lent number arrays: a whole send. What they are made of stands in the modules, and in
 // `active` and `opening` what opens a round.
 // Serves demand 2: a packet goes by R119 to R146.
+#![tactic(auto)]
+
 mod arrival;
 mod inactive;
 mod leaf;

@@ -2,21 +2,13 @@
 use mathlib.Core.List.{List}
 use mathlib.Core.Path.{◌≡◌, refl, sym, ap, ◌∙◌}
 use Prim.Native.Nat.{ℕ, ◌+◌}
-use native.Mathlib.Nat.{zero-add}
 use native.Mathlib.Omega.{arith}
 use lib.ListN.{length, take, drop, length-drop}
-use lib.Seq.{take-length}
-use Rattle.bytes.specs.Bytes.{index_of, slice}
 use Rattle.words.specs.declared.Number.{Number}
 use Rattle.words.specs.declared.Number.TheVariants.{Is, No}
 use Rattle.words.specs.declared.Pair.TheVariants.{Other}
-use Rattle.words.specs.Word.{word_number, asks, pair_of}
+use Rattle.words.specs.Word.{index_of, word_number, asks, pair_of}
 use Rattle.words.proofs.Reading.{read_empty}
-
--- the place that the library's search finds
-pub found : (text : List ℕ) (at : ℕ) → at ≡ 0 + index_of 61 (slice 0 (length text) text) → at ≡ index_of 61 text
-unfolding slice
-found text at e = e ∙ zero-add (index_of 61 (slice 0 (length text) text)) ∙ ap (index_of 61) (take-length text)
 
 -- two numbers, the second of which is none
 asks_none : (class : Number) → asks class No ≡ Other

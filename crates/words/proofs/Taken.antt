@@ -11,13 +11,12 @@ use borrow.Author.Tests.{eqb-true, leb-true, le-leb, lt-ltb, ne_eqb}
 use lib.Dec.{eqb, leb}
 use lib.ListN.{length, take, drop, get_or}
 use lib.Seq.{split_at, take-append_seam, drop-append-add}
-use Rattle.bytes.specs.Bytes.{index_of, index_after}
 use Rattle.digits.specs.Decimal.{decimal}
 use Rattle.digits.proofs.Decimals.{AllDigits, value, decimal_digits, decimal_value, decimal_zero, decimal_leading}
 use Rattle.words.specs.declared.Number.{Number}
 use Rattle.words.specs.declared.Number.TheVariants.{Is, No}
 use Rattle.words.specs.declared.Pair.TheVariants.{Asks, Other}
-use Rattle.words.specs.Word.{is_digit, all_digits, value_of, word_number, asks, pair_of}
+use Rattle.words.specs.Word.{is_digit, all_digits, value_of, word_number, index_after, index_of, asks, pair_of}
 use Rattle.words.proofs.Reading.{and_after, digit_in, first_digit}
 use Rattle.words.proofs.Pairs.{pair_none}
 

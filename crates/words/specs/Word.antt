@@ -1,6 +1,5 @@
 -- What a planner's words mean (R175, R177): a number, and CLASS=REQUEST.
-use Rattle.std.specs.Prelude.{Bool, true, false, ◌&&◌, cond, List, [], ◌∷◌, ℕ, ◌+◌, ◌-◌, ◌*◌, ◌^◌, leb, ltb, length, take, drop}
-use Rattle.bytes.specs.Bytes.{index_of}
+use Rattle.std.specs.Prelude.{Bool, true, false, ◌&&◌, cond, eqb, List, [], ◌∷◌, ℕ, suc, ◌+◌, ◌-◌, ◌*◌, ◌^◌, leb, ltb, length, take, drop}
 use Rattle.words.specs.declared.Number.{Number}
 use Rattle.words.specs.declared.Number.TheVariants.{Is, No}
 use Rattle.words.specs.declared.Pair.{Pair}
@@ -28,6 +27,15 @@ value_of (d ∷ ds) = (d - 48) * 10 ^ length ds + value_of ds
 -- a number: one digit or more, of a value below 2 to the power 64 (R175)
 unfoldable pub word_number : List ℕ → Number
 word_number text = cond (digits text && ltb (value_of text) (2 ^ 64)) (Is (value_of text)) No
+
+-- the place of the first such byte; the length where there is none
+unfoldable pub index_after : Bool → ℕ → ℕ
+index_after true rest = 0
+index_after false rest = suc rest
+
+unfoldable pub index_of : ℕ → List ℕ → ℕ
+index_of byte [] = 0
+index_of byte (b ∷ bs) = index_after (eqb b byte) (index_of byte bs)
 
 -- a class and a request: two numbers, the class at most 63 (R177)
 abbrev pub asks : Number → Number → Pair

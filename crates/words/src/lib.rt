@@ -1,7 +1,9 @@
 // A planner's words (R175, R177): a number, and CLASS=REQUEST, from any bytes. Entries for callers outside: they ask nothing.
-ghost use Rattle.std.specs.Prelude.{◌≡◌, ◌<◌};
+#![tactic(auto)]
+
+ghost use Rattle.std.specs.Prelude.{◌≡◌, ◌<◌, ◌≤◌, length};
 ghost use Rattle.words.specs.Step.{with_digit, one_more};
-ghost use Rattle.words.specs.Word.{word_number, asks, pair_of};
+ghost use Rattle.words.specs.Word.{index_of, word_number, asks, pair_of};
 
 // What a word says as a number: one digit or more, of a value below 2 to the power 64; or no number.
 #[derive(Drop)]
@@ -86,11 +88,24 @@ fn both(class: Number, request: Number) -> Pair
     Pair::Asks(c as usize, n)
 }
 
+// The place of the first such byte; the length where there is none.
+pub fn place_of(text: &[u8], byte: u8) -> usize
+    ensures place { result ≡ index_of byte text.now }
+    ensures within { result ≤ length text.now }
+{
+    for (i, other) in text.iter().enumerate() {
+        if *other == byte {
+            return i;
+        }
+    }
+    text.len()
+}
+
 // The class and the request that a word names.
 pub fn read_pair(text: &[u8]) -> Pair
     ensures { result ≡ pair_of text.now }
 {
-    let at = bytes::scan::find(text, 0, text.len(), b'=');
+    let at = place_of(text, b'=');
     if at == text.len() {
         return Pair::Other;
     }
