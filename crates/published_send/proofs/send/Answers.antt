@@ -25,4 +25,9 @@ returns c =
     let e =
     c.goes-gone.ensures.packet_value c.next_sender-next.result.size (visited a.x).after.state.round.place
     (record { wide = wide_turn _ c.requires.0 _ _ _ _ _ a; next = sends_next _ c.requires.0 _ _ _ _ _ a })
-    in record { wholly = rw c.has_gone.ensures (sends_wholly _ c.requires.0 _ _ _ _ _ a c.goes-gone.result _ e.0 e.1); kept = rw c.has_gone.ensures (c.next_sender-next.ensures.kept); near = rw c.has_gone.ensures (c.goes-gone.ensures.near) }
+    in
+    record {
+      wholly = rw c.has_gone.ensures (sends_wholly _ c.requires.0 _ _ _ _ _ a c.goes-gone.result _ e.0 e.1);
+      kept = rw c.has_gone.ensures c.next_sender-next.ensures.kept;
+      near = c.goes-gone.ensures.near;
+    }

@@ -18,4 +18,8 @@ open_until_sent-requires c =
 
 pub returns : goal.returns
 returns c =
-    let o = c.open_until_sent.ensures in record { arrived = λ l h. o.0 (means l) (under_start _ _ _ _ _ _ _ _ _ h _ c.round_active-active.ensures); kept = round_kept _ _ _ _ _ (rules_of _ _ _ _ _ _ _ _ _ c.requires.0.1) c.round_active-active.ensures o.1 c.refresh.ensures }
+    let o = c.open_until_sent.ensures in
+    record {
+      arrived = λ l h. o.arrived (means l) (under_start _ _ _ _ _ _ _ _ _ h _ c.round_active-active.ensures);
+      kept = round_kept _ _ _ _ _ (rules_of _ _ _ _ _ _ _ _ _ c.requires.0.1) c.round_active-active.ensures o.known_value c.refresh.ensures;
+    }
