@@ -1,5 +1,7 @@
 // A planner's question and its answer (R176 to R184): the words, one by one, give a capacity and a table of requests; on the plan's bytes
 // these give the rates. No function asks anything but `line`, whose class is a number of the table.
+#![tactic(auto)]
+
 ghost use Rattle.std.specs.Prelude.{◌≡◌, ◌<◌};
 ghost use Rattle.checks.specs.declared.Verdict.TheVariants.{Passed};
 ghost use Rattle.words.specs.declared.Pair.TheVariants.{Asks};

@@ -1,6 +1,8 @@
 // An arrival, a send and the panel's reads over the fields of a link, with its waiting places lent: worked out once, here. Entries for
 // callers outside: they ask nothing (R196). `lent` makes the calls on a lent link of them, and `link` the calls by value of those.
 // Serves demand 1 (numbers 11 to 15, a refused call hands the record back unaltered) and demand 2.
+#![tactic(auto)]
+
 ghost use Rattle.std.specs.Prelude.{List, ◌≡◌, ℕ};
 ghost use Rattle.calls.specs.Panel.{TellsTotals, TellsClass};
 ghost use Rattle.checks.specs.declared.Verdict.TheVariants.{Refused};
