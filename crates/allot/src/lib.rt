@@ -19,7 +19,7 @@ use units::Weight;
 
 // The answer: a verdict, and by class number what each class requests, what it gets (class 0: what the root has) and what stays
 // unallotted at it.
-#[derive(Drop)]
+#[derive(Clone, Copy)]
 pub struct Allotted {
     pub verdict: Verdict,
     pub requests: [u64; Tree::CLASSES],
