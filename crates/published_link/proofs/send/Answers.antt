@@ -8,6 +8,7 @@ use lib.ListN.{get_or}
 use borrow.Author.Tests.{not-true, not-false, le-leb, lt-leb}
 use Rattle.checks.proofs.Laws.{not_true_and_false}
 use Rattle.state.specs.State.{meaning}
+use Rattle.rules.specs.Active.{some_waits}
 use Rattle.rules.proofs.Counted.{root_counts_some}
 use Rattle.published.specs.declared.Second.{Second}
 use Rattle.published.specs.Second.{SoundSecond}
@@ -21,8 +22,8 @@ none_waits : (l : Second) → SoundSecond l → get_or l.link.totals.packets 0 0
 none_waits l sound e =
     root_counts_some (meaning l.link) sound.state.state ∙ lt-leb 1 (get_or l.link.totals.packets 0 0) (omega (arith, e))
 
-some_waits : (l : Second) → SoundSecond l → (get_or l.link.totals.packets 0 0 ≡ 0 → ⊥) → some_waits (meaning l.link) ≡ true
-some_waits l sound e =
+some_waits_lem : (l : Second) → SoundSecond l → (get_or l.link.totals.packets 0 0 ≡ 0 → ⊥) → some_waits (meaning l.link) ≡ true
+some_waits_lem l sound e =
     root_counts_some (meaning l.link) sound.state.state ∙ le-leb 1 (get_or l.link.totals.packets 0 0) (omega (arith, e))
 
 pub returns-then-not-is_sound : goal.returns-then-not-is_sound
@@ -42,11 +43,11 @@ goes-requires c =
     record {
       sound = sound;
       shape = shaped_second c.args.second _ c.well_formed.0;
-      waits = some_waits c.args.second sound c.if-packets-eq0.false;
+      waits = some_waits_lem c.args.second sound c.if-packets-eq0.false;
     }
 
 pub returns : goal.returns
 returns c =
     let sound = c.is_sound.ensures.sound c.if-not-is_sound.false in
     send_goes c.args.second (shaped_second c.args.second _ c.well_formed.0) sound c.goes.result
-    (some_waits c.args.second sound c.if-packets-eq0.false) c.goes.ensures
+    (some_waits_lem c.args.second sound c.if-packets-eq0.false) c.goes.ensures
