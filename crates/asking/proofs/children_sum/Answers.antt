@@ -1,7 +1,7 @@
 -- `children_sum` meets its contract.
 use mathlib.Core.Bool.{Bool, cond, ◌&&◌}
 use mathlib.Core.Path.{◌≡◌, sym, ap, ap₂, ◌∙◌}
-use Prim.Native.Nat.{ℕ, ◌+◌, ◌-◌, ◌*◌, ◌≤◌, ◌<◌}
+use Prim.Native.Nat.{ℕ, ◌+◌, ◌-◌, ◌≤◌, ◌<◌}
 use native.Mathlib.Omega.{arith}
 use lib.Dec.{eqb}
 use Rattle.sets.specs.Set.{has}
@@ -13,7 +13,6 @@ use Rattle.tree.proofs.Sums.{sum_none}
 use Rattle.shape.specs.Shape.{tree_in}
 use Rattle.rules.proofs.Shares.{weight_most}
 use Rattle.asking.proofs.Laws.{adds_to, sum_on, sum_whole, cond_most}
-use borrow.Author.Rules.{rules}
 use Rattle.asking.proofs.children_sum.Goals as goal
 use Rattle.asking.proofs.children_sum.Goals.{In-loop-i, Start}
 

@@ -1,6 +1,5 @@
 -- `hand` meets its contract.
 use mathlib.Core.Path.{refl}
-use borrow.Author.Rules.{rules}
 use Rattle.asking.proofs.hand.Goals as goal
 
 pub hand_down-requires : goal.hand_down-requires

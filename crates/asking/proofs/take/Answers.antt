@@ -1,6 +1,5 @@
 -- `take` meets its contract.
 use mathlib.Core.Path.{refl}
-use borrow.Author.Rules.{rules}
 use Rattle.asking.proofs.take.Goals as goal
 
 pub take_quota-b-requires : goal.take_quota-b-requires

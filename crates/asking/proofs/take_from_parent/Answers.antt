@@ -4,7 +4,6 @@ use native.Mathlib.Omega.{arith}
 use lib.ListN.{length-set}
 use lib.Seq.{get_or-set_other}
 use Rattle.state.specs.Account.{no_account}
-use borrow.Author.Rules.{rules}
 use Rattle.asking.proofs.take_from_parent.Goals as goal
 
 pub take-requires : goal.take-requires

@@ -1,6 +1,5 @@
 -- `with_weight` meets its contract.
 use native.Mathlib.Omega.{arith}
-use borrow.Author.Rules.{rules}
 use Rattle.asking.proofs.with_weight.Goals as goal
 
 pub returns-then-on : goal.returns-then-on

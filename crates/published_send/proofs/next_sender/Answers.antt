@@ -4,7 +4,6 @@ use Prim.Native.Nat.{ℕ}
 use Rattle.sets.specs.Set.{Both}
 use Rattle.shape.specs.Shape.{tree_in}
 use Rattle.published_send.proofs.Starts.{wide_of, low_of, lent_start, lying_start, found_now, none_now}
-use borrow.Author.Rules.{rules}
 use Rattle.published_send.proofs.next_sender.Goals as goal
 use Rattle.published_send.proofs.next_sender.Goals.{After-both-leaves}
 

@@ -1,7 +1,6 @@
 -- `send` meets its contract: the leaf that was found sends by the first engine's own step.
 use Rattle.published.specs.Visiting.{visited}
 use Rattle.published_send.proofs.Ends.{sends_next, wide_turn, sends_wholly}
-use borrow.Author.Rules.{rules}
 use Rattle.published_send.proofs.send.Goals as goal
 
 pub next_sender-next-requires : goal.next_sender-next-requires

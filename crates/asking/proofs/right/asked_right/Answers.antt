@@ -1,8 +1,7 @@
 -- `right::asked_right` meets its contract.
 use mathlib.Core.Path.{◌≡◌, sym, ap, subst, ◌∙◌}
-use Prim.Native.Nat.{ℕ, ◌+◌, ◌-◌, ◌≤◌, ◌<◌}
+use Prim.Native.Nat.{ℕ, ◌+◌, ◌<◌}
 use native.Mathlib.Decide.{ℕ_discrete}
-use borrow.Author.Tests.{not-true, not-false}
 use Rattle.checks.specs.Check.{Exactly}
 use Rattle.checks.proofs.Laws.{exactly_yes, exactly_no, not_true_and_false}
 use Rattle.sets.specs.Set.{has}
@@ -16,7 +15,6 @@ use Rattle.asking.proofs.Flagged.{flags_say, flags_of}
 use native.Mathlib.Omega.{arith}
 use Rattle.published.specs.Second.{means}
 use Rattle.asking.specs.Right.{ClassAsked}
-use borrow.Author.Rules.{rules}
 use Rattle.asking.proofs.right.asked_right.Goals as goal
 use Rattle.asking.proofs.right.asked_right.Goals.{After-flags_right}
 

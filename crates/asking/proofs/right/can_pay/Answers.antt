@@ -1,7 +1,6 @@
 -- `right.can_pay` meets its contract.
 use mathlib.Core.Path.{sym}
 use Rattle.asking.proofs.Flagged.{pays_none, pays_some}
-use borrow.Author.Rules.{rules}
 use Rattle.asking.proofs.right.can_pay.Goals as goal
 
 pub returns-then-owed-eq0 : goal.returns-then-owed-eq0

@@ -4,7 +4,6 @@ use mathlib.Core.Path.{ap, ◌∙◌}
 use native.Mathlib.Omega.{arith}
 use Rattle.sets.specs.Set.{has}
 use Rattle.sets.proofs.Laws.{has_not}
-use borrow.Author.Rules.{rules}
 use Rattle.asking.proofs.right.yet_to_ask.Goals as goal
 
 pub returns : goal.returns

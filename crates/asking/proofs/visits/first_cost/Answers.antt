@@ -3,7 +3,6 @@ use mathlib.Core.Path.{ap, ◌∙◌}
 use Prim.Native.Nat.{ℕ}
 use lib.ListN.{get_or}
 use Rattle.units.specs.Cost.{cost_of}
-use borrow.Author.Rules.{rules}
 use Rattle.asking.proofs.visits.first_cost.Goals as goal
 
 pub returns : goal.returns

@@ -1,11 +1,7 @@
 -- `visits.visit` meets its contract.
 use mathlib.Core.Path.{refl}
-use Prim.Native.Nat.{◌-◌, ◌≤◌, ◌<◌}
+use Prim.Native.Nat.{◌<◌}
 use native.Mathlib.Omega.{arith}
-use Rattle.published.specs.Asking.{Published}
-use Rattle.published.specs.Sound.{SoundPublished, WidePublished}
-use Rattle.asking.specs.Lent.{Lent}
-use Rattle.asking.specs.Coming.{Lying, Reached}
 use Rattle.asking.proofs.Reaches.{reached_none, reached_asker, reached_hit, reached_pass}
 use Rattle.asking.proofs.visits.visit.Goals as goal
 use Rattle.asking.proofs.visits.visit.Goals.{Else-i-eq64}

@@ -1,12 +1,9 @@
 -- The loop of `visits.visit`.
-use mathlib.Core.Path.{refl}
-use Prim.Native.Nat.{◌-◌, ◌≤◌, ◌<◌}
-use native.Mathlib.Omega.{arith}
+use Prim.Native.Nat.{◌-◌, ◌≤◌}
 use Rattle.published.specs.Asking.{Published}
 use Rattle.published.specs.Sound.{SoundPublished, WidePublished}
 use Rattle.asking.specs.Lent.{Lent}
 use Rattle.asking.specs.Coming.{Lying, Reached}
-use Rattle.asking.proofs.Reaches.{reached_none, reached_asker, reached_hit, reached_pass}
 use Rattle.asking.proofs.visits.visit.Given as goal
 
 abbrev pub invariant-loop-leaves : goal.invariant-loop-leaves

@@ -1,9 +1,8 @@
 -- `rounds::asked_first` meets its contract.
 use mathlib.Core.Bool.{Bool}
-use mathlib.Core.Path.{◌≡◌, sym, ap, ◌∙◌}
+use mathlib.Core.Path.{sym, ap, ◌∙◌}
 use Rattle.rules.specs.Opening.{kind_is}
 use Rattle.published.specs.Visiting.{asked_first}
-use borrow.Author.Rules.{rules}
 use Rattle.published_send.proofs.rounds.asked_first.Goals as goal
 
 pub returns-then-surplus : goal.returns-then-surplus

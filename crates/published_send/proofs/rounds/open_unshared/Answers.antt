@@ -1,7 +1,6 @@
 -- `rounds::open_unshared` meets its contract.
-use mathlib.Core.Path.{◌≡◌, refl, ap, ◌∙◌}
+use mathlib.Core.Path.{refl, ap, ◌∙◌}
 use Rattle.published.specs.Visiting.{asked_first}
-use borrow.Author.Rules.{rules}
 use Rattle.published_send.proofs.rounds.open_unshared.Goals as goal
 
 pub begin_round-begun-requires : goal.begin_round-begun-requires

@@ -1,14 +1,7 @@
 -- `rounds::open_until_sent` meets its contract.
-use mathlib.Core.Path.{refl, subst}
-use Prim.Native.Nat.{ℕ, ◌-◌}
-use native.Mathlib.Omega.{arith}
-use Rattle.sets.specs.Set.{Both}
-use Rattle.shape.specs.Shape.{tree_in}
+use Prim.Native.Nat.{◌-◌}
 use Rattle.published.specs.Asking.{Published}
-use Rattle.published.specs.Visiting.{visited, opened_published}
 use Rattle.published_send.specs.Under.{Under}
-use Rattle.published_send.proofs.Rounding.{can_of, way_of, left_of_lem, lent_open, lying_open, under_found, under_on}
-use borrow.Author.Rules.{rules}
 use Rattle.published_send.proofs.rounds.open_until_sent.Given as goal
 
 abbrev pub invariant-loop-in_force : goal.invariant-loop-in_force
