@@ -9,20 +9,21 @@ ghost use Rattle.calls.specs.Panel.{TellsTotals, TellsClass};
 ghost use Rattle.calls.specs.Send.{send_leaves, Sends};
 
 use fields::{Arrival, ClassTotals, Departure, PanelTotals};
-use state::{Link, Packet, Round, Totals};
+use state::{Account, Link, Packet};
 
 // The lists of these parts of a lent record have the lengths of their arrays: it is told here, and no code.
-fn told(totals: &Totals, round: &Round)
-    ensures packets { length totals.now.packets ≡ 64 }
-    ensures bytes { length totals.now.bytes ≡ 64 }
-    ensures accounts { length round.now.accounts ≡ 64 }
-{}
+fn told(packets: &[u64; 64], bytes: &[u64; 64], accounts: &[Account; 64])
+    ensures packets { length packets.now ≡ 64 }
+    ensures bytes { length bytes.now ≡ 64 }
+    ensures accounts { length accounts.now ≡ 64 }
+{
+}
 
 // An arrival on a lent link: any class number, any length and any tag. A refused one leaves the record as it was.
 pub fn arrive(link: &mut Link, class: usize, packet: Packet) -> Arrival
     ensures { Arrives link.old class packet (arrival_leaves result link.new) }
 {
-    told(&link.totals, &link.round);
+    told(&link.totals.packets, &link.totals.bytes, &link.round.accounts);
     let placed = fields::arrive_in(
         link.tree,
         link.start,
@@ -45,7 +46,7 @@ pub fn arrive(link: &mut Link, class: usize, packet: Packet) -> Arrival
 pub fn send(link: &mut Link) -> Departure
     ensures { Sends link.old (send_leaves result link.new) }
 {
-    told(&link.totals, &link.round);
+    told(&link.totals.packets, &link.totals.bytes, &link.round.accounts);
     let went = fields::send_of(
         link.tree,
         link.start,
