@@ -1,6 +1,8 @@
 // The run without text: what the calls of a run answer, each as eight numbers in a lent buffer, on a link that lies in number arrays of the
 // caller's. `burst` is an entry for callers outside: it asks nothing, and decides once whether the link is sound; the step below it,
 // `event`, is for the runs of the library alone. Serves demands 1 and 2: R339 to R344.
+#![tactic(auto)]
+
 pub mod call;
 pub mod event;
 pub mod lent;

@@ -1,5 +1,7 @@
 // A class asks for its quota (section IV of the published HLS paper), over lent number arrays, the tree among them (`shape`). Named for
 // published/specs/Asking.
+#![tactic(auto)]
+
 mod right;
 mod visits;
 

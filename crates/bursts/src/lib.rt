@@ -1,6 +1,8 @@
 // The library's burst for a box in C or Rust (R349): many events in one call, on a link that lies in the caller's arrays. It is exported by
 // itself, so that the compiler sees one caller of the step; `bin/native` joins it to the archive of `cometbanjo`. It asks nothing of its
 // caller. Serves demands 1 and 2.
+#![tactic(auto)]
+
 ghost use Rattle.std.specs.Prelude.{◌≡◌};
 ghost use Rattle.answers.specs.Burst.{link_in};
 ghost use Rattle.bursts.specs.Bursting.{burst_said, CallBursts};

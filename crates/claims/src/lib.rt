@@ -1,6 +1,8 @@
 // Check another box's run (R295 to R307): a recording is a plan and its events, each send followed by a claim of what was sent. Entries for
 // callers outside: they ask nothing.
 // Serves demands 1 and 2: a recording is judged as specs/Recording says, whatever its bytes are.
+#![tactic(auto)]
+
 mod in_place;
 
 ghost use Rattle.std.specs.Prelude.{◌≡◌};

@@ -1,6 +1,8 @@
 // The library for a box in C or Rust: the calls on a link that lies in number arrays of the caller's, and on a plan's bytes (module plans).
 // Each says what the library says of the same link (specs/Calls), and no exported function asks anything of its caller.
 // Serves demands 1 to 3: R346 to R348, R350 to R352.
+#![tactic(auto)]
+
 mod numbers;
 mod offer;
 mod plans;

@@ -1,5 +1,7 @@
 // What the desk asks of a recorded run: where it ends (R220), and why a class is silent then, as a line (R218, R219). Entries for callers
 // outside: they ask nothing. Serves demands 1 and 2.
+#![tactic(auto)]
+
 ghost use Rattle.std.specs.Prelude.{◌≡◌, suc, length};
 ghost use Rattle.sound.specs.Sound.{SoundLink};
 ghost use Rattle.desk.specs.Ending.{end_in, run_end};

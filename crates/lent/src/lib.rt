@@ -1,18 +1,29 @@
 // The box's loop keeps one link record and lends it to both calls (R164): an arrival and a send behind `&mut`; and to what the panel asks
 // (R280 to R282). Entries for callers outside: they ask nothing.
 // Serves demands 1 and 2: the answer and the record at exit are those of the calls by value, by the same definitions.
-ghost use Rattle.std.specs.Prelude.{◌≡◌};
+#![tactic(auto)]
+
+ghost use Rattle.std.specs.Prelude.{◌≡◌, length};
 ghost use Rattle.calls.specs.Arrival.{arrival_leaves, Arrives};
 ghost use Rattle.calls.specs.Panel.{TellsTotals, TellsClass};
 ghost use Rattle.calls.specs.Send.{send_leaves, Sends};
 
 use fields::{Arrival, ClassTotals, Departure, PanelTotals};
-use state::{Link, Packet};
+use state::{Account, Link, Packet};
+
+// The lists of these parts of a lent record have the lengths of their arrays: it is told here, and no code.
+fn told(packets: &[u64; 64], bytes: &[u64; 64], accounts: &[Account; 64])
+    ensures packets { length packets.now ≡ 64 }
+    ensures bytes { length bytes.now ≡ 64 }
+    ensures accounts { length accounts.now ≡ 64 }
+{
+}
 
 // An arrival on a lent link: any class number, any length and any tag. A refused one leaves the record as it was.
 pub fn arrive(link: &mut Link, class: usize, packet: Packet) -> Arrival
     ensures { Arrives link.old class packet (arrival_leaves result link.new) }
 {
+    told(&link.totals.packets, &link.totals.bytes, &link.round.accounts);
     let placed = fields::arrive_in(
         link.tree,
         link.start,
@@ -25,7 +36,8 @@ pub fn arrive(link: &mut Link, class: usize, packet: Packet) -> Arrival
         class,
         packet,
     );
-    link.held = placed.held;
+    let held = placed.held;
+    link.held = held;
     link.totals = placed.totals;
     placed.answer
 }
@@ -34,6 +46,7 @@ pub fn arrive(link: &mut Link, class: usize, packet: Packet) -> Arrival
 pub fn send(link: &mut Link) -> Departure
     ensures { Sends link.old (send_leaves result link.new) }
 {
+    told(&link.totals.packets, &link.totals.bytes, &link.round.accounts);
     let went = fields::send_of(
         link.tree,
         link.start,
@@ -44,8 +57,10 @@ pub fn send(link: &mut Link) -> Departure
         &link.tags,
         &link.marks,
     );
-    link.start = went.start;
-    link.held = went.held;
+    let start = went.start;
+    let held = went.held;
+    link.start = start;
+    link.held = held;
     link.totals = went.totals;
     link.round = went.round;
     went.answer

@@ -2,6 +2,8 @@
 // (R196).
 // The calls by value lend the link that they were given to the calls on a lent link, and hand it back with the answer.
 // Serves demand 1 (numbers 11 to 15, a refused call hands the record back unaltered) and demand 2.
+#![tactic(auto)]
+
 ghost use Rattle.calls.specs.Fresh.{MakesFresh};
 ghost use Rattle.calls.specs.Arrival.{Arrives};
 ghost use Rattle.calls.specs.Send.{Sends};

@@ -1,5 +1,7 @@
 // What a packet would be promised if it came now (R285): what its arrival would answer, and the bound of demand 3 with the bytes that it
 // would answer. An entry for callers outside: it asks nothing (R196). Serves demands 1 and 3.
+#![tactic(auto)]
+
 ghost use Rattle.offered.specs.Offer.{Offers};
 
 use checks::Verdict;

@@ -1,6 +1,8 @@
 // The planner's page: the library's calls on bytes and number arrays that a page in a browser lends; bin/page compiles them to WebAssembly.
 // Each says what the library says of the same bytes; specs/Kept says what the arrays mean. No function asks anything of its caller, and a
 // link is made and gone within a call: no part of it is kept here. Serves demands 1 to 3.
+#![tactic(auto)]
+
 mod weights;
 
 ghost use Rattle.std.specs.Prelude.{◌≡◌, cond, ◌||◌, [], ◌∷◌, ◌++◌, ◌+◌, eqb};

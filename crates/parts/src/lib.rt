@@ -1,5 +1,7 @@
 // A run part by part: the lines of its events, laid into a lent buffer. An entry for callers outside: it asks nothing.
 // Serves demands 1 and 2: R203 to R206.
+#![tactic(auto)]
+
 mod in_place;
 
 ghost use Rattle.std.specs.Prelude.{◌≡◌, ◌&&◌, ◌+◌, ◌≤◌, leb};

@@ -1,5 +1,7 @@
 // The run by parts that bin/speed times, in a crate of its own, so that the compiler sees what a program sees that runs by parts. No part
 // of the product. The base has no such run.
+#![tactic(auto)]
+
 ghost use Rattle.std.specs.Prelude.{◌≡◌};
 ghost use Rattle.run.specs.Run.{begin_of};
 ghost use Rattle.parts_speed.specs.Laid.{laid_in};

@@ -1,9 +1,9 @@
 -- A send of the second engine on its way, as a loop makes it: the rounds opened so far, and what they say of the whole.
-use mathlib.Core.List.{List, [], ◌∷◌, ◌++◌}
+use mathlib.Core.List.{[], ◌∷◌, ◌++◌}
 use mathlib.Core.Path.{◌≡◌, refl, sym, ap, subst, ◌∙◌}
-use Prim.Native.Nat.{ℕ, suc, ◌+◌, ◌-◌, ◌≤◌, ◌<◌}
+use Prim.Native.Nat.{ℕ, suc, ◌+◌, ◌-◌, ◌<◌}
 use native.Mathlib.Omega.{arith}
-use lib.ListN.{length, length-append}
+use lib.ListN.{length-append}
 use Rattle.state.specs.State.{State, in_round}
 use Rattle.rules.specs.Opening.{next_size}
 use Rattle.rules.specs.Sending.{ready, next_leaf}

@@ -1,14 +1,12 @@
 -- An arrival on the second engine's link: the answer of the first engine on the link that it stands for.
-use mathlib.Core.Bool.{true, cond, ◌&&◌, not}
+use mathlib.Core.Bool.{true, cond}
 use mathlib.Core.Logic.{◌⊎◌, inl, inr}
 use mathlib.Core.List.{List, map}
 use mathlib.Core.Path.{◌≡◌, refl, sym, ap, ap₂, subst, ◌∙◌}
-use Prim.Native.Nat.{ℕ, zero, suc, ◌+◌}
+use Prim.Native.Nat.{ℕ, zero, suc}
 use Rattle.checks.specs.declared.Verdict.TheVariants.{Passed, Refused}
 use Rattle.checks.specs.Check.{first_broken}
 use Rattle.checks.proofs.Laws.{refused_or_passed}
-use Rattle.sets.specs.Set.{has}
-use Rattle.units.specs.Unit.{due_of, quota_of}
 use Rattle.tree.specs.declared.Tree.{Tree}
 use Rattle.tree.specs.Class.{parent_of, is_child, of_child, children_sum}
 use Rattle.tree.proofs.Sums.{sum_same}
@@ -16,19 +14,17 @@ use Rattle.state.specs.declared.Account.{Account}
 use Rattle.state.specs.declared.Link.{Link}
 use Rattle.state.specs.declared.Packet.{Packet}
 use Rattle.state.specs.Mark.{marked_with}
-use Rattle.state.specs.Account.{account_of, funds_of, took_quota, handed_down}
 use Rattle.state.specs.Queue.{queue_of, put_last}
 use Rattle.state.specs.State.{meaning, round_of, link_in_round}
 use Rattle.tree.proofs.Tables.{table_same}
 use Rattle.state.proofs.Queues.{shaped_put}
 use Rattle.sound.specs.Sound.{SoundLink}
-use Rattle.rules.specs.Active.{weight_sum}
 use Rattle.calls.specs.declared.AfterArrival.{AfterArrival}
 use Rattle.calls.specs.Arrival.{no_leaf, bad_length, full, arrival_checks, arrival_answer, bytes_after}
 use Rattle.calls.specs.Run.{Call, arrival, made, makes, turns_in}
 use Rattle.calls.proofs.Arrivals.{arrival_refused, arrival_taken, arrival_sound}
 use Rattle.published.specs.declared.Second.{Second}
-use Rattle.published.specs.Asking.{Published, quota_at}
+use Rattle.published.specs.Asking.{Published}
 use Rattle.published.proofs.Passages.{closed_of}
 use Rattle.published.specs.Settled.{unasked, owed_weight, owed_sum, share_in, share, asked_account, settled_account, settled}
 use Rattle.published.specs.Second.{means, stands_for, SoundSecond, ShapedSecond, with_link, gives}

@@ -1,7 +1,5 @@
 -- The lists of a link of the second engine that the code holds have the lengths of its arrays.
 use mathlib.Core.List.{List}
-use mathlib.Core.Path.{sym, ◌∙◌}
-use lib.ListN.{length-map}
 use mir.Val.{Val}
 use denote.Laws.{Is}
 use denote.Struct.Laws as LL

@@ -1,6 +1,8 @@
 // The engine as published (section IV of the published HLS paper): permits are shared out only when a leaf is visited. Its rules as
 // definitions, its own soundness list, and that it answers what the first engine answers; no code: the calls stand in `published_link`.
 // Serves demands 1 to 3 for the second engine.
+#![tactic(auto)]
+
 use calls::{Arrival, Departure};
 use checks::Verdict;
 use state::Link;

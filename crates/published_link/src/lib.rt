@@ -1,6 +1,8 @@
 // The calls of the second engine: a fresh link from a plan's tree, an arrival and a send, by value, and whether a record is sound. Entries
 // for callers outside: they ask nothing. An arrival is the first engine's.
 // Serves demand 1 (numbers 11 to 15, a refused call hands the record back unaltered) and demand 2.
+#![tactic(auto)]
+
 ghost use Rattle.std.specs.Prelude.{◌≡◌};
 ghost use Rattle.checks.specs.Check.{Exactly};
 ghost use Rattle.checks.specs.declared.Verdict.TheVariants.{Refused};

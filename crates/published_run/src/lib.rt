@@ -1,6 +1,8 @@
 // A whole run of the second engine, line by line: the plan's line is the first engine's, and so is the line of each answer. Entries for
 // callers outside: they ask nothing.
 // Serves demands 1 and 2: its lines are those of the first engine's run on the same input (`same_lines`, proofs/Lines).
+#![tactic(auto)]
+
 ghost use Rattle.std.specs.Prelude.{◌≡◌};
 ghost use Rattle.calls.specs.Run.{arrival, send};
 ghost use Rattle.plan.specs.declared.EventRead.TheVariants.{NoMore};

@@ -1,6 +1,8 @@
 // A whole send of the second engine on a sound link on which a packet waits, over lent number arrays, the tree among them (`shape`): visits
 // that ask first, and the packet that goes by the first engine's own step. Named for specs/Whole.
 // Serves demand 2.
+#![tactic(auto)]
+
 mod rounds;
 
 ghost use Rattle.std.specs.Prelude.{true, List, ◌≡◌, ℕ};

@@ -1,5 +1,7 @@
 // A whole run, line by line: the plan's line, then each event's. Entries for callers outside: they ask nothing.
 // Serves demands 1 and 2: the lines are those of R185 to R195, from the input's bytes, whatever they are (R196).
+#![tactic(auto)]
+
 ghost use Rattle.std.specs.Prelude.{◌≡◌, true};
 ghost use Rattle.checks.specs.declared.Verdict.TheVariants.{Passed};
 ghost use Rattle.tree.specs.Rules.{PlanRules};

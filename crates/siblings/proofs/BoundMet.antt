@@ -27,7 +27,7 @@ use Rattle.state.specs.State.{fresh_link}
 use Rattle.state.proofs.Meaning.{shaped_fresh}
 use Rattle.tree.specs.Below.{climbs, at_or_below}
 use Rattle.rules.specs.Active.{waits, some_waits, some_below, set_of, upward, round_active, active_child, active_weight, weight_sum}
-use Rattle.rules.specs.Opening.{main, surplus_at, has_surplus, kind_of, quota_in, quota, due, hands_down, opened_leaf, opened_inner, opened_account}
+use Rattle.rules.specs.Opening.{surplus_at, has_surplus, kind_of, quota_in, quota, due, hands_down, opened_leaf, opened_inner, opened_account}
 use Rattle.rules.specs.Opening.{opened_accounts, next_kind, next_size, resized_accounts, opened_with}
 use Rattle.rules.specs.Sizes.{if_active, active_weights, active_longest, active_size, main_size}
 use Rattle.rules.specs.Sending.{ready, first_from, next_leaf, given_up, turns_off, paid, books_after, sent_state, Turn, turn_of, sends, trace_of}

@@ -1,1 +1,3 @@
 // Two siblings, side by side: a theorem about the rules of sending, carried to the library's calls. No code.
+
+#![tactic(auto)]

@@ -1,5 +1,7 @@
 // The loops that bin/speed times: the first events of a recording by the library's public calls, and single calls. Entries for a measuring
 // program: they ask nothing. They are no part of the product. What they answer is compared with the plain scheduler's sends.
+#![tactic(auto)]
+
 pub mod opening;
 
 ghost use Rattle.std.specs.Prelude.{◌≡◌, ◌+◌, ◌^◌, ◌<◌, true, length, if◌then◌else◌};

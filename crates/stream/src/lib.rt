@@ -1,6 +1,8 @@
 // A run whose input is read window by window (R243 to R248): a part of it in a window, without the line that would end it there; whether a
 // window's last bytes wait for more; the bytes that are carried to the next window; and the last line. Serves demands 1 and 2: however the
 // input is cut into windows, the lines are those of the run.
+#![tactic(auto)]
+
 ghost use Rattle.std.specs.Prelude.{◌≡◌, ◌++◌, ◌-◌, ◌≤◌, length, take, drop};
 ghost use Rattle.io.specs.Counts.{IsPrefixLen};
 ghost use Rattle.plan.specs.declared.EventRead.TheVariants.{NoMore};

@@ -1,0 +1,11 @@
+-- `event::arrives` meets its contract.
+use Rattle.answers.specs.Steps.{arrived_with}
+use Rattle.answers.proofs.Events.{arrives_in_place}
+use borrow.Author.Rules.{rules}
+use Rattle.answers.proofs.event.arrives.Goals as goal
+
+pub returns : goal.returns
+returns c =
+    let a = c.args in
+    λ l same takes. arrives_in_place a.sound _ (arrived_with a.class a.len a.tag) c.arrive-answer.result _
+    (c.arrive-answer.ensures.arrives_on l same takes)

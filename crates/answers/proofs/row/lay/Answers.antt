@@ -1,0 +1,15 @@
+-- `row::lay` meets its contract: one half of the row after the other.
+use mathlib.Core.Path.{sym, ap₂}
+use mathlib.Core.List.{[], ◌∷◌}
+use Prim.Native.Nat.{ℕ}
+use native.Mathlib.Omega.{arith}
+use Rattle.digits.proofs.Laying.{laid_as}
+use borrow.Author.Rules.{rules}
+use Rattle.answers.proofs.row.lay.Goals as goal
+
+pub returns : goal.returns
+returns c =
+    let r = c.args.reply in
+    let numbers = ap₂ (λ (n p : ℕ). r.kind ∷ n ∷ p ∷ r.class ∷ r.length ∷ r.tag ∷ r.bytes ∷ r.rounds ∷ [])
+    (sym c.number-number.ensures) (sym c.place-place.ensures) in
+    laid_as _ _ _ _ _ _ _ _ _ numbers (omega arith) c.put_four-next.ensures c.put_four.ensures

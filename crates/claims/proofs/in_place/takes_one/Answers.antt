@@ -1,0 +1,7 @@
+-- `in_place::takes_one` meets its contract.
+use mathlib.Core.Path.{refl}
+use borrow.Author.Rules.{rules}
+use Rattle.claims.proofs.in_place.takes_one.Goals as goal
+
+pub returns-else-last : goal.returns-else-last
+returns-else-last c = rw (c.if-more.true, c.if-last.false) refl

@@ -1,0 +1,16 @@
+-- `offer::if_accepted` meets its contract: the answer of the arrival, and the promise for the bytes that it answers.
+use Rattle.cometbanjo.proofs.Calling.{offers_by, offers_none, accepted_rules, accepted_wait}
+use borrow.Author.Rules.{rules}
+use Rattle.cometbanjo.proofs.offer.if_accepted.Goals as goal
+
+pub tree_of-tree-requires : goal.tree_of-tree-requires
+tree_of-tree-requires c = accepted_rules c.arrive-answer.ensures c.in-Passed.is
+
+pub returns-in-Passed : goal.returns-in-Passed
+returns-in-Passed c =
+    let arrives = c.arrive-answer.ensures in
+    offers_by arrives _ (accepted_wait arrives c.tree_of-tree.ensures c.in-Passed.is c.longest_wait-promise.result
+    c.longest_wait-promise.ensures)
+
+pub returns : goal.returns
+returns c = offers_none c.arrive-answer.ensures c.in_default.is

@@ -1,0 +1,7 @@
+-- `page_calls::page_events` meets its contract.
+use borrow.Author.Rules.{rules}
+use Rattle.page_calls.proofs.page_events.Goals as goal
+
+pub returns : goal.returns
+returns c =
+    rw c.first-step.ensures at c.events_of.ensures

@@ -1,0 +1,21 @@
+-- `is_sound` meets its contract.
+use borrow.Author.Tests.{not-true, not-false}
+use Rattle.checks.proofs.Laws.{exactly_no, not_true_and_false}
+use Rattle.published_link.proofs.Judging.{both_sound, link_sound, asked_sound}
+use borrow.Author.Rules.{rules}
+use Rattle.published_link.proofs.is_sound.Goals as goal
+
+pub returns-then-not-is_sound : goal.returns-then-not-is_sound
+returns-then-not-is_sound c =
+    exactly_no (λ s. not_true_and_false (c.is_sound.ensures.complete (link_sound _ s)) c.if-not-is_sound.true)
+
+pub asked_right-requires : goal.asked_right-requires
+asked_right-requires c = (c.is_sound.ensures.sound c.if-not-is_sound.false).state.fits.tree
+
+pub returns : goal.returns
+returns c =
+    let e = c.asked_right.ensures in
+    record {
+      sound = λ y. both_sound _ (c.is_sound.ensures.sound c.if-not-is_sound.false) (e.sound y);
+      complete = λ s. e.complete (asked_sound _ s);
+    }

@@ -1,0 +1,19 @@
+-- `speed::number` meets its contract: sums that wrap are one sum that wraps.
+use Rattle.std.proofs.Common.{◌≡◌, ℕ, ◌+◌, ◌%◌, ◌^◌, refl, arith, rules}
+use Rattle.speed.proofs.number.Goals as goal
+
+-- a number and one more, each of them wrapped or not
+wraps : (s b x y : ℕ) → x ≡ s % 2 ^ 64 → y ≡ (x + b % 2 ^ 64) % 2 ^ 64 → y ≡ (s + b) % 2 ^ 64
+wraps s b x y e f = omega (arith, e, f)
+
+wraps_last : (s b x y : ℕ) → x ≡ s % 2 ^ 64 → y ≡ (x + b) % 2 ^ 64 → y ≡ (s + b) % 2 ^ 64
+wraps_last s b x y e f = omega (arith, e, f)
+
+pub returns-in-Passed : goal.returns-in-Passed
+returns-in-Passed c =
+    rw c.in-Passed.is
+    (wraps_last _ _ _ _ (wraps _ _ _ _ (wraps _ _ _ _ refl c.wrapping_add_u64-packet.ensures) c.wrapping_add_u64.ensures)
+    c.wrapping_add_u64-in-Passed.ensures)
+
+pub returns-in-Refused : goal.returns-in-Refused
+returns-in-Refused c = rw c.in-Refused.is refl

@@ -1,0 +1,12 @@
+-- `speed::opening::backlogged` meets its contract.
+use Rattle.std.proofs.Common.{◌≡◌, ℕ, ◌-◌, ◌≤◌, ap, ◌∙◌, arith, rules}
+use Rattle.sound.specs.Sound.{SoundLink}
+use Rattle.speed.specs.Openings.{offered_to}
+use Rattle.speed.proofs.Steps.{offered_none, offered_more}
+use Rattle.speed.proofs.opening.backlogged.Given as goal
+
+abbrev pub invariant-loop-i : goal.invariant-loop-i
+invariant-loop-i l = (l.i ≤ 63) × SoundLink l.link × (l.link ≡ offered_to l.i l.initial.link)
+
+abbrev pub decreases-loop-i : goal.decreases-loop-i
+decreases-loop-i l = 63 - l.i

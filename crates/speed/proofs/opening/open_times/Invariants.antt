@@ -1,0 +1,19 @@
+-- `speed::opening::open_times` meets its contract.
+use Rattle.std.proofs.Common.{◌≡◌, ℕ, ◌-◌, ◌≤◌, false, length, sym, refl, ap, ◌∙◌, arith, rules}
+use Rattle.tree.specs.declared.Tree.{Tree}
+use Rattle.shape.specs.Shape.{tree_in}
+use Rattle.state.proofs.Shapes.{shaped}
+use Rattle.steps.specs.Fields.{lent_link}
+use Rattle.speed.specs.Openings.{opened_times}
+use Rattle.speed.proofs.Steps.{Opened, opened_apart, opened_fields, opened_more}
+use Rattle.speed.proofs.opening.open_times.Given as goal
+
+abbrev pub invariant-loop-n : goal.invariant-loop-n
+invariant-loop-n l =
+    (l.n ≤ l.times)
+    × Opened l.link l.n (lent_link (tree_in l.shape) l.link.round.size l.active l.place l.balance l.residual l.link.start l.link.held l.link.lengths
+    l.link.tags l.link.marks l.link.totals)
+    × (length l.kept ≡ 64)
+
+abbrev pub decreases-loop-n : goal.decreases-loop-n
+decreases-loop-n l = l.times - l.n
