@@ -1,11 +1,10 @@
 -- `lent_parts::turn_at` meets its contract: it is the turn of the event at the place.
-use Rattle.std.proofs.Common.{◌≡◌, ℕ, ◌+◌, Bool, false, true, List, length, drop, leb, refl, sym, ap, ◌∙◌, arith}
+use Rattle.std.proofs.Common.{◌≡◌, ℕ, ◌+◌, Bool, false, List, length, drop, leb, refl, sym, ap, ◌∙◌, arith}
 use Rattle.lines.specs.Line.{line_room}
 use Rattle.plan.specs.declared.EventRead.{EventRead}
 use Rattle.plan.specs.declared.EventRead.TheVariants.{NoMore, Arrive, SendNext, Fault}
 use Rattle.plan.specs.Event.{used_of, event_at}
 use Rattle.run.proofs.Events.{used_fits}
-use Rattle.lent_parts.specs.declared.Turn.{Turn}
 use Rattle.lent_parts.specs.Turns.{plain_turn, turn_for, turn_at}
 use Rattle.lent_parts.proofs.turn_at.Goals as goal
 
