@@ -49,9 +49,9 @@ joined [] end = end
 joined (part ∷ parts) end = part ++ joined parts end
 
 -- what is asked of a check that goes on, and of one that does not
-abbrev pub whether : Bool → Type 0 → Type 0 → Type 0
-whether true on ended = on
-whether false on ended = ended
+abbrev pub Whether : Bool → Type 0 → Type 0 → Type 0
+Whether true on ended = on
+Whether false on ended = ended
 
 -- the parts of an input, one after the other, each answered as its contract says: before each goes what the last one left of its bytes; the
 -- end of the input is the last part, unless an entry has decided before (R305)
@@ -60,4 +60,4 @@ PartByPart [] end l place claims left j = (r : Checked) × JudgesPart true l pla
 PartByPart (part ∷ parts) end l place claims left j =
     (r : Checked)
     × JudgesPart false l place claims (left ++ part) r
-    × whether r.more (PartByPart parts end r.link r.place r.claims (drop (r.place - place) (left ++ part)) j) (j ≡ r.judged)
+    × Whether r.more (PartByPart parts end r.link r.place r.claims (drop (r.place - place) (left ++ part)) j) (j ≡ r.judged)

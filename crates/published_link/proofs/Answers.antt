@@ -4,7 +4,7 @@ use mathlib.Core.Path.{◌≡◌, refl, sym, ap, subst, ◌∙◌}
 use Prim.Native.Nat.{ℕ}
 use Rattle.checks.specs.declared.Verdict.{Verdict}
 use Rattle.checks.specs.declared.Verdict.TheVariants.{Refused}
-use Rattle.checks.specs.Check.{first_broken, Exactly}
+use Rattle.checks.specs.Check.{Exactly}
 use Rattle.checks.proofs.Laws.{decides, exactly_no, exactly_yes}
 use Rattle.state.specs.declared.Packet.{Packet}
 use Rattle.state.specs.State.{meaning}
@@ -12,13 +12,13 @@ use Rattle.rules.specs.Active.{some_waits}
 use Rattle.calls.specs.declared.AfterArrival.{AfterArrival}
 use Rattle.calls.specs.Arrival.{arrival_answer, Arrives}
 use Rattle.calls.specs.Run.{arrival, send}
-use Rattle.calls.specs.Send.{refused_send, send_checks}
+use Rattle.calls.specs.Send.{refused_send}
 use Rattle.calls.proofs.Arrivals.{unsound_number, arrival_refused}
 use Rattle.published.specs.declared.Second.{Second}
 use Rattle.published.specs.declared.SecondArrival.{SecondArrival}
 use Rattle.published.specs.declared.SecondSend.{SecondSend}
-use Rattle.published.specs.Second.{means, stands_for, SoundSecond, ShapedSecond, Given, with_link, send_given, gives}
-use Rattle.published.specs.Contract.{MadeSecond, made_second, made_by, MeetsSecond}
+use Rattle.published.specs.Second.{means, SoundSecond, ShapedSecond, Given, with_link, send_given, gives}
+use Rattle.published.specs.Contract.{made_second, MeetsSecond}
 use Rattle.published.proofs.Contracts.{second_by_lem}
 use Rattle.published.proofs.OneSend.{same_waits, gives_is, refuses_is}
 use Rattle.asking.specs.Right.{AskedRight}

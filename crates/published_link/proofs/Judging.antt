@@ -1,6 +1,5 @@
 -- A link of the second engine is sound where the first engine's in it is and who has asked is right.
-use mathlib.Core.Bool.{Bool, true}
-use mathlib.Core.Path.{◌≡◌}
+use mathlib.Core.Bool.{Bool}
 use Rattle.checks.specs.Check.{Exactly}
 use Rattle.sound.specs.Sound.{SoundLink}
 use Rattle.published.specs.declared.Second.{Second}

@@ -1,10 +1,8 @@
 -- `arrive` meets its contract: where who has asked is right, an arrival is the first engine's.
-use borrow.Author.Tests.{not-true, not-false}
 use Rattle.checks.proofs.Laws.{not_true_and_false}
 use Rattle.published.proofs.Shapes.{shaped_second}
-use Rattle.published_link.proofs.Judging.{link_sound, asked_sound}
+use Rattle.published_link.proofs.Judging.{asked_sound}
 use Rattle.published_link.proofs.Answers.{arrival_unsound, arrival_first}
-use borrow.Author.Rules.{rules}
 use Rattle.published_link.proofs.arrive.Goals as goal
 
 pub returns-then-not-asked_is_right : goal.returns-then-not-asked_is_right

@@ -1,7 +1,5 @@
 -- `asked_is_right` meets its contract.
-use borrow.Author.Tests.{not-true, not-false}
 use Rattle.checks.proofs.Laws.{exactly_no, not_true_and_false}
-use borrow.Author.Rules.{rules}
 use Rattle.published_link.proofs.asked_is_right.Goals as goal
 
 pub returns-then-not-is_plan : goal.returns-then-not-is_plan

@@ -1,6 +1,5 @@
 -- `departure` meets its contract.
 use mathlib.Core.Path.{refl}
-use borrow.Author.Rules.{rules}
 use Rattle.published_link.proofs.departure.Goals as goal
 
 pub returns : goal.returns

@@ -1,9 +1,8 @@
 -- `fresh` meets its contract.
-use mathlib.Core.Path.{◌≡◌, ap}
+use mathlib.Core.Path.{ap}
 use lib.ListN.{replicate}
 use Rattle.calls.specs.declared.AfterFresh.{AfterFresh}
 use Rattle.published.specs.declared.SecondFresh.{SecondFresh}
-use borrow.Author.Rules.{rules}
 use Rattle.published_link.proofs.fresh.Goals as goal
 
 second : AfterFresh → SecondFresh

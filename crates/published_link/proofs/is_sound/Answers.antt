@@ -1,8 +1,6 @@
 -- `is_sound` meets its contract.
-use borrow.Author.Tests.{not-true, not-false}
 use Rattle.checks.proofs.Laws.{exactly_no, not_true_and_false}
 use Rattle.published_link.proofs.Judging.{both_sound, link_sound, asked_sound}
-use borrow.Author.Rules.{rules}
 use Rattle.published_link.proofs.is_sound.Goals as goal
 
 pub returns-then-not-is_sound : goal.returns-then-not-is_sound

@@ -1,11 +1,9 @@
 -- `send` meets its contract.
 use mathlib.Core.Bool.{true, false}
-use mathlib.Core.Path.{◌≡◌, ap, ◌∙◌}
-use Prim.Native.Nat.{ℕ}
+use mathlib.Core.Path.{◌≡◌, ◌∙◌}
 use native.Mathlib.Omega.{arith}
-use lib.Dec.{leb}
 use lib.ListN.{get_or}
-use borrow.Author.Tests.{not-true, not-false, le-leb, lt-leb}
+use borrow.Author.Tests.{le-leb, lt-leb}
 use Rattle.checks.proofs.Laws.{not_true_and_false}
 use Rattle.state.specs.State.{meaning}
 use Rattle.rules.specs.Active.{some_waits}
@@ -14,7 +12,6 @@ use Rattle.published.specs.declared.Second.{Second}
 use Rattle.published.specs.Second.{SoundSecond}
 use Rattle.published.proofs.Shapes.{shaped_second}
 use Rattle.published_link.proofs.Answers.{send_unsound, send_nothing, send_goes}
-use borrow.Author.Rules.{rules}
 use Rattle.published_link.proofs.send.Goals as goal
 
 -- the root's total says whether a packet waits

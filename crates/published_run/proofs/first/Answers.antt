@@ -1,7 +1,6 @@
 -- `first` meets its contract.
 use mathlib.Core.Path.{ap}
 use Rattle.published_run.specs.Steps.{second_of_step}
-use borrow.Author.Rules.{rules}
 use Rattle.published_run.proofs.first.Goals as goal
 
 pub returns : goal.returns

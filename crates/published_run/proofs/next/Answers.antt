@@ -8,13 +8,12 @@ use Rattle.plan.specs.declared.EventRead.{EventRead}
 use Rattle.plan.specs.declared.EventRead.TheVariants.{NoMore, Arrive, SendNext, Fault}
 use Rattle.plan.specs.Event.{used_of, event_at}
 use Rattle.calls.specs.Run.{arrival, send}
-use Rattle.run.specs.Event.{packet_in, last_line}
+use Rattle.run.specs.Event.{packet_in}
 use Rattle.run.proofs.Events.{used_fits}
 use Rattle.lines.specs.declared.Line.{Line}
 use Rattle.published.specs.declared.Second.{Second}
 use Rattle.published_run.specs.declared.SecondStep.{SecondStep}
 use Rattle.published_run.specs.Steps.{last_of, CallsSecond, GivesSecond, GoesOnSecond}
-use borrow.Author.Rules.{rules}
 use Rattle.published_run.proofs.next.Goals as goal
 use Rattle.published_run.proofs.next.Goals.{After-read_event-event, After-used}
 

@@ -47,7 +47,7 @@ returns-in-NoMore c =
       hears = rw c.outcome.ensures (rw c.last_reply.ensures (
       last_heard (whole (goal.at.returns-in-NoMore c).Start) c.args.input.now d.place d.sound c.requires.0 NoMore d.stand _
           (read_at (goal.at.returns-in-NoMore c).After-event_at-read c.in-NoMore.is) refl));
-      kept = rw c.outcome.ensures (rw c.last_reply.ensures (λ on. (c.requires.1 on).1));
+      kept = rw c.outcome.ensures (λ on. (c.requires.1 on).1);
     }
 
 pub returns-in-Arrive : goal.returns-in-Arrive

@@ -16,4 +16,4 @@ pub returns-in-Refused : goal.returns-in-Refused
 returns-in-Refused c =
     let a = c.args in
     lays_as a.at c.lay_at-in-Refused.result a.out.now _ (ap (λ (w : Verdict). end_says w a.waiting) c.in-Refused.is)
-    c.lay_at-in-Refused.ensures
+    (c.lay_at-in-Refused.ensures.laid_at, c.lay_at-in-Refused.ensures.upper_bound)

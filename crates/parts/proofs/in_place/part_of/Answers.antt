@@ -63,7 +63,7 @@ standAt o =
 taken_apart : (o : After-outcome-run) → beginsAt o false (standAt o) ≡ o.args.link
 taken_apart o =
     apart_is o.args.link (treeAt o) _ _ o.shape_of-shape.ensures
-    (shaped o.args.link _ o.good.1.0) o.balances-balance.ensures
+    (shaped o.args.link _ o.well_formed.1.0) o.balances-balance.ensures
     o.residuals-residual.ensures
 
 -- and sound, its totals are worked out
@@ -72,7 +72,7 @@ told_apart o =
     let a = o.args in
     let l = a.link in
     let s = standAt o in
-    let long = shaped l _ o.good.1.0 in
+    let long = shaped l _ o.well_formed.1.0 in
     let same = sym o.shape_of-shape.ensures in
     let all : a.sound ≡ true → InTotal (treeAt o) l.totals.packets l.totals.bytes = λ on.
     subst (λ (t : Tree). InTotal t l.totals.packets l.totals.bytes) same
@@ -139,7 +139,7 @@ loop-kept-init c =
     let a = c.args in
     rw c.outcome-run.ensures (
       laying_starts _ a.input.now a.place a.out.now,
-      subst Shaped (sym (told_apart c)) (shaped a.link _ c.good.1.0),
+      subst Shaped (sym (told_apart c)) (shaped a.link _ c.well_formed.1.0),
       refl,
       c.sums_now-known.ensures,
     )
