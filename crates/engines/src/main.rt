@@ -18,7 +18,12 @@ fn account(rt: &impl Print, is: bool, a: Account) -> io::Result<()> {
 }
 
 // The accounts of the root and of so many classes.
-fn accounts_line(rt: &impl Print, engine: &[u8], count: usize, accounts: [Account; 64]) -> io::Result<()> {
+fn accounts_line(
+    rt: &impl Print,
+    engine: &[u8],
+    count: usize,
+    accounts: [Account; 64],
+) -> io::Result<()> {
     word(rt, engine)?;
     for i in 0..64 {
         let a = accounts[i];
@@ -45,7 +50,7 @@ fn asked_line(rt: &impl Print, asked: u64) -> io::Result<()> {
 }
 
 // Both links after a step.
-fn both(rt: &impl Print, one: Step, two: SecondStep) -> io::Result<()> {
+fn both(rt: &impl Print, one: &Step, two: &SecondStep) -> io::Result<()> {
     let first = one.link;
     let tree = first.tree;
     let accounts = first.round.accounts;
@@ -64,7 +69,7 @@ fn whole(rt: &impl Print, input: &[u8]) -> io::Result<()> {
     let line = one.line;
     shown::print(rt, line)?;
     while one.more {
-        both(rt, one, two)?;
+        both(rt, &one, &two)?;
         let first = one.link;
         let second = two.link;
         one = run::next(first, input, one.place);

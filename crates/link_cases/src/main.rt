@@ -117,7 +117,12 @@ fn held(link: Link, class: usize) -> u64 {
 
 // Whether a record is the very same as one before; the record after.
 fn compared(rt: &impl Print, before: Link, after: Link) -> io::Result<Link> {
-    either(rt, same::same_link(before, after), b" same\n", b" changed\n")?;
+    either(
+        rt,
+        same::same_link(before, after),
+        b" same\n",
+        b" changed\n",
+    )?;
     Ok(after)
 }
 

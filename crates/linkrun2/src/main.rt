@@ -5,7 +5,6 @@
 
 use std::io;
 
-
 // Prints the lines of a whole run: the first one, then those of the events.
 fn whole(rt: &impl Print, input: &[u8]) -> io::Result<()> {
     let mut step = published_run::first(input);

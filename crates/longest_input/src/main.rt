@@ -4,7 +4,6 @@
 
 use std::io;
 
-
 // The first line of a run on the next bytes of standard input, as many as there is room for.
 fn begins(rt: &(impl Input + Print), room: &mut [u8]) -> io::Result<()> {
     let n = shown::read_full(rt, room)?;

@@ -10,7 +10,6 @@ use lines::Line;
 use parts::PartRun;
 use shown::{number, word};
 use state::Link;
-use std::io;
 use tree::wide;
 
 // What was printed of a run so far: its lines, and a sum in which each byte counts by its place.
@@ -180,13 +179,13 @@ fn after_each(input: &[u8]) -> Both {
 }
 
 // How many lines, and the sum over them.
-fn show(rt: &impl Print, tally: Tally) -> io::Result<()> {
+fn show(rt: &impl Print, tally: Tally) -> std::io::Result<()> {
     number(rt, b" lines ", tally.lines)?;
     number(rt, b" sum ", tally.sum)
 }
 
 // What was told.
-fn show_both(rt: &impl Print, both: Both) -> io::Result<()> {
+fn show_both(rt: &impl Print, both: Both) -> std::io::Result<()> {
     word(rt, b" silent")?;
     show(rt, both.silent)?;
     word(rt, b" totals")?;
@@ -194,7 +193,7 @@ fn show_both(rt: &impl Print, both: Both) -> io::Result<()> {
 }
 
 // The line of a run.
-fn show_run(rt: &impl Print, k: usize, asked: bool, input: &[u8]) -> io::Result<()> {
+fn show_run(rt: &impl Print, k: usize, asked: bool, input: &[u8]) -> std::io::Result<()> {
     number(rt, b"run ", k as u64)?;
     show(rt, whole(input))?;
     if asked {
@@ -212,7 +211,7 @@ const RUNS: usize = 10_000;
 const ASKED: usize = 8_388_608;
 
 // The number before the next input; 0 where there is none.
-fn next_head(rt: &impl Input) -> io::Result<usize> {
+fn next_head(rt: &impl Input) -> std::io::Result<usize> {
     let mut head = [0u8; 3];
     if shown::read_full(rt, &mut head)? < 3 {
         return Ok(0);
@@ -232,20 +231,25 @@ fn length_of(head: usize) -> usize
 }
 
 // Reads an input into a part of the buffer, and runs it.
-fn read_and_run(rt: &(impl Input + Print), k: usize, asked: bool, part: &mut [u8]) -> io::Result<()> {
+fn read_and_run(
+    rt: &(impl Input + Print),
+    k: usize,
+    asked: bool,
+    part: &mut [u8],
+) -> std::io::Result<()> {
     let n = shown::read_full(rt, part)?;
     show_run(rt, k, asked, &part[..n])
 }
 
 // One run of an input of n bytes.
-fn one(rt: &(impl Input + Print), k: usize, asked: bool, n: usize) -> io::Result<()>
+fn one(rt: &(impl Input + Print), k: usize, asked: bool, n: usize) -> std::io::Result<()>
     requires { n < 65_538 }
 {
     let mut input = [0u8; checks::MOST_INPUT + 1];
     read_and_run(rt, k, asked, &mut input[..n])
 }
 
-fn main(rt: HostRuntime) -> io::Result<()> {
+fn main(rt: HostRuntime) -> std::io::Result<()> {
     for k in 0..RUNS {
         let head = next_head(&rt)?;
         let n = length_of(head);

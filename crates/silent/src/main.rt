@@ -81,11 +81,7 @@ fn print_word(
 }
 
 // The lines of the words, in their order.
-fn print_words(
-    rt: &(impl Print + Env),
-    stderr: &impl Print,
-    link: Link,
-) -> io::Result<()> {
+fn print_words(rt: &(impl Print + Env), stderr: &impl Print, link: Link) -> io::Result<()> {
     let count = shown::arg_count(rt);
     let mut i = 1;
     while i < count {
