@@ -4,7 +4,7 @@
 #![tactic(auto)]
 
 mod books;
-mod fields;
+mod link_fields;
 mod fit;
 mod same;
 mod second;

@@ -135,7 +135,7 @@ pub(crate) fn stored(mut second: Second, field: u64, i: usize, value: u64) -> Se
         return second;
     }
     if field != 20 {
-        return with_link(second, fields::stored(second.link, field, i, value));
+        return with_link(second, link_fields::stored(second.link, field, i, value));
     }
     if i < 64 {
         second.quotas[i] = value;
