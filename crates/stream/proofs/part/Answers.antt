@@ -15,9 +15,12 @@ overflow_sub-result c =
 
 pub returns : goal.returns
 returns c =
-    let e = c.part-part.ensures in record { in_window = record {
+    let e = c.part-part.ensures in record {
+      in_window = record {
         part = c.part-part.result;
         parts = e.parts;
         answer =
             unended_last _ c.part-part.result c.if-part.false c.last_length-last.result c.last_length-last.ensures;
-      }; prefix_len = counts _ _ (omega (arith, e.prefix_len)) }
+      };
+      prefix_len = counts _ _ (omega (arith, e.prefix_len));
+    }
