@@ -5,7 +5,7 @@ ghost use Rattle.calls.specs.Arrival.{Arrives, arrival_leaves};
 ghost use Rattle.calls.specs.Send.{Sends, send_leaves};
 ghost use Rattle.answers.specs.Burst.{link_in};
 
-use crate::{four_of, lent, stand_in};
+use crate::{four_of, lent_arrays, stand_in};
 use calls::{Arrival, Departure};
 use state::Packet;
 
@@ -33,7 +33,7 @@ pub fn arrive(
 {
     let mut children = [0u64; 64];
     let at = stand_in(stand);
-    lent::known(
+    lent_arrays::known(
         balance, residual, start, held, lengths, tags, marks, packets, bytes,
     );
     let sound = sound::is_sound_at(
@@ -79,7 +79,7 @@ pub fn send(
     let mut children = [0u64; 64];
     let mut kept = [0u32; 64];
     let from = stand_in(stand);
-    lent::known(
+    lent_arrays::known(
         balance, residual, start, held, lengths, tags, marks, packets, bytes,
     );
     if !sound::is_sound_at(

@@ -5,7 +5,7 @@
 
 pub mod call;
 pub mod event;
-pub mod lent;
+pub mod lent_arrays;
 pub mod row;
 
 ghost use Rattle.std.specs.Prelude.{true, ◌&&◌, ◌≡◌, ◌+◌, ◌≤◌, leb, length};
@@ -180,7 +180,7 @@ pub fn burst(
 {
     let mut children = [0u64; 64];
     let from = stand_in(stand);
-    lent::known(
+    lent_arrays::known(
         balance, residual, start, held, lengths, tags, marks, packets, bytes,
     );
     if !sound::is_sound_at(

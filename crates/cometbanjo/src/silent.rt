@@ -10,7 +10,7 @@ ghost use Rattle.reasons.specs.Answer.{SaysWhy};
 ghost use Rattle.shape.specs.Shape.{tree_in};
 ghost use Rattle.answers.specs.Burst.{link_in};
 
-use answers::lent;
+use answers::lent_arrays;
 use reasons::{Reason, Silence};
 use state::lent_accounts::account_of;
 use state::queue::slot;
@@ -71,7 +71,7 @@ pub(crate) fn why(
         start.now held.now lengths.now tags.now marks.now packets.now
         bytes.now) class result }
 {
-    lent::known(
+    lent_arrays::known(
         balance, residual, start, held, lengths, tags, marks, packets, bytes,
     );
     if !crate::sound_in(

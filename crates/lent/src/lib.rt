@@ -16,14 +16,17 @@ fn told(packets: &[u64; 64], bytes: &[u64; 64], accounts: &[Account; 64])
     ensures packets { length packets.now ≡ 64 }
     ensures bytes { length bytes.now ≡ 64 }
     ensures accounts { length accounts.now ≡ 64 }
-{
-}
+{}
 
 // An arrival on a lent link: any class number, any length and any tag. A refused one leaves the record as it was.
 pub fn arrive(link: &mut Link, class: usize, packet: Packet) -> Arrival
     ensures { Arrives link.old class packet (arrival_leaves result link.new) }
 {
-    told(&link.totals.packets, &link.totals.bytes, &link.round.accounts);
+    told(
+        &link.totals.packets,
+        &link.totals.bytes,
+        &link.round.accounts,
+    );
     let placed = fields::arrive_in(
         link.tree,
         link.start,
@@ -46,7 +49,11 @@ pub fn arrive(link: &mut Link, class: usize, packet: Packet) -> Arrival
 pub fn send(link: &mut Link) -> Departure
     ensures { Sends link.old (send_leaves result link.new) }
 {
-    told(&link.totals.packets, &link.totals.bytes, &link.round.accounts);
+    told(
+        &link.totals.packets,
+        &link.totals.bytes,
+        &link.round.accounts,
+    );
     let went = fields::send_of(
         link.tree,
         link.start,

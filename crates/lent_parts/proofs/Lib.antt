@@ -1,2 +1,1 @@
-pub mod Again
 pub mod Turning

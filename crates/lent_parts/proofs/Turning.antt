@@ -29,7 +29,7 @@ use Rattle.lent_parts.specs.declared.Turn.{Turn}
 use Rattle.lent_parts.specs.Turns.{turn_for, turn_at, Follows, ends_with, Ends}
 
 -- a call was made, and the run goes on from a place
-abbrev gone_on : Line → Link → ℕ → Step
+abbrev pub gone_on : Line → Link → ℕ → Step
 gone_on line l place = record { line = line; more = true; link = l; place = place }
 
 -- ---- a turn, by its event

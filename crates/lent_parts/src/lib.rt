@@ -1,5 +1,7 @@
 // A run part by part, as `parts::part`, by the box's loop: one link record in one local, lent to both calls, event after event (R164).
 // An entry for callers outside: it asks nothing. Serves demands 1 and 2: R203 to R206, by the same contract.
+#![tactic(auto)]
+
 ghost use Rattle.std.specs.Prelude.{◌≡◌, true, ◌+◌, ◌≤◌, length};
 ghost use Rattle.io.specs.Counts.{IsPrefixLen};
 ghost use Rattle.lines.specs.Line.{line_room};

@@ -4,8 +4,8 @@
 #![tactic(auto)]
 
 mod books;
-mod fields;
 mod fit;
+mod link_fields;
 mod same;
 mod second;
 

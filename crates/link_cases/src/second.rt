@@ -1,7 +1,7 @@
 // The second engine's calls on the record, a line for each answer, and who has asked and the quotas on a line of their own (demands 1 and
 // 2); they run, and are compared with the written-down answers.
 use crate::same::same_link;
-use crate::{fields, print_verdict, sent};
+use crate::{link_fields, print_verdict, sent};
 use link::Arrival;
 use packed::command::{number_16, number_32, number_64};
 use published_link::Second;
@@ -135,7 +135,7 @@ pub(crate) fn stored(mut second: Second, field: u64, i: usize, value: u64) -> Se
         return second;
     }
     if field != 20 {
-        return with_link(second, fields::stored(second.link, field, i, value));
+        return with_link(second, link_fields::stored(second.link, field, i, value));
     }
     if i < 64 {
         second.quotas[i] = value;

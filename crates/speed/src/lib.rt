@@ -2,7 +2,7 @@
 // program: they ask nothing. They are no part of the product. What they answer is compared with the plain scheduler's sends.
 #![tactic(auto)]
 
-pub mod opening;
+pub mod opening_times;
 
 ghost use Rattle.std.specs.Prelude.{◌≡◌, ◌+◌, ◌^◌, ◌<◌, true, length, if◌then◌else◌};
 ghost use Rattle.plan.specs.Reader.{plan_of};

@@ -45,7 +45,7 @@ loop-n-preserved c =
       search rules,
       (λ m. x.keeps sound),
       c.loop-n.invariant.3 ∙ ap (λ (k : ℕ). laid_on k a.input.now c.loop-n.part (laid_by c.loop-n.bytes c.loop-n.out)) left
-          ∙ laid_on_lem _ _ c.loop-n.part c.part-part.result c.loop-n.bytes _ _ _ on sound x c.wrapping_add_usize-bytes.ensures,
+          ∙ laid_on_lem _ _ c.loop-n.part c.part-part.result c.loop-n.bytes _ _ _ on sound x c.wrapping_add_usize-bytes.ensures.value,
     )
 
 pub returns : goal.returns

@@ -21,14 +21,13 @@ pub found_so-found-requires : goal.found_so-found-requires
 found_so-found-requires c = omega (arith, c.loop-n-test.true, c.loop-n.invariant.1)
 
 pub loop-n-preserved : goal.loop-n-preserved
-loop-n-preserved c =
-    (
-      omega (arith, c.loop-n-test.true),
-      most c.is_sound.result c.loop-n.found c.found_so-found.result c.loop-n.n c.loop-n.invariant.1 c.found_so-found.ensures,
-      (λ b x. c.loop-n.invariant.2 b (tags_exactly c.loop-n.link _ b x)),
-      (λ s x. found_more c.is_sound.result s c.loop-n.found c.found_so-found.result c.loop-n.n
-          (exactly_unique (c.loop-n.invariant.2 c.is_sound.result c.is_sound.ensures) x) (c.loop-n.invariant.3 s x) c.found_so-found.ensures),
-    )
+loop-n-preserved c = (
+  omega (arith, c.loop-n-test.true),
+  most c.is_sound.result c.loop-n.found c.found_so-found.result c.loop-n.n c.loop-n.invariant.1 c.found_so-found.ensures,
+  (λ b x. c.loop-n.invariant.2 b (tags_exactly c.loop-n.link _ b x)),
+  (λ s x. found_more c.is_sound.result s c.loop-n.found c.found_so-found.result c.loop-n.n
+      (exactly_unique (c.loop-n.invariant.2 c.is_sound.result c.is_sound.ensures) x) (c.loop-n.invariant.3 s x) c.found_so-found.ensures),
+)
 
 pub returns : goal.returns
 returns c = λ s x.

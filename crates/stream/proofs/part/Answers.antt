@@ -7,7 +7,7 @@ use Rattle.stream.proofs.part.Goals as goal
 
 pub returns-then-part : goal.returns-then-part
 returns-then-part c =
-    let e = c.part-part.ensures in record { in_window = record { part = c.part-part.result; parts = e.0; answer = unended_more _ c.part-part.result c.if-part.true }; prefix_len = e.1 }
+    let e = c.part-part.ensures in record { in_window = record { part = c.part-part.result; parts = e.parts; answer = unended_more _ c.part-part.result c.if-part.true }; prefix_len = e.prefix_len }
 
 pub overflow_sub-result : goal.overflow_sub-result
 overflow_sub-result c =
@@ -15,9 +15,12 @@ overflow_sub-result c =
 
 pub returns : goal.returns
 returns c =
-    let e = c.part-part.ensures in record { in_window = record {
+    let e = c.part-part.ensures in record {
+      in_window = record {
         part = c.part-part.result;
-        parts = e.0;
+        parts = e.parts;
         answer =
             unended_last _ c.part-part.result c.if-part.false c.last_length-last.result c.last_length-last.ensures;
-      }; prefix_len = counts _ _ (omega (arith, e.1.0)) }
+      };
+      prefix_len = counts _ _ (omega (arith, e.prefix_len));
+    }

@@ -45,7 +45,7 @@ pub returns-in-NoMore : goal.returns-in-NoMore
 returns-in-NoMore c =
     let d = c.args.run in record {
       hears = rw c.outcome.ensures (rw c.last_reply.ensures (
-      last_heard (whole (goal.at.returns-in-NoMore c).Start) c.args.input.now d.place d.sound c.requires.0 NoMore d.stand _
+          last_heard (whole (goal.at.returns-in-NoMore c).Start) c.args.input.now d.place d.sound c.requires.0 NoMore d.stand _
           (read_at (goal.at.returns-in-NoMore c).After-event_at-read c.in-NoMore.is) refl));
       kept = rw c.outcome.ensures (λ on. (c.requires.1 on).1);
     }
@@ -53,21 +53,27 @@ returns-in-NoMore c =
 pub returns-in-Arrive : goal.returns-in-Arrive
 returns-in-Arrive c =
     let d = c.args.run in
-    let told = c.requires.0 in record { hears = rw c.outcome-in-Arrive.ensures (arrival_heard (whole (goal.at.returns-in-Arrive c).Start) c.args.input.now d.place d.sound told c.in-Arrive.a c.used.result
+    let told = c.requires.0 in record {
+      hears = rw c.outcome-in-Arrive.ensures (arrival_heard (whole (goal.at.returns-in-Arrive c).Start) c.args.input.now d.place d.sound told c.in-Arrive.a c.used.result
           c.arrives-reply.result d.stand _ (read_at (goal.at.returns-in-Arrive c).After-event_at-read c.in-Arrive.is) (moves_on (goal.at.returns-in-Arrive c).After-used c.in-Arrive.is)
-          (c.arrives-reply.ensures (whole (goal.at.returns-in-Arrive c).Start) refl (λ on. record { sound = told.exactly.sound on; wide = told.shape.bytes }))); kept = rw c.outcome-in-Arrive.ensures (λ on. (c.requires.1 on).1) }
+          (c.arrives-reply.ensures (whole (goal.at.returns-in-Arrive c).Start) refl (λ on. record { sound = told.exactly.sound on; wide = told.shape.bytes })));
+      kept = rw c.outcome-in-Arrive.ensures (λ on. (c.requires.1 on).1);
+    }
 
 pub returns-in-SendNext : goal.returns-in-SendNext
 returns-in-SendNext c =
-    let d = c.args.run in record { hears = rw c.outcome-in-SendNext.ensures (send_heard (whole (goal.at.returns-in-SendNext c).Start) c.args.input.now d.place d.sound c.requires.0 c.departs-went.result c.used.result
+    let d = c.args.run in record {
+      hears = rw c.outcome-in-SendNext.ensures (send_heard (whole (goal.at.returns-in-SendNext c).Start) c.args.input.now d.place d.sound c.requires.0 c.departs-went.result c.used.result
           c.replied.result _ (read_at (goal.at.returns-in-SendNext c).After-event_at-read c.in-SendNext.is) (moves_on (goal.at.returns-in-SendNext c).After-used c.in-SendNext.is) c.replied.ensures
-          c.departs-went.ensures.departs_as); kept = rw c.outcome-in-SendNext.ensures (c.departs-went.ensures.kept) }
+          c.departs-went.ensures.departs_as);
+      kept = rw c.outcome-in-SendNext.ensures (c.departs-went.ensures.kept);
+    }
 
 pub returns-in-Fault : goal.returns-in-Fault
 returns-in-Fault c =
     let d = c.args.run in record {
       hears = rw c.outcome-in-Fault.ensures (rw c.last_reply-in-Fault.ensures (
-      last_heard (whole (goal.at.returns-in-Fault c).Start) c.args.input.now d.place d.sound c.requires.0 (Fault c.in-Fault.n c.in-Fault.p) d.stand _
+          last_heard (whole (goal.at.returns-in-Fault c).Start) c.args.input.now d.place d.sound c.requires.0 (Fault c.in-Fault.n c.in-Fault.p) d.stand _
           (read_at (goal.at.returns-in-Fault c).After-event_at-read c.in-Fault.is) refl));
       kept = rw c.outcome-in-Fault.ensures (λ on. (c.requires.1 on).1);
     }

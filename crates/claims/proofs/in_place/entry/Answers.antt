@@ -55,25 +55,37 @@ overflow_add-place-in-Stops c =
 pub returns-in-Ended : goal.returns-in-Ended
 returns-in-Ended c =
     let d = c.args.did in
-    let on = c.requires.0 in record { enters = rw c.decides.ensures (decides_in_place (whole (goal.at.returns-in-Ended c).Start) d.place d.claims c.args.rest.now on.sound on.shape Ended _ d.stand
-          (sym c.read_entry-read.ensures ∙ c.in-Ended.is) refl); kept = rw c.decides.ensures (c.requires.4) }
+    let on = c.requires.0 in record {
+      enters = rw c.decides.ensures (decides_in_place (whole (goal.at.returns-in-Ended c).Start) d.place d.claims c.args.rest.now on.sound on.shape Ended _ d.stand
+          (sym c.read_entry-read.ensures ∙ c.in-Ended.is) refl);
+      kept = rw c.decides.ensures (c.requires.4);
+    }
 
 pub returns-in-Arrives : goal.returns-in-Arrives
 returns-in-Arrives c =
     let d = c.args.did in
-    let on = c.requires.0 in record { enters = rw c.goes_on.ensures (arrival_in_place (whole (goal.at.returns-in-Arrives c).Start) d.place d.claims c.args.rest.now on.sound on.shape c.in-Arrives.a
+    let on = c.requires.0 in record {
+      enters = rw c.goes_on.ensures (arrival_in_place (whole (goal.at.returns-in-Arrives c).Start) d.place d.claims c.args.rest.now on.sound on.shape c.in-Arrives.a
           c.arrive-answer.result _ _ d.stand (sym c.read_entry-read.ensures ∙ c.in-Arrives.is) c.wide.ensures
-          (c.arrive-answer.ensures.arrives_on (whole (goal.at.returns-in-Arrives c).Start) refl (λ is. record { sound = on.sound; wide = on.shape.bytes }))); kept = rw c.goes_on.ensures (c.requires.4) }
+          (c.arrive-answer.ensures.arrives_on (whole (goal.at.returns-in-Arrives c).Start) refl (λ is. record { sound = on.sound; wide = on.shape.bytes })));
+      kept = rw c.goes_on.ensures (c.requires.4);
+    }
 
 pub returns-in-Claims : goal.returns-in-Claims
 returns-in-Claims c =
     let d = c.args.did in
-    let on = c.requires.0 in record { enters = rw c.compared.ensures (claim_in_place (whole (goal.at.returns-in-Claims c).Start) d.place d.claims c.args.rest.now on.sound on.shape c.in-Claims.c
-          c.send-went.result _ (sym c.read_entry-read.ensures ∙ c.in-Claims.is) c.send-went.ensures.departs); kept = rw c.compared.ensures (c.send-went.ensures.kept) }
+    let on = c.requires.0 in record {
+      enters = rw c.compared.ensures (claim_in_place (whole (goal.at.returns-in-Claims c).Start) d.place d.claims c.args.rest.now on.sound on.shape c.in-Claims.c
+          c.send-went.result _ (sym c.read_entry-read.ensures ∙ c.in-Claims.is) c.send-went.ensures.departs);
+      kept = rw c.compared.ensures (c.send-went.ensures.kept);
+    }
 
 pub returns-in-Stops : goal.returns-in-Stops
 returns-in-Stops c =
     let d = c.args.did in
-    let on = c.requires.0 in record { enters = rw c.decides-in-Stops.ensures (decides_in_place (whole (goal.at.returns-in-Stops c).Start) d.place d.claims c.args.rest.now on.sound on.shape
+    let on = c.requires.0 in record {
+      enters = rw c.decides-in-Stops.ensures (decides_in_place (whole (goal.at.returns-in-Stops c).Start) d.place d.claims c.args.rest.now on.sound on.shape
           (Stops c.in-Stops.n c.in-Stops.k) _ d.stand
-          (sym c.read_entry-read.ensures ∙ c.in-Stops.is) refl); kept = rw c.decides-in-Stops.ensures (c.requires.4) }
+          (sym c.read_entry-read.ensures ∙ c.in-Stops.is) refl);
+      kept = rw c.decides-in-Stops.ensures (c.requires.4);
+    }

@@ -44,12 +44,11 @@ returns-then-not-holds c =
 
 pub reason_in-reason-requires : goal.reason_in-reason-requires
 unfolding is_leaf
-reason_in-reason-requires c =
-    (
-      (decided (goal.at.reason_in-reason-requires c).After-sound_in).sound c.if-not-sound_in.false,
-      sym (leaf (goal.at.reason_in-reason-requires c).After-holds) ∙ c.if-not-holds.false,
-      (c.known.ensures (whole (goal.at.reason_in-reason-requires c).Start).tree (stand_in c.args.stand.now)).accounts,
-    )
+reason_in-reason-requires c = (
+  (decided (goal.at.reason_in-reason-requires c).After-sound_in).sound c.if-not-sound_in.false,
+  sym (leaf (goal.at.reason_in-reason-requires c).After-holds) ∙ c.if-not-holds.false,
+  (c.known.ensures (whole (goal.at.reason_in-reason-requires c).Start).tree (stand_in c.args.stand.now)).accounts,
+)
 
 pub returns : goal.returns
 unfolding no_leaf is_leaf

@@ -166,8 +166,10 @@ loop-kept-smaller c =
     let a = c.args in
     let run = c.event-run.result in
     let was = c.loop-kept.run in
+    let at : At-loop-kept = (goal.at.loop-kept-smaller c).At-loop-kept in
+    let link : Link = linkNow at (treeAt (goal.at.At-loop-kept at).After-outcome-run) in
     steps_less a.input.now run.more run.place was.more was.place (both_true was.more _ (taken (goal.at.loop-kept-smaller c).In-loop-kept)).0
-    (next_on _ a.input.now was.place _ (event_goes _ a.input.now was.place was.sound (told_at (goal.at.loop-kept-smaller c).At-loop-kept) run _
+    (next_on link a.input.now was.place _ (event_goes link a.input.now was.place was.sound (told_at at) run _
     c.event-run.ensures.hears))
 
 pub loop-kept-preserved : goal.loop-kept-preserved

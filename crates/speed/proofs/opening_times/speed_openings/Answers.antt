@@ -5,8 +5,8 @@ use Rattle.run.specs.declared.Step.{Step}
 use Rattle.run.specs.Run.{begin_of}
 use Rattle.speed.specs.Openings.{root_left, left_after}
 use Rattle.speed.proofs.Served.{begun_sound}
-use Rattle.speed.proofs.opening.speed_openings.Goals as goal
-use Rattle.speed.proofs.opening.speed_openings.Goals.{After-begin-begun}
+use Rattle.speed.proofs.opening_times.speed_openings.Goals as goal
+use Rattle.speed.proofs.opening_times.speed_openings.Goals.{After-begin-begun}
 
 -- nothing is left where the plan is refused, or is one of rule 2
 left_refused : (s : Step) (n : ℕ) → s.more ≡ false → left_after s n ≡ 0

@@ -2,7 +2,7 @@
 use mathlib.Core.Path.{sym, ◌∙◌}
 use Rattle.state.proofs.Zips.{zip_length}
 use borrow.Author.Rules.{rules}
-use Rattle.answers.proofs.lent.known.Goals as goal
+use Rattle.answers.proofs.lent_arrays.known.Goals as goal
 
 pub returns : goal.returns
 returns c =

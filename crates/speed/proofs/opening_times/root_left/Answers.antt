@@ -5,7 +5,7 @@ use Rattle.state.specs.declared.Link.{Link}
 use Rattle.state.specs.Account.{balance_of}
 use Rattle.speed.specs.Openings.{opened_times, root_left}
 use Rattle.speed.proofs.Steps.{offered_tree}
-use Rattle.speed.proofs.opening.root_left.Goals as goal
+use Rattle.speed.proofs.opening_times.root_left.Goals as goal
 
 pub backlogged-requires : goal.backlogged-requires
 backlogged-requires c = c.requires.0

@@ -3,7 +3,7 @@ use Rattle.std.proofs.Common.{◌≡◌, ℕ, ◌-◌, ◌≤◌, ap, ◌∙◌,
 use Rattle.sound.specs.Sound.{SoundLink}
 use Rattle.speed.specs.Openings.{offered_to}
 use Rattle.speed.proofs.Steps.{offered_none, offered_more}
-use Rattle.speed.proofs.opening.backlogged.Goals as goal
+use Rattle.speed.proofs.opening_times.backlogged.Goals as goal
 
 pub loop-i-init : goal.loop-i-init
 loop-i-init c = (omega arith, c.requires, offered_none c.args.link)

@@ -3,7 +3,7 @@ use Rattle.std.proofs.Common.{◌≡◌, ℕ, ◌-◌, ◌≤◌, ap, ◌∙◌,
 use Rattle.sound.specs.Sound.{SoundLink}
 use Rattle.speed.specs.Openings.{offered_to}
 use Rattle.speed.proofs.Steps.{offered_none, offered_more}
-use Rattle.speed.proofs.opening.backlogged.Given as goal
+use Rattle.speed.proofs.opening_times.backlogged.Given as goal
 
 abbrev pub invariant-loop-i : goal.invariant-loop-i
 invariant-loop-i l = (l.i ≤ 63) × SoundLink l.link × (l.link ≡ offered_to l.i l.initial.link)

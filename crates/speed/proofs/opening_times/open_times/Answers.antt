@@ -6,8 +6,8 @@ use Rattle.state.proofs.Shapes.{shaped}
 use Rattle.steps.specs.Fields.{lent_link}
 use Rattle.speed.specs.Openings.{opened_times}
 use Rattle.speed.proofs.Steps.{Opened, opened_apart, opened_fields, opened_more}
-use Rattle.speed.proofs.opening.open_times.Goals as goal
-use Rattle.speed.proofs.opening.open_times.Goals.{At-loop-n}
+use Rattle.speed.proofs.opening_times.open_times.Goals as goal
+use Rattle.speed.proofs.opening_times.open_times.Goals.{At-loop-n}
 
 -- the plan is one of rule 1
 ruled : (h : At-loop-n) → (tree_in h.shape_of-shape.result).follows ≡ false
@@ -34,12 +34,11 @@ pub loop-n-smaller : goal.loop-n-smaller
 loop-n-smaller c = omega (arith, c.loop-n-test.true)
 
 pub loop-n-preserved : goal.loop-n-preserved
-loop-n-preserved c =
-    (
-      omega (arith, c.loop-n-test.true),
-      opened_more _ _ c.loop-n.n _ c.loop-n.invariant.1 (ruled (goal.at.loop-n-preserved c).At-loop-n) (c.open_next-active.ensures.totals_after _ (opened_fields _ _ _ c.loop-n.invariant.1)),
-      c.open_next-active.ensures.kept_len,
-    )
+loop-n-preserved c = (
+  omega (arith, c.loop-n-test.true),
+  opened_more _ _ c.loop-n.n _ c.loop-n.invariant.1 (ruled (goal.at.loop-n-preserved c).At-loop-n) (c.open_next-active.ensures.totals_after _ (opened_fields _ _ _ c.loop-n.invariant.1)),
+  c.open_next-active.ensures.kept_len,
+)
 
 pub zipped-accounts-requires : goal.zipped-accounts-requires
 zipped-accounts-requires c = c.loop-n.invariant.1.many

@@ -6,7 +6,7 @@ use Rattle.state.proofs.Shapes.{shaped}
 use Rattle.steps.specs.Fields.{lent_link}
 use Rattle.speed.specs.Openings.{opened_times}
 use Rattle.speed.proofs.Steps.{Opened, opened_apart, opened_fields, opened_more}
-use Rattle.speed.proofs.opening.open_times.Given as goal
+use Rattle.speed.proofs.opening_times.open_times.Given as goal
 
 abbrev pub invariant-loop-n : goal.invariant-loop-n
 invariant-loop-n l =

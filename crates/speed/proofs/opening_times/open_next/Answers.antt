@@ -4,7 +4,7 @@ use Rattle.tree.proofs.Tables.{table_length}
 use Rattle.rules.proofs.Waiting.{active_meaning}
 use Rattle.steps.proofs.Rounding.{raised_none, fields_can, fields_opened}
 use Rattle.speed.proofs.Steps.{opened_covers, same_size}
-use Rattle.speed.proofs.opening.open_next.Goals as goal
+use Rattle.speed.proofs.opening_times.open_next.Goals as goal
 
 pub round_active-active-requires : goal.round_active-active-requires
 round_active-active-requires c = let rules = c.requires.0.1.sound.state.fits.tree in (rules, raised_none _ rules)
@@ -22,7 +22,10 @@ open_round-requires c =
     )
 
 pub returns : goal.returns
-returns c = record { totals_after = λ k s.
-          same_size _ _ _ _ s c.requires.1
-          (fields_opened _ _ s _ c.open_round.result _ _ (c.round_active-active.ensures ∙ active_meaning _ s.sound.state.fits.tree)
-          c.open_round.ensures); kept_len = ap length c.refresh.ensures ∙ table_length _ 64 }
+returns c = record {
+  totals_after = λ k s.
+      same_size _ _ _ _ s c.requires.1
+      (fields_opened _ _ s _ c.open_round.result _ _ (c.round_active-active.ensures ∙ active_meaning _ s.sound.state.fits.tree)
+      c.open_round.ensures);
+  kept_len = ap length c.refresh.ensures ∙ table_length _ 64;
+}
