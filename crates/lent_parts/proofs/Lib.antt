@@ -1,2 +1,4 @@
 pub mod Again
+pub mod Fields
+pub mod Lends
 pub mod Turning
