@@ -1,8 +1,8 @@
 -- A link record behind a reference: what opens a `&mut Link` and closes it, and what lends a local that holds a record and takes it back.
--- Every entry and every lender cites this. Demand 2.
+-- Lemmas for a proof by hand: today the check proves each entry and each lender by itself. Demand 2.
 --     lval, pval  the machine values of a record and of a packet.        Known       that the record is one that a `Link` can be
 --     lies_in     what lies in the local is taken for what a borrow holds.        lies_out    and back, with the record's relation
---     ref, own-at     the reference that is lent, for a lifetime of the walk's own, and what it owns
+--     ref, own_at     the reference that is lent, for a lifetime of the walk's own, and what it owns
 --     opened, closed  a `&mut Link` is opened, which gives the record's cell with its machine value written out and the record's
 --         relation, and closed at another record
 use Prim.Native.Nat.{ℕ, zero}
