@@ -6,7 +6,8 @@
 #     prove_program REPOSITORY NAME   the same for a program, which rt runs once on no input: target/bin/NAME and target/obj/NAME.o there,
 #                                     which bear the time when the proof began
 #     prove_archive REPOSITORY NAME [WORD ..]  the same for a library with exported functions: sets $proved_archive, in $work. crates.txt
-#                                     has it as a plain library, for the crates above it, so rt gets a copy whose crates.txt says staticlib
+#                                     has it as a plain library, for the crates above it: so rt proves it as that, and then gets a copy
+#                                     whose crates.txt says staticlib
 
 kit_folder() {
     local found
@@ -79,10 +80,11 @@ prove_archive() { # REPOSITORY NAME [WORD ..]
     local from=$1 name=$2 crate part
     shift 2
     work_folder
-    repository=$from
-    stands_on "$name"
+    # What is proved in the copy is gone with it: the copy begins with what this proof keeps.
+    rt='' prove "$from" "$name" lib
     rm -rf "$work/tree"
     mkdir -p "$work/tree/crates"
+    : >"$work/copied"
     for crate in "${order[@]}"; do
         mkdir "$work/tree/crates/$crate"
         for part in src specs proofs; do
@@ -92,6 +94,6 @@ prove_archive() { # REPOSITORY NAME [WORD ..]
     done | sed "s/^$name:/$name staticlib:/" >"$work/tree/crates.txt"
     proved_in=$work/tree prove "$from" "$name" lib "$@"
     proved_archive=$work/tree/crates/$name/out/lib$name.a
-    touch -r "$begun" "$proved_archive"
+    touch -r "$work/copied" "$proved_archive"
     rm -f "$begun"
 }
