@@ -1,5 +1,5 @@
 -- `speed::number` meets its contract: sums that wrap are one sum that wraps.
-use Rattle.std.proofs.Common.{◌≡◌, ℕ, ◌+◌, ◌%◌, ◌^◌, refl, arith, rules}
+use Rattle.std.proofs.Common.{◌≡◌, ℕ, ◌+◌, ◌%◌, ◌^◌, refl, arith}
 use Rattle.speed.proofs.number.Goals as goal
 
 -- a number and one more, each of them wrapped or not

@@ -1,5 +1,5 @@
 -- `speed::speed_fresh` meets its contract: every waiting place of a fresh link has length 0.
-use Rattle.std.proofs.Common.{◌≡◌, ℕ, ◌+◌, ◌%◌, ◌^◌, ◌≤◌, Bool, true, List, get_or, replicate, sym, ap, ◌∙◌, arith, rules}
+use Rattle.std.proofs.Common.{◌≡◌, ℕ, ◌+◌, ◌%◌, ◌^◌, ◌≤◌, Bool, true, List, get_or, replicate, sym, ap, ◌∙◌, arith}
 use lib.ListN.{get_or-replicate}
 use Rattle.checks.specs.declared.Verdict.{Verdict}
 use Rattle.checks.specs.declared.Verdict.TheVariants.{Passed}
