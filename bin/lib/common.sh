@@ -35,7 +35,7 @@ if [ -t 1 ]; then at_terminal=yes; fi
 
 # The tools, as README.md names them.
 declare -A tool=(
-    [rt]="the Rattle kit's command, rattle-kit-5b or rattle-kit-5b-plain, which proves and builds the programs"
+    [rt]="the Rattle kit's command, rattle-kit-13f, which proves and builds the programs"
     [rustc]="the Rust compiler (tried with 1.95)"
     [python3]="Python 3 (tried with 3.11)"
     [cc]="a C compiler, which links a native program"
@@ -298,10 +298,9 @@ stands_on() { # NAME
     for crate in "${listed[@]}"; do if [ -n "${reached[$crate]-}" ]; then order+=("$crate"); fi; done
 }
 
-# A program that was built by `proved` bears the time when its proof began, so what was edited during the proof is newer. A crate without
-# rt's stamp was not proved to its end.
+# A program that was built by `proved` bears the time when its proof began, so what was edited during the proof is newer.
 fresh() { # FILE NAME
-    if [ ! -x "$1" ] || { [ -d "$root/target/stamp" ] && [ ! -e "$root/target/stamp/$2" ]; }; then
+    if [ ! -x "$1" ]; then
         due="${1#"$root/"} is not built"
         return 1
     fi

@@ -1,29 +1,30 @@
-# The module that rt hands to the kit's compiler, for another machine; sourced after lib/proof.sh by bin/native and bin/page.
-#     keeping_kit                    $work/kit, the kit but for its compiler, which keeps in $work/seen each module that it is handed
+# The module that rattle hands to the kit's clang, for another machine; sourced after lib/proof.sh by bin/native, cross, page and speed.
+#     keeping_kit                    $rt, a kit like rt's but for its clang, which keeps in $work/seen each module that it is handed
 #     module_for TARGET MODULE TEXT  such a module as text, with TARGET's layout and name for x86-64's; $clang is the kit's compiler;
 #                                    where TARGET is x86-64 itself its functions still touch each page of a deep stack, as rt has it
 #     joined_to NAME                 the libraries whose objects stand in NAME's archive too: those that crates/NAME/joined names
 #     join_to NAME FOLDER ARCHIVE    puts their objects, out of their archives in FOLDER, into NAME's
 
+# rt finds by its own place its kit and what checks keep beside it, so its text is copied, and the rest linked.
 keeping_kit() {
-    local machine folder part bin
-    machine=$(uname -m)
-    bin=on/$machine/toolchain/bin
-    clang=$kit/$bin/clang
+    local folder part
+    clang=$kit/toolchain/bin/clang
     work_folder
-    chmod 755 "$work" # rt runs a program as nobody
-    mkdir -p "$work/kit/$bin" "$work/seen"
-    cat >"$work/kit/$bin/clang" <<END
+    mkdir -p "$work/kit/bin" "$work/kit/toolchain/bin" "$work/seen"
+    cp "$kit/bin/rt" "$kit/bin/rtlib.py" "$work/kit/bin"
+    cat >"$work/kit/toolchain/bin/clang" <<END
 #!/bin/sh
 for word in "\$@"; do case \$word in *.ll | *.bc) cp "\$word" "$work/seen/" ;; esac; done
 exec "$clang" "\$@"
 END
-    chmod +x "$work/kit/$bin/clang"
-    for folder in . on "on/$machine" "on/$machine/toolchain" "$bin"; do
+    chmod +x "$work/kit/toolchain/bin/clang"
+    for folder in . bin toolchain toolchain/bin; do
         for part in "$kit/$folder"/*; do
             if [ ! -e "$work/kit/$folder/${part##*/}" ]; then ln -s "$part" "$work/kit/$folder/"; fi
         done
     done
+    if [ -d "${kit%/*}/rattle-kept" ]; then ln -s "${kit%/*}/rattle-kept" "$work/rattle-kept"; fi
+    rt=$work/kit/bin/rt
 }
 
 module_for() { # TARGET MODULE TEXT
@@ -41,7 +42,7 @@ joined_to() { if [ -f "$root/crates/$1/joined" ]; then cat "$root/crates/$1/join
 
 # A library that is compiled by itself is its own module: the compiler sees only what it has.
 join_to() { # NAME FOLDER ARCHIVE
-    local other object ar=$kit/on/$(uname -m)/toolchain/bin/llvm-ar
+    local other object ar=$kit/toolchain/bin/llvm-ar
     work_folder
     for other in $(joined_to "$1"); do
         rm -rf "$work/joined"

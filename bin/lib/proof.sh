@@ -1,35 +1,28 @@
 # A proof by rt, one at a time in a repository; sourced after lib/common.sh by the commands that prove.
-#     kit_folder                     sets $kit, the kit's folder, or leaves it empty
-#     prove REPOSITORY NAME WORD ..  runs `rt WORD ..` there and says on standard error what it is at, or cannot; what rt says is kept in
-#                                    target/NAME.log, and $begun is a file made when it began
+#     kit_folder                      sets $kit, the folder of the kit that rt on PATH belongs to, or leaves it empty
+#     prove REPOSITORY NAME WORD ..   runs `rt WORD ..` in the crate's folder there and says on standard error what it is at, or cannot; what
+#                                     rt says is kept in target/NAME.log, and $begun is a file made when it began. $rt is the rt that runs,
+#                                     where it is not the one on PATH
+#     prove_program REPOSITORY NAME   the same for a program, which rt runs once on no input: target/bin/NAME and target/obj/NAME.o there,
+#                                     which bear the time when the proof began
+#     prove_archive REPOSITORY NAME [WORD ..]  the same for a library with exported functions: sets $proved_archive, in $work. crates.txt
+#                                     has it as a plain library, for the crates above it, so rt gets a copy whose crates.txt says staticlib
 
-# By RATTLE_HOME, by rt on PATH, or else where the last call found it, or where rt's logs say that it was.
 kit_folder() {
-    local rt place places=()
-    if [ -n "${RATTLE_HOME:-}" ]; then
-        places=("$RATTLE_HOME")
-    elif rt=$(command -v rt); then
-        places=("$(cd "$(dirname "$(readlink -f "$rt")")/.." && pwd -P)")
-    else
-        mapfile -t places < <(
-            cat "$root/target/kit" 2>/dev/null || true
-            sed -n 's|^logic \(/.*\)/logic/antt-project[.]json: .*|\1|p' "$root"/target/log/*.say 2>/dev/null | sort -u || true
-        )
-    fi
+    local found
     kit=
-    for place in ${places[@]+"${places[@]}"}; do
-        if [ -d "$place/on/$(uname -m)/toolchain" ]; then kit=$place && return; fi
-    done
+    if ! found=$(command -v rt); then return; fi
+    found=$(cd "$(dirname "$(readlink -f "$found")")/.." && pwd -P)
+    if [ -d "$found/toolchain" ]; then kit=$found; fi
 }
 
-# What rt keeps of each crate that it has begun since $begun: `failed` while it is being proved, then `proved`, or `built` for a program.
+# The last crate that rt says it has begun, and how many below the one asked for are built.
 now_proving() {
-    local crate word
-    proving='' proved=0
+    local crate
+    proving=$(sed -n 's/^rt: chose --jobs [0-9]* for //p' "$log" 2>/dev/null | tail -n 1)
+    proved=0
     for crate in "${order[@]}"; do
-        if [ ! "$repository/target/log/$crate.res" -nt "$begun" ]; then continue; fi
-        word=$(cat "$repository/target/log/$crate.res" 2>/dev/null || true)
-        case $word in failed) proving="$proving${proving:+ and }$crate" ;; proved | built) proved=$((proved + 1)) ;; esac
+        if [ "$crate" != "$proving" ] && [ -e "$where/crates/$crate/out/rlib/stamp" ]; then proved=$((proved + 1)); fi
     done
 }
 
@@ -46,21 +39,59 @@ watch() {
     done
 }
 
+# In `where`, which is the repository or a copy of it. A program's own status is not rt's.
 prove() { # REPOSITORY NAME WORD ..
-    local name=$2 log started=$SECONDS watcher status=0
+    local name=$2 log where=${proved_in:-$1} started=$SECONDS watcher status=0
     repository=$1
     shift 2
     log=$repository/target/$name.log
     begun=$repository/target/$name.begun
     stands_on "$name"
-    { : >"$begun" && : >"$log"; } 2>/dev/null || cannot "$repository/target cannot be written"
+    { mkdir -p "$repository/target" && : >"$begun" && : >"$log"; } 2>/dev/null || cannot "$repository/target cannot be written"
     watch </dev/null >&2 &
     watcher=$!
     disown "$watcher"
-    (cd "$repository" && exec rt "$@") </dev/null >"$log" 2>&1 || status=$?
+    if [ "$1" = run ]; then
+        (unset RT_BACKEND && cd "$where/crates/$name" && exec "${rt:-rt}" "$@") </dev/null 2>"$log" >/dev/null || status=$?
+        if grep -q "^rt: running out/$name;" "$log"; then status=0; fi
+    else
+        (unset RT_BACKEND && cd "$where/crates/$name" && exec "${rt:-rt}" "$@") </dev/null >"$log" 2>&1 || status=$?
+    fi
     kill "$watcher" 2>/dev/null || true
     if [ $status -eq 0 ]; then return; fi
     cat "$log" >&2
     rm -f "$begun"
     cannot "$name is not proved, so it is not run; what rt said stands above and in ${log#"$root/"}"
+}
+
+prove_program() { # REPOSITORY NAME
+    local part place
+    prove "$1" "$2" run
+    for part in "bin/$2" "obj/$2.o"; do
+        place=$1/target/$part
+        { mkdir -p "${place%/*}" && cp "$1/crates/$2/out/${part#*/}" "$place.new" && touch -r "$begun" "$place.new" &&
+            mv -f "$place.new" "$place"; } 2>/dev/null || cannot "$place cannot be written"
+    done
+    rm -f "$begun"
+}
+
+prove_archive() { # REPOSITORY NAME [WORD ..]
+    local from=$1 name=$2 crate part
+    shift 2
+    work_folder
+    repository=$from
+    stands_on "$name"
+    rm -rf "$work/tree"
+    mkdir -p "$work/tree/crates"
+    for crate in "${order[@]}"; do
+        mkdir "$work/tree/crates/$crate"
+        for part in src specs proofs; do
+            if [ -d "$from/crates/$crate/$part" ]; then cp -Rp "$from/crates/$crate/$part" "$work/tree/crates/$crate"; fi
+        done
+        printf '%s:%s\n' "$crate" "${needs[$crate]}"
+    done | sed "s/^$name:/$name staticlib:/" >"$work/tree/crates.txt"
+    proved_in=$work/tree prove "$from" "$name" lib "$@"
+    proved_archive=$work/tree/crates/$name/out/lib$name.a
+    touch -r "$begun" "$proved_archive"
+    rm -f "$begun"
 }

@@ -16,7 +16,6 @@ use Rattle.tree.specs.declared.Tree.{Tree}
 use Rattle.tree.specs.Class.{parent_of, weight_of, is_class, is_leaf}
 use Rattle.tree.specs.Below.{at_or_below, leaf_below, leaves_sum, Above}
 use Rattle.tree.specs.Rules.{PlanRules}
-use Rattle.tree.specs.Sum.{sum_to}
 use Rattle.tree.proofs.Classes.{class_in_lem, class_range}
 use Rattle.tree.proofs.Rules.{parent_lower}
 use Rattle.tree.proofs.Sums.{sum_same}

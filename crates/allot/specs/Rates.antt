@@ -1,5 +1,5 @@
 -- What each class gets from what its parent has, from the root down, and what stays unallotted at each (R71 to R76).
-use Rattle.std.specs.Prelude.{true, false, ◌≡◌, ℕ, ◌+◌, ◌≤◌, ◌<◌, min}
+use Rattle.std.specs.Prelude.{true, ◌≡◌, ℕ, ◌+◌, ◌≤◌, ◌<◌, min}
 use Rattle.tree.specs.declared.Tree.{Tree}
 use Rattle.tree.specs.Class.{parent_of, is_class, is_leaf, children_sum}
 use Rattle.tree.specs.Below.{Above}

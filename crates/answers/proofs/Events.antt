@@ -9,7 +9,7 @@ use Rattle.checks.specs.Check.{first_broken, Exactly}
 use Rattle.checks.proofs.Laws.{exactly_yes}
 use Rattle.plan.specs.declared.Arrived.{Arrived}
 use Rattle.plan.specs.declared.EventRead.{EventRead}
-use Rattle.plan.specs.declared.EventRead.TheVariants.{NoMore, Arrive, SendNext, Fault}
+use Rattle.plan.specs.declared.EventRead.TheVariants.{Arrive, SendNext}
 use Rattle.plan.specs.Event.{used_of, event_at}
 use Rattle.tree.specs.declared.Tree.{Tree}
 use Rattle.state.specs.declared.Link.{Link}
@@ -24,7 +24,7 @@ use Rattle.calls.specs.declared.AfterSend.{AfterSend}
 use Rattle.calls.specs.Arrival.{Arrives, arrival_leaves, arrival_of}
 use Rattle.calls.specs.declared.Departure.{Departure}
 use Rattle.calls.specs.Send.{Sends, send_leaves, send_of}
-use Rattle.calls.specs.Run.{Call, arrival, send, Made, made, link_left, makes}
+use Rattle.calls.specs.Run.{Call, arrival, send, made, link_left, makes}
 use Rattle.calls.proofs.Arrivals.{arrival_shaped}
 use Rattle.calls.proofs.Departures.{send_unsound, send_shaped, sends_by_lem}
 use Rattle.calls.proofs.Runs.{rules_meet, meets_keeps}
@@ -38,19 +38,7 @@ use Rattle.run.specs.Event.{packet_in}
 use Rattle.answers.specs.declared.Reply.{Reply}
 use Rattle.answers.specs.declared.event.Heard.{Heard}
 use Rattle.answers.specs.Reply.{reply_to}
-use Rattle.answers.specs.Steps.{
-  ArrivesAs,
-  why_nothing,
-  send_reply,
-  went_replies,
-  DepartsAs,
-  heard_by,
-  Told,
-  Next,
-  next_by,
-  next_gives,
-  Hears,
-}
+use Rattle.answers.specs.Steps.{ArrivesAs, send_reply, went_replies, DepartsAs, heard_by, Told, next_by, next_gives, Hears}
 
 -- ---- an arrival
 

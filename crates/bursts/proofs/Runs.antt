@@ -1,18 +1,18 @@
 -- An exported burst is a run of the library (R349): so all that is said of every run, the bounded wait among it, holds of its calls.
 -- Demands 1 to 3.
 use mathlib.Core.Bool.{Bool, true, false}
-use mathlib.Core.List.{List, [], ◌∷◌, ◌++◌, map}
-use mathlib.Core.Path.{◌≡◌, refl, sym, ap, ap₂, subst, ◌∙◌}
+use mathlib.Core.List.{List, [], ◌++◌}
+use mathlib.Core.Path.{◌≡◌, refl, sym, ap, subst, ◌∙◌}
 use Prim.Native.Nat.{ℕ, zero, suc, ◌/◌}
 use lib.ListN.{length, get_or, drop}
 use Rattle.plan.specs.declared.EventRead.{EventRead}
 use Rattle.plan.specs.declared.EventRead.TheVariants.{NoMore, Arrive, SendNext, Fault}
 use Rattle.plan.specs.Event.{event_at}
 use Rattle.state.specs.declared.Link.{Link}
-use Rattle.calls.specs.Run.{Call, Made, made, call_of, link_left, last_link, Meets, Run}
+use Rattle.calls.specs.Run.{Made, last_link, Run}
 use Rattle.calls.proofs.Runs.{rules_run}
 use Rattle.answers.specs.declared.BurstEnd.{BurstEnd}
-use Rattle.answers.specs.Reply.{reply_to, row_of, rows_of}
+use Rattle.answers.specs.Reply.{rows_of}
 use Rattle.answers.specs.Burst.{CallsMade, made_by, calls_from, burst_of}
 use Rattle.answers.proofs.Bursts.{calls_of_run}
 use Rattle.bursts.specs.Bursting.{CallBursts}

@@ -40,7 +40,7 @@ pub extern "C" fn cb_burst_fields(
     said: &mut [u64; 3],
 ) -> u64
     ensures { CallBursts (link_in shape.now stand.old balance.old residual.old
-        start.old held.old lengths.old tags.old marks.old packets.entry.now bytes.old) events.now out.old result said.new out.new (link_in
+        start.old held.old lengths.old tags.old marks.old packets.old bytes.old) events.now out.old result said.new out.new (link_in
         shape.now stand.new balance.new residual.new start.new held.new
         lengths.new tags.new marks.new packets.new bytes.new) }
 {

@@ -5,7 +5,6 @@ use mathlib.Core.Path.{◌≡◌, refl, sym, ap, subst, ◌∙◌}
 use Prim.Native.Nat.{ℕ}
 use Rattle.state.specs.declared.Link.{Link}
 use Rattle.state.specs.declared.Waiting.{Waiting}
-use Rattle.state.specs.Mark.{since}
 use Rattle.state.specs.Queue.{Shaped}
 use Rattle.state.specs.State.{State, meaning, queue_at}
 use Rattle.sound.specs.Sound.{SoundLink}

@@ -1,16 +1,13 @@
 -- A recording that is judged good is the recording of a run: that of its own calls, by our rules (R302). Demand 2.
-use mathlib.Core.Bool.{Bool, true, false, cond, ◌&&◌, not}
+use mathlib.Core.Bool.{Bool, true, false, ◌&&◌, not}
 use mathlib.Core.List.{List, [], ◌∷◌, ◌++◌}
 use mathlib.Core.Path.{◌≡◌, refl, sym, ap, ap₂, subst, ◌∙◌}
 use Prim.Native.Nat.{ℕ, zero, suc, ◌+◌, ◌-◌, ◌*◌, ◌/◌, ◌%◌, ◌≤◌, ◌<◌}
 use native.Mathlib.Omega.{arith}
 use borrow.Author.Tests.{eqb-true, not-false}
-use lib.Dec.{eqb}
 use lib.ListN.{length, get_or, take, drop, length-drop}
 use lib.Seq.{get_or-drop, drop-cons, drop-drop}
 use Rattle.checks.proofs.Laws.{not_true_and_false}
-use Rattle.tree.proofs.Classes.{both_true}
-use Rattle.plan.specs.declared.Arrived.{Arrived}
 use Rattle.plan.specs.declared.Claim.{Claim}
 use Rattle.plan.specs.declared.Claim.TheVariants.{Sent, Idle}
 use Rattle.plan.specs.declared.EntryRead.{EntryRead}

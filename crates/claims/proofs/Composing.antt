@@ -1,20 +1,17 @@
 -- Parts compose: a recording judged part by part, what a part leaves of its bytes put before the next, is judged as the whole is.
-use mathlib.Core.Bool.{Bool, true, false, ◌&&◌, ◌||◌}
-use mathlib.Core.List.{List, ◌++◌, append_assoc}
-use mathlib.Core.Path.{◌≡◌, refl, sym, ap, ap₂, subst, ◌∙◌}
-use Prim.Native.Nat.{ℕ, zero, suc, ◌+◌, ◌-◌, ◌≤◌, ◌<◌}
+use mathlib.Core.Bool.{Bool, true, false}
+use mathlib.Core.List.{List, ◌++◌}
+use mathlib.Core.Path.{◌≡◌, refl, sym, ap, ◌∙◌}
+use Prim.Native.Nat.{ℕ, zero, suc, ◌-◌, ◌≤◌, ◌<◌}
 use native.Mathlib.Omega.{arith}
 use borrow.Author.Tests.{leb-true}
-use lib.Dec.{leb}
-use lib.ListN.{length, drop, length-drop, length-append}
+use lib.ListN.{length}
 use lib.Seq.{drop-append-le}
 use Rattle.tree.proofs.Classes.{both_true}
 use Rattle.plan.specs.declared.EntryRead.{EntryRead}
 use Rattle.plan.specs.Entry.{entry_at, longest_entry}
 use Rattle.plan.proofs.EntryLaws.{entry_extends}
-use Rattle.claims.specs.declared.Checked.{Checked}
 use Rattle.claims.specs.Recording.{entry_gives, Way, moved, onward, takes_one, takes, part_of}
-use Rattle.claims.proofs.Moving.{Moves}
 use Rattle.claims.proofs.Checking.{takes_done, takes_one_lem, onward_moves, onward_rest}
 
 -- ---- how many entries there can be does not matter

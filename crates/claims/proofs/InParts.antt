@@ -1,11 +1,10 @@
 -- However an input is cut into parts, a recording is judged as the whole is (R305). Demands 1 and 2.
-use mathlib.Core.Bool.{Bool, true, false, cond, ◌&&◌, ◌||◌}
-use mathlib.Core.List.{List, [], ◌∷◌, ◌++◌, append_assoc, append-nil}
+use mathlib.Core.Bool.{Bool, true, false, cond}
+use mathlib.Core.List.{List, [], ◌∷◌, ◌++◌, append_assoc}
 use mathlib.Core.Path.{◌≡◌, refl, sym, ap, ap₂, subst, ◌∙◌}
-use Prim.Native.Nat.{ℕ, zero, suc, ◌+◌, ◌-◌, ◌≤◌, ◌<◌}
+use Prim.Native.Nat.{ℕ, zero, suc, ◌+◌, ◌-◌, ◌≤◌}
 use native.Mathlib.Omega.{arith}
 use borrow.Author.Tests.{le-leb}
-use lib.Dec.{leb}
 use lib.ListN.{length, drop, length-drop, length-append}
 use lib.Seq.{drop-drop, drop-append-le}
 use Rattle.checks.proofs.Laws.{exactly_yes, exactly_unique, not_true_and_false}
@@ -14,7 +13,6 @@ use Rattle.plan.specs.declared.EntryRead.TheVariants.{Ended, Arrives, Claims, St
 use Rattle.plan.specs.declared.Claim.{Claim}
 use Rattle.plan.specs.Entry.{entry_at}
 use Rattle.plan.specs.declared.PlanRead.{PlanRead}
-use Rattle.plan.specs.Reader.{plan_of}
 use Rattle.plan.proofs.Longer.{plan_window}
 use Rattle.state.specs.declared.Link.{Link}
 use Rattle.sound.specs.Sound.{SoundLink}

@@ -1,34 +1,30 @@
 -- A recording made from a run of the library is good; with any claim changed it is false at that claim's place (R302). Demand 2.
-use mathlib.Core.Bool.{Bool, true, false, ◌&&◌, not}
+use mathlib.Core.Bool.{Bool, true, false}
 use mathlib.Core.List.{List, [], ◌∷◌, ◌++◌, append_assoc, append-nil}
 use mathlib.Core.Logic.{◌⊎◌, inl, inr}
 use mathlib.Core.Path.{◌≡◌, refl, sym, ap, ap₂, subst, ◌∙◌}
-use Prim.Native.Nat.{ℕ, zero, suc, ◌+◌, ◌-◌, ◌*◌, ◌/◌, ◌%◌, ◌≤◌, ◌<◌}
+use Prim.Native.Nat.{ℕ, ◌+◌, ◌-◌, ◌*◌, ◌/◌, ◌%◌}
 use native.Mathlib.Omega.{arith}
 use native.Mathlib.Nat.{zero-add}
 use borrow.Author.Tests.{le-ltb, ne_eqb, eq-eqb, eqb-true}
-use lib.Dec.{eqb, ltb}
+use lib.Dec.{eqb}
 use lib.ListN.{length, drop, length-append}
-use Rattle.checks.specs.declared.Verdict.{Verdict}
-use Rattle.checks.specs.declared.Verdict.TheVariants.{Passed, Refused}
-use Rattle.checks.specs.Check.{passed}
+use Rattle.checks.specs.declared.Verdict.TheVariants.{Passed}
 use Rattle.checks.proofs.Laws.{not_true_and_false}
 use Rattle.tree.proofs.Classes.{both_true}
 use Rattle.plan.specs.declared.Arrived.{Arrived}
 use Rattle.plan.specs.declared.Claim.{Claim}
 use Rattle.plan.specs.declared.Claim.TheVariants.{Sent, Idle}
 use Rattle.plan.specs.declared.EntryRead.{EntryRead}
-use Rattle.plan.specs.declared.EntryRead.TheVariants.{Ended, Arrives, Claims, Stops}
-use Rattle.plan.specs.declared.kind.Section.TheVariants.{Recordings, AfterSend}
+use Rattle.plan.specs.declared.EntryRead.TheVariants.{Ended, Arrives, Claims}
 use Rattle.plan.specs.Kind.{record_kind}
 use Rattle.plan.specs.Record.{kind_at, missing, unknown, cut, body_of}
 use Rattle.plan.specs.Event.{arrived_of}
-use Rattle.plan.specs.Entry.{claim_in, claim_after, entry_of, entry_at, claim_uses}
+use Rattle.plan.specs.Entry.{claim_after, entry_at, claim_uses}
 use Rattle.plan.proofs.EntryLaws.{claim_sent, claim_idle, after_whole, entry_arrives, entry_sends, entry_end, entry_whole}
 use Rattle.plan.specs.Reader.{plan_of}
 use Rattle.plan.proofs.Numbers.{plan_rules}
 use Rattle.state.specs.declared.Link.{Link}
-use Rattle.state.specs.declared.Packet.{Packet}
 use Rattle.state.specs.State.{fresh_link}
 use Rattle.sound.specs.Sound.{SoundLink}
 use Rattle.calls.specs.declared.Departure.{Departure}
@@ -37,9 +33,7 @@ use Rattle.calls.specs.Run.{Call, arrival, send, Made, made, call_of, link_left,
 use Rattle.calls.proofs.FreshLinks.{fresh_sound}
 use Rattle.calls.proofs.Runs.{meets_by, meets_keeps}
 use Rattle.checks.proofs.Laws.{exactly_yes}
-use Rattle.claims.specs.declared.Checked.{Checked}
-use Rattle.claims.specs.declared.Judged.{Judged}
-use Rattle.claims.specs.declared.Judged.TheVariants.{Good, FalseAt, Stop}
+use Rattle.claims.specs.declared.Judged.TheVariants.{Good, FalseAt}
 use Rattle.claims.specs.Recording.{true_claim, same_claim, goes_on, decides, claim_gives, entry_gives, Way, way_from, moved, onward}
 use Rattle.claims.specs.Recording.{part_of, judged_of}
 use Rattle.claims.specs.Recorded.{body_bytes, claim_bytes, call_bytes, recorded, sends_by, sends_in}

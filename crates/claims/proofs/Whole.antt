@@ -1,7 +1,7 @@
 -- Laws of a whole recording and of a part of one.
-use mathlib.Core.Bool.{Bool, true, false, cond, ◌&&◌}
+use mathlib.Core.Bool.{Bool, true, false}
 use mathlib.Core.List.{List}
-use mathlib.Core.Path.{◌≡◌, refl, sym, ap, ap₂, subst, ◌∙◌}
+use mathlib.Core.Path.{◌≡◌, refl, sym, ap, subst, ◌∙◌}
 use Prim.Native.Nat.{ℕ, ◌+◌, ◌-◌, ◌≤◌, ◌<◌}
 use native.Mathlib.Omega.{arith}
 use borrow.Author.Tests.{leb-true}
@@ -21,7 +21,6 @@ use Rattle.state.specs.State.{fresh_link}
 use Rattle.sound.specs.Sound.{SoundLink}
 use Rattle.calls.proofs.FreshLinks.{fresh_sound}
 use Rattle.claims.specs.declared.Checked.{Checked}
-use Rattle.claims.specs.declared.Judged.{Judged}
 use Rattle.claims.specs.declared.Judged.TheVariants.{Stop}
 use Rattle.claims.specs.Recording.{goes_on, decides, way_from, part_of, plan_judges, judged_of}
 use Rattle.claims.specs.Parts.{begins_with, check_begins, most, fits, part_gives, JudgesPart}

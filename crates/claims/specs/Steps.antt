@@ -14,7 +14,7 @@ use Rattle.claims.specs.declared.Judged.{Judged}
 use Rattle.claims.specs.declared.Judged.TheVariants.{Good, FalseAt}
 use Rattle.claims.specs.declared.Checked.{Checked}
 use Rattle.claims.specs.declared.in_place.Did.{Did}
-use Rattle.claims.specs.Recording.{same_claim, entry_gives, part_of, way_from}
+use Rattle.claims.specs.Recording.{entry_gives, part_of, way_from}
 
 -- the packet that a send in place sent, and the claim that it makes true
 abbrev pub packet_of : Went → Arrived

@@ -122,7 +122,7 @@ pub extern "C" fn cb_arrive_fields(
     answer: &mut [u64; 8],
 ) -> u64
     ensures { CallArrives (link_in shape.now stand.now balance.now residual.now
-        start.now held.old lengths.old tags.old marks.old packets.entry.now bytes.old) class length tag result answer.new (link_in shape.now stand.now
+        start.now held.old lengths.old tags.old marks.old packets.old bytes.old) class length tag result answer.new (link_in shape.now stand.now
         balance.now residual.now start.now held.new lengths.new
         tags.new marks.new packets.new bytes.new) }
 {
@@ -180,7 +180,7 @@ fn sound_in(
     packets: &[u64; 64],
     bytes: &[u64; 64],
 ) -> bool
-    ensures { (tags marks : List ℕ) → Exactly result (SoundLink (link_in shape.now stand.now balance.entry.now residual.now start.now held.now lengths.now tags marks
+    ensures { (tags marks : List ℕ) → Exactly result (SoundLink (link_in shape.now stand.now balance.now residual.now start.now held.now lengths.now tags marks
         packets.now bytes.now)) }
 {
     let mut children = [0u64; 64];

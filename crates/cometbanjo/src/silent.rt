@@ -34,7 +34,7 @@ fn reason_in(
     requires { SoundLink (link_in shape.now stand.now balance.now residual.now start.now held.now lengths.now
         tags.now marks.now packets.now bytes.now) × (is_leaf (tree_in shape.now) class ≡ true) × (length (zip_accounts
         balance.now residual.now) ≡ 64) }
-    ensures { IsTrue (meaning (link_in shape.now stand.now balance.now residual.entry.now start.now held.now lengths.now tags.now marks.now
+    ensures { IsTrue (meaning (link_in shape.now stand.now balance.now residual.now start.now held.now lengths.now tags.now marks.now
         packets.now bytes.now)) class result }
 {
     if held[class] == 0 {

@@ -1,8 +1,7 @@
 -- One class number's totals, out of what the panel is told of all, are what it is told of that one. Demand 1.
 use mathlib.Core.Bool.{Bool, true, false, cond}
-use mathlib.Core.List.{List}
-use mathlib.Core.Path.{◌≡◌, refl, sym, ap, ap₂, ◌∙◌}
-use Prim.Native.Nat.{ℕ, ◌≤◌, ◌<◌}
+use mathlib.Core.Path.{◌≡◌, refl, sym, ap, ◌∙◌}
+use Prim.Native.Nat.{ℕ, ◌<◌}
 use native.Mathlib.Decide.{dec_lt}
 use native.Mathlib.Omega.{arith}
 use lib.Dec.{ltb}
@@ -12,9 +11,8 @@ use Rattle.checks.specs.declared.Verdict.TheVariants.{Passed, Refused}
 use Rattle.tree.specs.Sum.{table}
 use Rattle.tree.proofs.Tables.{table_at}
 use Rattle.state.specs.declared.Link.{Link}
-use Rattle.state.specs.declared.Packet.{Packet}
 use Rattle.state.specs.Queue.{bytes_in}
-use Rattle.state.specs.State.{meaning, waiting_below, counts_of, no_totals}
+use Rattle.state.specs.State.{meaning, waiting_below, counts_of}
 use Rattle.sound.specs.Sound.{SoundLink}
 use Rattle.calls.specs.declared.PanelTotals.{PanelTotals}
 use Rattle.calls.specs.declared.ClassTotals.{ClassTotals}

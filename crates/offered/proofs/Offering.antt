@@ -1,6 +1,6 @@
 -- An offer has one answer, and what it says is kept by the packet that comes then. Demands 1 and 3.
 use mathlib.Core.List.{List}
-use mathlib.Core.Path.{◌≡◌, refl, sym, ap, ◌∙◌}
+use mathlib.Core.Path.{◌≡◌, sym, ap, ◌∙◌}
 use Prim.Native.Nat.{ℕ, ◌^◌, ◌≤◌, ◌<◌}
 use native.Mathlib.Omega.{arith}
 use Rattle.checks.specs.declared.Verdict.{Verdict}

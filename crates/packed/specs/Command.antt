@@ -1,5 +1,5 @@
 -- Numbers of a packed command, big-endian, its parts, and where the next one begins; what lies past the end reads as 0. No rule of its own.
-use Rattle.std.specs.Prelude.{Bool, cond, ◌||◌, List, [], ℕ, ◌+◌, ◌*◌, ◌-◌, ltb, length, take, drop}
+use Rattle.std.specs.Prelude.{cond, ◌||◌, List, [], ℕ, ◌+◌, ◌*◌, ◌-◌, ltb, length, take, drop}
 use Rattle.plan.specs.Record.{number32}
 
 -- the number of eight bytes at a place

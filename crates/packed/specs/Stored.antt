@@ -1,5 +1,5 @@
 -- A value stored into one number of a tree, cut to the width of its field, whatever that does to the plan rules. No rule of its own.
-use Rattle.std.specs.Prelude.{Bool, cond, List, ℕ, ◌%◌, eqb, ltb, set}
+use Rattle.std.specs.Prelude.{cond, List, ℕ, ◌%◌, eqb, ltb, set}
 use Rattle.units.specs.declared.Weight.{Weight}
 use Rattle.tree.specs.declared.Tree.{Tree}
 use Rattle.tree.specs.Class.{ruled}

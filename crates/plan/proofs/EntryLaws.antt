@@ -1,6 +1,6 @@
 -- Laws of the entries of a recording, one for each way an entry can be; an entry stands whole in the rest of the input, and what comes
 -- after it is no part of it.
-use mathlib.Core.Bool.{Bool, true, false, cond, ◌||◌}
+use mathlib.Core.Bool.{Bool, true, false}
 use mathlib.Core.List.{List, ◌++◌}
 use mathlib.Core.Path.{◌≡◌, refl, sym, ap, subst, ◌∙◌}
 use Prim.Native.Nat.{ℕ, ◌+◌, ◌≤◌, ◌<◌}
@@ -9,7 +9,6 @@ use borrow.Author.Tests.{ne_eqb}
 use lib.ListN.{length, drop, length-append, length-drop}
 use lib.Seq.{drop-append-le}
 use Rattle.checks.specs.Check.{first_broken}
-use Rattle.plan.specs.declared.Claim.{Claim}
 use Rattle.plan.specs.declared.Claim.TheVariants.{Sent, Idle}
 use Rattle.plan.specs.declared.EntryRead.{EntryRead}
 use Rattle.plan.specs.declared.EntryRead.TheVariants.{Ended, Arrives, Claims, Stops}

@@ -1,6 +1,6 @@
 -- What the reader of recordings says of the rest of the input: an arrival, or a send with the claim directly after it (R286 to R294).
 -- Demand 1.
-use Rattle.std.specs.Prelude.{Bool, cond, ◌||◌, List, [], ◌∷◌, ℕ, ◌+◌, drop}
+use Rattle.std.specs.Prelude.{cond, ◌||◌, List, [], ◌∷◌, ℕ, drop}
 use Rattle.checks.specs.declared.Verdict.{Verdict}
 use Rattle.checks.specs.declared.Verdict.TheVariants.{Passed, Refused}
 use Rattle.checks.specs.Check.{Check, check, first_broken}

@@ -1,11 +1,11 @@
 -- What is promised is kept (R241), and one answer is allowed. Demand 3.
-use mathlib.Core.Bool.{Bool, true, false, not}
+use mathlib.Core.Bool.{Bool, true, not}
 use mathlib.Core.List.{List}
 use mathlib.Core.Path.{◌≡◌, refl, sym, ap, ◌∙◌}
-use Prim.Native.Nat.{ℕ, ◌*◌, ◌≤◌, ◌<◌}
+use Prim.Native.Nat.{ℕ, ◌≤◌, ◌<◌}
 use native.Mathlib.Nat.{mul-le-mul_right}
 use native.Mathlib.Omega.{arith}
-use lib.ListN.{length, get_or}
+use lib.ListN.{get_or}
 use borrow.Author.Tests.{le-ltb}
 use Rattle.checks.specs.declared.Verdict.{Verdict}
 use Rattle.checks.specs.declared.Verdict.TheVariants.{Passed}
@@ -14,7 +14,7 @@ use Rattle.checks.proofs.Laws.{pass_over, none_broken, exactly_unique}
 use Rattle.units.specs.Cost.{cost_of}
 use Rattle.units.proofs.Laws.{cost_grows}
 use Rattle.tree.specs.declared.Tree.{Tree}
-use Rattle.tree.specs.Class.{weight_of, longest_of, is_leaf}
+use Rattle.tree.specs.Class.{longest_of, is_leaf}
 use Rattle.tree.specs.Rules.{PlanRules}
 use Rattle.state.specs.declared.Link.{Link}
 use Rattle.state.specs.declared.Packet.{Packet}
@@ -22,7 +22,7 @@ use Rattle.state.specs.Queue.{held_of, no_packet, bytes_in}
 use Rattle.state.specs.State.{State, meaning, queue_at}
 use Rattle.state.proofs.Bytes.{bytes_most}
 use Rattle.state.proofs.Meaning.{meaning_queue}
-use Rattle.sound.specs.Sound.{Sound, SoundLink}
+use Rattle.sound.specs.Sound.{Sound}
 use Rattle.calls.specs.declared.AfterArrival.{AfterArrival}
 use Rattle.calls.specs.Arrival.{Arrives}
 use Rattle.calls.specs.Run.{Made, Run}

@@ -3,7 +3,6 @@ use Rattle.std.specs.Prelude.{Bool, not, List, [], ◌∷◌, ◌≡◌, ℕ, �
 use Rattle.checks.specs.declared.Verdict.{Verdict}
 use Rattle.checks.specs.declared.Verdict.TheVariants.{Passed, Refused}
 use Rattle.checks.specs.Check.{Check, check, first_broken, Exactly}
-use Rattle.units.specs.declared.Bytes.{Bytes}
 use Rattle.units.specs.Cost.{cost_of}
 use Rattle.tree.specs.declared.Tree.{Tree}
 use Rattle.tree.specs.Class.{weight_of, longest_of, is_leaf}

@@ -1,25 +1,24 @@
 -- What the totals tell (R279): a packet waits exactly when the root counts one, the root counts all that wait, and no total is large.
 -- Demand 2.
-use mathlib.Core.Bool.{Bool, true, false, ◌&&◌}
-use mathlib.Core.Path.{◌≡◌, refl, sym, ap, ◌∙◌}
+use mathlib.Core.Bool.{Bool, true, false}
+use mathlib.Core.Path.{◌≡◌, refl, sym, ◌∙◌}
 use Prim.Native.Nat.{ℕ, ◌*◌, ◌≤◌, ◌<◌}
 use native.Mathlib.Omega.{arith}
 use lib.Dec.{leb}
 use lib.ListN.{length, get_or}
 use borrow.Author.Tests.{le-leb, lt-leb, leb-false}
 use Rattle.checks.proofs.Laws.{not_true_and_false}
-use Rattle.tree.specs.Class.{parent_of, is_leaf}
-use Rattle.tree.specs.Rules.{PlanRules}
+use Rattle.tree.specs.Class.{is_leaf}
 use Rattle.tree.specs.Below.{leaves_sum}
 use Rattle.tree.specs.Sum.{sum_to}
-use Rattle.tree.proofs.Leaves.{leaf_known, leaf_least, leaf_sum, root_some, root_none, root_all, sum_most, sum_rises}
-use Rattle.tree.proofs.Rules.{few_classes, leaf_number, longest_range, parent_below}
+use Rattle.tree.proofs.Leaves.{leaf_known, leaf_least, leaf_sum, root_some, root_none, root_all, sum_most}
+use Rattle.tree.proofs.Rules.{few_classes, leaf_number, longest_range}
 use Rattle.tree.proofs.Sums.{some_found}
 use Rattle.units.specs.Cost.{cost_of, most_cost}
 use Rattle.units.proofs.Laws.{cost_ceiling}
 use Rattle.state.specs.Queue.{no_packet, bytes_in}
 use Rattle.state.specs.declared.Link.{Link}
-use Rattle.state.specs.State.{State, meaning, queue_at, TotalsRight}
+use Rattle.state.specs.State.{State, meaning, queue_at}
 use Rattle.state.proofs.Bytes.{bytes_rest, bytes_most}
 use Rattle.sound.specs.Sound.{Sound, SoundLink}
 use Rattle.rules.specs.Active.{waits, some_waits}

@@ -1,5 +1,5 @@
 -- In a main round every class that shares out has a quota of at least 1, so every active leaf gains at least its weight. Demands 2 and 3.
-use mathlib.Core.Bool.{Bool, true, false, cond, ◌&&◌}
+use mathlib.Core.Bool.{Bool, true, false, cond}
 use mathlib.Core.Path.{◌≡◌}
 use Prim.Native.Nat.{ℕ, zero, suc, ◌+◌, ◌/◌, ◌≤◌, zero-le}
 use native.Mathlib.Decide.{ℕ_discrete}

@@ -28,7 +28,7 @@ use Rattle.state.proofs.Meaning.{meaning_held, meaning_take, meaning_first}
 use Rattle.sound.specs.Sound.{Sound, SoundLink}
 use Rattle.tree.proofs.Rules.{few_classes, size_ceiling}
 use Rattle.rules.specs.Opening.{opened_with, opened, next_size, Covers}
-use Rattle.rules.specs.Sending.{next_leaf, first_of, sent_state, paid_by, paid, books_after, turns_off}
+use Rattle.rules.specs.Sending.{first_of, sent_state, paid_by, paid, books_after, turns_off}
 use Rattle.rules.specs.Wide.{Wide}
 use Rattle.rules.proofs.Opened.{next_covered}
 use Rattle.rules.proofs.Sender.{Sender, next_sender}

@@ -3,7 +3,7 @@
 use mathlib.Core.Bool.{Bool, true, false, cond}
 use mathlib.Core.List.{List}
 use mathlib.Core.Path.{◌≡◌, refl, sym, ap, ap₂, ◌∙◌}
-use Prim.Native.Nat.{ℕ, zero, ◌+◌, ◌-◌, ◌*◌, ◌/◌, ◌≤◌, ◌<◌}
+use Prim.Native.Nat.{ℕ, ◌+◌, ◌-◌, ◌*◌, ◌/◌, ◌≤◌, ◌<◌}
 use native.Mathlib.Nat.{mul-zero, zero-mul, mod_def, mod-lt}
 use native.Mathlib.Omega.{arith}
 use native.Mathlib.Decide.{ℕ_discrete}
@@ -32,16 +32,7 @@ use Rattle.rules.proofs.Shares.{quota_root, quota_step, quota_back, quota_inacti
 use Rattle.rules.proofs.Sums.{sum_without}
 use Rattle.rules.specs.Wide.{Wide}
 use Rattle.rules.specs.Sending.{next_leaf}
-use Rattle.rules.proofs.Resized.{
-  resized_surplus,
-  resized_other,
-  resized_length,
-  root_most,
-  resized_total,
-  main_or_surplus,
-  next_resizes,
-  closing_covers,
-}
+use Rattle.rules.proofs.Resized.{resized_surplus, resized_other, resized_length, root_most, resized_total, next_resizes, closing_covers}
 use Rattle.rules.proofs.ByParent.{sum_by_parent}
 use Rattle.rules.proofs.Taken.{leaf_class_lem, leaf_childless, taken_past, taken_fits, taken_waits, taken_up, taken_by_leaf, taken_off}
 use Rattle.rules.proofs.Taken.{sum_some}

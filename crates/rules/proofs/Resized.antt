@@ -2,7 +2,7 @@
 use mathlib.Core.Bool.{false}
 use mathlib.Core.List.{List}
 use mathlib.Core.Path.{◌≡◌, refl, sym, ap, ◌∙◌}
-use Prim.Native.Nat.{ℕ, ◌+◌, ◌-◌, ◌≤◌, ◌<◌}
+use Prim.Native.Nat.{ℕ, ◌+◌, ◌-◌, ◌≤◌}
 use native.Mathlib.Omega.{arith}
 use lib.ListN.{length, length-set, set}
 use lib.Seq.{get_or-set_same, get_or-set_other}
@@ -12,7 +12,7 @@ use Rattle.state.specs.Account.{no_account, account_of, funds_of, took_size}
 use Rattle.state.specs.State.{State}
 use Rattle.sound.specs.Sound.{Sound, total}
 use Rattle.rules.specs.Active.{round_active, weight_sum}
-use Rattle.rules.specs.Opening.{Kind, main, surplus, resized, next_kind, next_size, resized_accounts, Resizes, Covers}
+use Rattle.rules.specs.Opening.{Kind, main, surplus, next_kind, next_size, resized_accounts, Resizes, Covers}
 use Rattle.rules.specs.Sending.{next_leaf}
 use Rattle.rules.specs.Wide.{Wide}
 use Rattle.rules.proofs.Closing.{others_less}

@@ -1,6 +1,6 @@
 -- The sizes that may be in force: rule 2's is at most rule 1's, and each rule's is between the two. Demands 2 and 3.
 use mathlib.Core.Bool.{Bool, true, false, cond}
-use mathlib.Core.Path.{◌≡◌, refl}
+use mathlib.Core.Path.{refl}
 use Prim.Native.Nat.{ℕ, ◌≤◌, zero-le}
 use native.Mathlib.Omega.{arith}
 use Rattle.sets.specs.Set.{has}

@@ -3,20 +3,18 @@
 use mathlib.Core.Bool.{false}
 use mathlib.Core.List.{List}
 use mathlib.Core.Path.{◌≡◌, refl, sym, ap, ap₂, ◌∙◌}
-use Prim.Native.Nat.{ℕ, zero, suc, ◌+◌, ◌-◌, ◌*◌, ◌/◌, ◌≤◌, ◌<◌}
-use native.Mathlib.Decide.{ℕ_discrete}
+use Prim.Native.Nat.{ℕ, zero, suc, ◌+◌, ◌-◌, ◌*◌, ◌/◌, ◌≤◌}
 use native.Mathlib.Omega.{arith}
 use borrow.Author.Tests.{ne_eqb}
 use Rattle.tree.specs.declared.Tree.{Tree}
 use Rattle.tree.specs.Class.{parent_of, weight_of}
 use Rattle.state.specs.declared.Account.{Account}
-use Rattle.state.specs.Account.{account, account_of, funds_of, no_account}
-use Rattle.tree.specs.Sum.{table}
+use Rattle.state.specs.Account.{account, account_of, funds_of}
 use Rattle.state.specs.State.{State, round_of, in_round}
 use Rattle.tree.proofs.Tables.{table_same}
 use Rattle.sound.specs.Sound.{Sound}
 use Rattle.rules.specs.Active.{round_active, weight_sum}
-use Rattle.rules.specs.Opening.{Kind, main, surplus, quota_in, quota, root_quota, due, hands_down, opened_leaf, opened_inner}
+use Rattle.rules.specs.Opening.{main, quota_in, quota, root_quota, due, hands_down, opened_leaf, opened_inner}
 use Rattle.rules.specs.Opening.{opened_account, opened_accounts, next_kind, next_size, resized_accounts, opened_with, opened}
 use Rattle.rules.specs.Wide.{Wide}
 use Rattle.rules.proofs.Resized.{main_or_surplus, resized_surplus, resized_other, resized_account, next_resizes}

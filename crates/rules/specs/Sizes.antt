@@ -1,5 +1,5 @@
 -- The size that a main round opens with, by the tree's rule (R227, R228). Demands 2 and 3.
-use Rattle.std.specs.Prelude.{cond, ℕ, ◌+◌}
+use Rattle.std.specs.Prelude.{cond, ℕ}
 use Rattle.sets.specs.Set.{has}
 use Rattle.units.specs.Unit.{size_of}
 use Rattle.tree.specs.declared.Tree.{Tree}

@@ -2,8 +2,7 @@
 use mathlib.Core.List.{List}
 use mathlib.Core.Path.{◌≡◌, sym, ap, subst, ◌∙◌}
 use Prim.Native.Nat.{ℕ, ◌≤◌}
-use native.Mathlib.Omega.{arith}
-use lib.ListN.{length, drop, get_or}
+use lib.ListN.{length, drop}
 use Rattle.checks.specs.declared.Verdict.{Verdict}
 use Rattle.checks.specs.Check.{first_broken, input_checks}
 use Rattle.plan.specs.declared.EventRead.{EventRead}
@@ -11,13 +10,8 @@ use Rattle.plan.specs.Event.{used_of, event_at}
 use Rattle.plan.proofs.EventLaws.{event_fits}
 use Rattle.plan.specs.declared.PlanRead.{PlanRead}
 use Rattle.plan.specs.Reader.{plan_of}
-use Rattle.tree.specs.Sum.{sum_to}
 use Rattle.state.specs.declared.Link.{Link}
-use Rattle.state.specs.State.{meaning}
-use Rattle.state.proofs.Meaning.{meaning_held}
-use Rattle.tree.proofs.Sums.{sum_same}
 use Rattle.run.specs.declared.Step.{Step}
-use Rattle.calls.specs.Run.{waiting_in}
 use Rattle.run.specs.Event.{Gives, GoesOn}
 use Rattle.run.specs.Run.{plan_gives, begin_of, input_gives, program_begins}
 

@@ -6,7 +6,7 @@ use Prim.Native.Nat.{ℕ, ◌+◌, ◌^◌, ◌≤◌, ◌<◌}
 use native.Mathlib.Decide.{dec_lt}
 use native.Mathlib.Omega.{arith}
 use lib.Dec.{eqb}
-use lib.ListN.{length, length-set, length-map, length-replicate, get_or, set, replicate}
+use lib.ListN.{length, length-set, length-replicate, get_or, set, replicate}
 use lib.Seq.{ext_get_or, get_or-set_same, get_or-set_other}
 use mir.Val.{Val}
 use denote.Laws.{Is}

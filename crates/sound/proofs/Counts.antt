@@ -1,5 +1,5 @@
 -- Totals that are right class by class, told by the numbers after each, are the sums over the leaves; and they are small. Demands 1 and 2.
-use Rattle.std.proofs.Common.{◌≡◌, ℕ, zero, suc, ◌+◌, ◌-◌, ◌*◌, ◌^◌, ◌<◌, ◌≤◌, min, Bool, true, false, cond, List, length, sym, refl, ap, ◌∙◌, zero-le, arith, eq-eqb, ne_eqb}
+use Rattle.std.proofs.Common.{◌≡◌, ℕ, zero, suc, ◌+◌, ◌*◌, ◌^◌, ◌<◌, ◌≤◌, min, Bool, true, false, cond, List, length, sym, refl, ap, ◌∙◌, zero-le, arith, eq-eqb, ne_eqb}
 use native.Mathlib.Decide.{dec_le}
 use Rattle.tree.specs.declared.Tree.{Tree}
 use Rattle.tree.specs.Class.{parent_of, longest_of, is_leaf, is_child, of_child, children_sum}

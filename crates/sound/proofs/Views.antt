@@ -1,5 +1,5 @@
 -- Soundness of a link and the numbers of its classes say the same. Demands 1 and 2.
-use Rattle.std.proofs.Common.{◌≡◌, ℕ, zero, suc, ◌-◌, ◌%◌, ◌^◌, ◌<◌, ◌≤◌, Bool, true, false, List, length, get_or, sym, refl, ap, ◌∙◌, add-zero, arith}
+use Rattle.std.proofs.Common.{◌≡◌, ℕ, zero, suc, ◌-◌, ◌%◌, ◌^◌, ◌<◌, ◌≤◌, Bool, true, false, List, get_or, sym, refl, ap, ◌∙◌, add-zero, arith}
 use native.Mathlib.Decide.{dec_lt, dec_le}
 use Rattle.checks.proofs.Laws.{not_true_and_false}
 use Rattle.sets.specs.Set.{has}

@@ -6,7 +6,6 @@ use Rattle.units.specs.Cost.{cost_of}
 use Rattle.tree.specs.declared.Tree.{Tree}
 use Rattle.tree.specs.Class.{parent_of, longest_of, is_leaf, of_child}
 use Rattle.tree.specs.Sum.{sum_to}
-use Rattle.state.specs.declared.Account.{Account}
 use Rattle.state.specs.declared.Link.{Link}
 use Rattle.shape.specs.Shape.{tree_in}
 use Rattle.state.specs.Account.{account_of, zip_accounts}

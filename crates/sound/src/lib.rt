@@ -231,7 +231,7 @@ pub fn is_sound_at(
 ) -> bool
     ensures by_index { (tags marks : List ℕ) (charged : ℕ)
         → Exactly result (SoundLink (link_of (tree_in shape.now) lengths.now tags marks start.now
-        held.now (record { packets = packets.entry.now; bytes = bytes.now; charged = charged })
+        held.now (record { packets = packets.now; bytes = bytes.now; charged = charged })
         (round_of size.0 active place (zip_accounts balance.now residual.now)))) }
     ensures families { result ≡ true → Families (tree_in shape.now) children.new }
 {

@@ -1,6 +1,5 @@
 -- The lists of a link that the code holds have the lengths of its arrays. Demands 1 and 2.
-use Rattle.std.proofs.Common.{◌≡◌, List, length, sym, ◌∙◌}
-use lib.ListN.{length-map}
+use Rattle.std.proofs.Common.{◌≡◌, List, length}
 use mir.Val.{Val}
 use denote.Laws.{Is}
 use denote.Struct.Laws as LL

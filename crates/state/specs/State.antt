@@ -1,5 +1,5 @@
 -- What a link record means, and the links that are made from nothing (R96 to R100). Demand 2.
-use Rattle.std.specs.Prelude.{◌≡◌, ℕ, List, [], length, get_or, set, replicate, slice_index_or, slice_set}
+use Rattle.std.specs.Prelude.{◌≡◌, ℕ, List, [], length, get_or, replicate, slice_index_or, slice_set}
 use Rattle.tree.specs.declared.Tree.{Tree}
 use Rattle.tree.specs.Below.{leaves_sum}
 use Rattle.tree.specs.Class.{no_tree}

@@ -1,14 +1,13 @@
 -- An active child, by the sets of children.
 use mathlib.Core.Bool.{Bool, true, false, ◌&&◌, and_comm}
 use mathlib.Core.List.{List}
-use mathlib.Core.Path.{◌≡◌, refl, sym, ap, ap₂, ◌∙◌}
-use Prim.Native.Nat.{ℕ, ◌^◌, ◌<◌}
-use native.Mathlib.Decide.{dec_lt}
+use mathlib.Core.Path.{◌≡◌, refl, sym, ap, ◌∙◌}
+use Prim.Native.Nat.{ℕ, ◌<◌}
 use native.Mathlib.Omega.{arith}
 use lib.ListN.{get_or}
 use Rattle.checks.proofs.Laws.{not_true_and_false}
 use Rattle.sets.specs.Set.{has, Both}
-use Rattle.sets.proofs.Laws.{has_empty, has_past, set_empty}
+use Rattle.sets.proofs.Laws.{has_empty, set_empty}
 use Rattle.tree.specs.declared.Tree.{Tree}
 use Rattle.tree.specs.Class.{is_class, is_child}
 use Rattle.tree.specs.Rules.{PlanRules}

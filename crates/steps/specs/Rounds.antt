@@ -1,5 +1,5 @@
 -- What opening rounds and a whole send ask of the fields of a link, and what they give; no rule of its own.
-use Rattle.std.specs.Prelude.{Bool, true, false, List, ◌≡◌, ℕ, ◌≤◌, ◌<◌, length}
+use Rattle.std.specs.Prelude.{Bool, true, false, List, ◌≡◌, ℕ, ◌<◌, length}
 use Rattle.checks.specs.declared.Verdict.TheVariants.{Refused}
 use Rattle.units.specs.declared.Bytes.{Bytes}
 use Rattle.tree.specs.declared.Tree.{Tree}
@@ -15,7 +15,6 @@ use Rattle.rules.specs.Steps.{OnTheWay}
 use Rattle.rules.specs.After.{Sent, sent_by}
 use Rattle.calls.specs.declared.Departure.{Departure}
 use Rattle.calls.specs.Send.{goes, refused_send}
-use Rattle.state.specs.Account.{zip_accounts}
 pub use Rattle.active.specs.Known.{Raised, Kept}
 use Rattle.steps.specs.declared.leaf.Gone.{Gone}
 use Rattle.steps.specs.declared.reopening.Found.{Found}

@@ -3,8 +3,8 @@
 use mathlib.Core.Bool.{Bool, true, false, cond, ◌&&◌}
 use mathlib.Core.List.{List}
 use mathlib.Core.Path.{◌≡◌, refl, sym, ap, ◌∙◌}
-use Prim.Native.Nat.{ℕ, zero, suc, ◌+◌, ◌-◌, ◌*◌, ◌^◌, ◌≤◌, ◌<◌}
-use native.Mathlib.Decide.{ℕ_discrete, dec_le}
+use Prim.Native.Nat.{ℕ, ◌+◌, ◌-◌, ◌*◌, ◌^◌, ◌≤◌, ◌<◌}
+use native.Mathlib.Decide.{ℕ_discrete}
 use native.Mathlib.Omega.{arith}
 use lib.Pow.{pow_pos}
 use lib.ListN.{length, get_or, set, length-set}
@@ -17,8 +17,7 @@ use Rattle.tree.specs.declared.Tree.{Tree}
 use Rattle.tree.specs.Class.{parent_of, is_class, is_leaf, is_inner, is_child, of_child, children_sum}
 use Rattle.tree.specs.Below.{leaves_sum}
 use Rattle.tree.specs.Rules.{PlanRules}
-use Rattle.tree.specs.Sum.{sum_to}
-use Rattle.tree.proofs.Classes.{both_true, class_in_lem, class_past, class_range, root_no_class}
+use Rattle.tree.proofs.Classes.{both_true, class_in_lem, class_past, root_no_class}
 use Rattle.tree.proofs.Rules.{few_classes, parent_lower}
 use Rattle.tree.proofs.Leaves.{leaf_sum, sums_add, sum_most}
 use Rattle.tree.proofs.Sums.{sum_same, sum_change, sum_bound, sum_none, sum_longer}

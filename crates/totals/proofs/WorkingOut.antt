@@ -4,8 +4,8 @@
 use mathlib.Core.Bool.{Bool, true, false, cond, ◌&&◌, not}
 use mathlib.Core.List.{List}
 use mathlib.Core.Path.{◌≡◌, refl, sym, ap, ◌∙◌}
-use Prim.Native.Nat.{ℕ, zero, suc, ◌+◌, ◌-◌, ◌*◌, ◌^◌, ◌≤◌, ◌<◌}
-use native.Mathlib.Decide.{dec_le, dec_lt, ℕ_discrete}
+use Prim.Native.Nat.{ℕ, zero, suc, ◌+◌, ◌≤◌, ◌<◌}
+use native.Mathlib.Decide.{ℕ_discrete}
 use native.Mathlib.Omega.{arith}
 use lib.ListN.{length, get_or, set, length-set}
 use lib.Seq.{get_or-set_same, get_or-set_other, ext_get_or}
@@ -15,7 +15,6 @@ use Rattle.tree.specs.declared.Tree.{Tree}
 use Rattle.tree.specs.Class.{parent_of, is_class, is_leaf, is_inner, is_child}
 use Rattle.tree.specs.Below.{at_or_below, leaf_below, leaves_sum, changed_up}
 use Rattle.tree.specs.Rules.{PlanRules}
-use Rattle.tree.specs.Sum.{table}
 use Rattle.tree.proofs.Classes.{class_in_lem, class_range, root_no_class}
 use Rattle.tree.proofs.Below.{below_self, below_least}
 use Rattle.tree.proofs.Rules.{few_classes, leaf_number, parent_lower, parent_no_leaf}

@@ -5,7 +5,7 @@ use Prim.Native.Nat.{ℕ, ◌≤◌, ◌<◌, zero-le}
 use lib.Dec.{leb}
 use borrow.Author.Tests.{le-leb, lt-leb, leb-true, eq-eqb, ne_eqb}
 use Rattle.tree.specs.declared.Tree.{Tree}
-use Rattle.tree.specs.Class.{parent_of, weight_of, is_class, is_child, of_child}
+use Rattle.tree.specs.Class.{parent_of, is_class, is_child, of_child}
 use Rattle.checks.specs.Check.{first_broken}
 use Rattle.checks.specs.declared.Verdict.TheVariants.{Passed}
 use Rattle.checks.proofs.Laws.{passed_parts}

@@ -1,13 +1,10 @@
 -- Sums over the leaves at or below a class: a leaf has its own, any other class what its children's add to. Demand 2.
 use mathlib.Core.Bool.{Bool, true, false, cond, ◌&&◌}
-use mathlib.Core.List.{List}
 use mathlib.Core.Path.{◌≡◌, refl, sym, ap, ◌∙◌}
-use Prim.Native.Nat.{ℕ, zero, suc, ◌+◌, ◌-◌, ◌*◌, ◌≤◌, ◌<◌, zero-le}
-use native.Mathlib.Decide.{dec_le, dec_lt, ℕ_discrete}
+use Prim.Native.Nat.{ℕ, zero, suc, ◌+◌, ◌*◌, ◌≤◌, ◌<◌, zero-le}
+use native.Mathlib.Decide.{dec_le, ℕ_discrete}
 use native.Mathlib.Omega.{arith}
 use lib.Dec.{eqb}
-use lib.ListN.{length, get_or, set, length-set}
-use lib.Seq.{get_or-set_same, get_or-set_other}
 use borrow.Author.Tests.{eq-eqb, ne_eqb, eqb-true}
 use Rattle.checks.proofs.Laws.{not_true_and_false}
 use Rattle.tree.specs.declared.Tree.{Tree}
@@ -17,8 +14,8 @@ use Rattle.tree.specs.Rules.{PlanRules}
 use Rattle.tree.specs.Sum.{sum_to}
 use Rattle.tree.proofs.Classes.{both_true, class_in_lem, class_range, class_past, root_no_class, child_own}
 use Rattle.tree.proofs.Rules.{few_classes, leaf_number, parent_lower, parent_no_leaf, parent_below}
-use Rattle.tree.proofs.Below.{below_step, below_root, below_self, below_least, below_parent}
-use Rattle.tree.proofs.Sums.{sum_same, sum_zero, sum_one, sum_add, sum_swap, sum_change, sum_bound, sum_part, sum_longer}
+use Rattle.tree.proofs.Below.{below_root, below_self, below_least, below_parent}
+use Rattle.tree.proofs.Sums.{sum_same, sum_zero, sum_one, sum_add, sum_swap, sum_bound, sum_part, sum_longer}
 
 module _ (t : Tree) (rules : PlanRules t) where
   -- the root is no leaf

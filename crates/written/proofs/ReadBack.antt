@@ -13,7 +13,6 @@ use Rattle.checks.specs.declared.Verdict.{Verdict}
 use Rattle.checks.specs.declared.Verdict.TheVariants.{Passed}
 use Rattle.checks.specs.Check.{first_broken}
 use Rattle.checks.proofs.Laws.{not_true_and_false, pass_over, none_broken, classes_passed}
-use Rattle.sets.specs.Set.{has}
 use Rattle.sets.proofs.Laws.{set_ext}
 use Rattle.units.specs.declared.Weight.{Weight}
 use Rattle.tree.specs.declared.Tree.{Tree}

@@ -1,7 +1,5 @@
 -- The lists of a tree that the code holds have the lengths of its arrays. Demand 1.
 use mathlib.Core.List.{List}
-use mathlib.Core.Path.{◌≡◌, sym, ◌∙◌}
-use lib.ListN.{length, length-map}
 use mir.Val.{Val}
 use denote.Laws.{Is}
 use denote.Struct.Laws as LL

@@ -7,7 +7,7 @@ use Rattle.tree.specs.declared.Tree.{Tree}
 use Rattle.tree.specs.Class.{parent_of}
 use Rattle.shape.specs.Shape.{tree_in}
 use Rattle.tree.proofs.Rules.{few_classes, parent_below}
-use Rattle.rules.proofs.Waiting.{Marks, marks_start, marks_step, marks_all}
+use Rattle.rules.proofs.Waiting.{marks_start, marks_step, marks_all}
 use Rattle.rules.proofs.Taken.{leaf_class_lem}
 use borrow.Author.Rules.{rules}
 use Rattle.active.proofs.above.Goals as goal

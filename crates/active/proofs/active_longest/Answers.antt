@@ -1,8 +1,5 @@
 -- `active::active_longest` meets its contract.
-use native.Mathlib.Omega.{arith}
 use mathlib.Core.Path.{refl}
-use borrow.Author.Tests.{not-true, not-false}
-use borrow.Author.Rules.{rules}
 use Rattle.active.proofs.active_longest.Goals as goal
 
 pub returns-then-not-on : goal.returns-then-not-on

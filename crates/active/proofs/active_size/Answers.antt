@@ -2,22 +2,18 @@
 -- costs.
 use mathlib.Core.Bool.{Bool, cond}
 use mathlib.Core.Path.{◌≡◌, refl, ap, ap₂, ◌∙◌}
-use Prim.Native.Nat.{ℕ, ◌+◌, ◌-◌, ◌*◌, ◌≤◌, ◌<◌}
+use Prim.Native.Nat.{ℕ, ◌+◌, ◌-◌, ◌≤◌, ◌<◌}
 use native.Mathlib.Omega.{arith}
 use Rattle.sets.specs.Set.{has}
-use Rattle.units.specs.Cost.{cost_of, most_cost}
+use Rattle.units.specs.Cost.{cost_of}
 use Rattle.tree.specs.declared.Tree.{Tree}
-use Rattle.tree.specs.Class.{weight_of, longest_of, is_leaf}
-use Rattle.tree.specs.Rules.{PlanRules}
-use Rattle.tree.specs.Size.{longest_cost, all_weights, all_longest}
-use Rattle.tree.specs.Sum.{sum_to}
+use Rattle.tree.specs.Class.{weight_of, longest_of}
+use Rattle.tree.specs.Size.{longest_cost}
 use Rattle.tree.proofs.Classes.{class_in_lem}
-use Rattle.tree.proofs.Rules.{few_classes, rules_light, weights_ceiling, longest_ceiling}
-use Rattle.tree.proofs.Sums.{sum_none, sum_step, sum_grows}
+use Rattle.tree.proofs.Rules.{few_classes, rules_light}
+use Rattle.tree.proofs.Sums.{sum_none}
 use Rattle.shape.specs.Shape.{tree_in}
 use Rattle.rules.specs.Sizes.{if_active, active_weights, active_longest, active_size}
-use Rattle.rules.proofs.Sizes.{active_part}
-use borrow.Author.Rules.{rules}
 use Rattle.active.proofs.active_size.Invariants.{weighs, costs, weighs_more, costs_more, weighs_most, costs_most}
 use Rattle.active.proofs.active_size.Goals as goal
 use Rattle.active.proofs.active_size.Goals.{After-active_longest, In-loop-i, Start}

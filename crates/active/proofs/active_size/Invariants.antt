@@ -1,8 +1,8 @@
 -- `active::active_size` meets its contract: class by class upward, each active one adds its weight, and a leaf what its longest packet
 -- costs.
-use mathlib.Core.Bool.{Bool, cond}
-use mathlib.Core.Path.{◌≡◌, refl, ap, ap₂, ◌∙◌}
-use Prim.Native.Nat.{ℕ, ◌+◌, ◌-◌, ◌*◌, ◌≤◌, ◌<◌}
+use mathlib.Core.Bool.{cond}
+use mathlib.Core.Path.{◌≡◌}
+use Prim.Native.Nat.{ℕ, ◌+◌, ◌-◌, ◌*◌, ◌≤◌}
 use native.Mathlib.Omega.{arith}
 use Rattle.sets.specs.Set.{has}
 use Rattle.units.specs.Cost.{cost_of, most_cost}
@@ -11,11 +11,10 @@ use Rattle.tree.specs.Class.{weight_of, longest_of, is_leaf}
 use Rattle.tree.specs.Rules.{PlanRules}
 use Rattle.tree.specs.Size.{longest_cost, all_weights, all_longest}
 use Rattle.tree.specs.Sum.{sum_to}
-use Rattle.tree.proofs.Classes.{class_in_lem}
-use Rattle.tree.proofs.Rules.{few_classes, rules_light, weights_ceiling, longest_ceiling}
-use Rattle.tree.proofs.Sums.{sum_none, sum_step, sum_grows}
+use Rattle.tree.proofs.Rules.{weights_ceiling, longest_ceiling}
+use Rattle.tree.proofs.Sums.{sum_step, sum_grows}
 use Rattle.shape.specs.Shape.{tree_in}
-use Rattle.rules.specs.Sizes.{if_active, active_weights, active_longest, active_size}
+use Rattle.rules.specs.Sizes.{if_active}
 use Rattle.rules.proofs.Sizes.{active_part}
 use borrow.Author.Rules.{rules}
 use Rattle.active.proofs.active_size.Given as goal

@@ -1,9 +1,9 @@
 -- `active::refresh` meets its contract.
-use mathlib.Core.List.{List, ◌++◌, append-nil}
+use mathlib.Core.List.{List, append-nil}
 use mathlib.Core.Path.{◌≡◌, refl, ap, ◌∙◌}
-use Prim.Native.Nat.{ℕ, ◌-◌, ◌≤◌}
+use Prim.Native.Nat.{◌≤◌}
 use native.Mathlib.Omega.{arith}
-use lib.ListN.{length, get_or, drop, drop_of_length-le}
+use lib.ListN.{length, get_or, drop_of_length-le}
 use Rattle.units.specs.declared.Weight.{Weight}
 use Rattle.tree.specs.Class.{no_weight}
 use Rattle.tree.specs.Sum.{table}
@@ -11,7 +11,6 @@ use Rattle.tree.proofs.Tables.{table_none, table_same, table_over}
 use Rattle.shape.specs.Shape.{tree_in}
 use Rattle.rules.specs.Active.{weight_sum}
 use Rattle.rules.proofs.Sums.{sums_at}
-use borrow.Author.Rules.{rules}
 use Rattle.active.proofs.refresh.Invariants.{weight_at}
 use Rattle.active.proofs.refresh.Goals as goal
 

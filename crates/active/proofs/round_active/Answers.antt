@@ -15,7 +15,6 @@ use Rattle.shape.specs.Shape.{tree_in}
 use Rattle.rules.specs.Steps.{holds_some}
 use Rattle.rules.proofs.Waiting.{upward_same}
 use Rattle.active.proofs.Raised.{raised_is}
-use borrow.Author.Rules.{rules}
 use Rattle.active.proofs.round_active.Goals as goal
 use Rattle.active.proofs.round_active.Goals.{After-waiting_leaves-waiting, Start}
 

@@ -1,7 +1,7 @@
 -- `active::waiting_leaves` meets its contract.
 use mathlib.Core.Bool.{Bool, true, false, cond, ◌&&◌, and_comm}
 use mathlib.Core.Path.{◌≡◌, refl, ap, ◌∙◌}
-use Prim.Native.Nat.{ℕ, ◌+◌, ◌-◌, ◌≤◌, ◌<◌}
+use Prim.Native.Nat.{ℕ, ◌+◌, ◌<◌}
 use native.Mathlib.Decide.{ℕ_discrete, dec_lt}
 use native.Mathlib.Omega.{arith}
 use lib.Dec.{leb, ltb}
@@ -9,7 +9,6 @@ use lib.ListN.{get_or}
 use borrow.Author.Tests.{lt-ltb, le-ltb}
 use Rattle.sets.specs.Set.{has, with}
 use Rattle.sets.proofs.Laws.{has_empty, has_with_same, has_with_other}
-use borrow.Author.Rules.{rules}
 use Rattle.active.proofs.waiting_leaves.Invariants.{Filled}
 use Rattle.active.proofs.waiting_leaves.Goals as goal
 

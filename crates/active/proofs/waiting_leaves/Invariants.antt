@@ -1,15 +1,10 @@
 -- `active::waiting_leaves` meets its contract.
-use mathlib.Core.Bool.{Bool, true, false, cond, ◌&&◌, and_comm}
-use mathlib.Core.Path.{◌≡◌, refl, ap, ◌∙◌}
-use Prim.Native.Nat.{ℕ, ◌+◌, ◌-◌, ◌≤◌, ◌<◌}
-use native.Mathlib.Decide.{ℕ_discrete, dec_lt}
-use native.Mathlib.Omega.{arith}
+use mathlib.Core.Bool.{Bool, ◌&&◌}
+use mathlib.Core.Path.{◌≡◌}
+use Prim.Native.Nat.{ℕ, ◌-◌, ◌≤◌, ◌<◌}
 use lib.Dec.{leb, ltb}
 use lib.ListN.{get_or}
-use borrow.Author.Tests.{lt-ltb, le-ltb}
-use Rattle.sets.specs.Set.{has, with}
-use Rattle.sets.proofs.Laws.{has_empty, has_with_same, has_with_other}
-use borrow.Author.Rules.{rules}
+use Rattle.sets.specs.Set.{has}
 use Rattle.active.proofs.waiting_leaves.Given as goal
 
 -- the set has come to class i: it holds the classes below it that f tells

@@ -2,7 +2,7 @@
 use mathlib.Core.Bool.{Bool, cond}
 use mathlib.Core.List.{List}
 use mathlib.Core.Path.{◌≡◌, ap, ap₂, ◌∙◌}
-use Prim.Native.Nat.{ℕ, ◌+◌, ◌≤◌, ◌<◌}
+use Prim.Native.Nat.{ℕ, ◌+◌, ◌<◌}
 use native.Mathlib.Omega.{arith}
 use lib.ListN.{get_or, set}
 use Rattle.sets.specs.Set.{has}
@@ -14,7 +14,6 @@ use Rattle.tree.specs.Sum.{table}
 use Rattle.tree.proofs.Rules.{parent_below}
 use Rattle.shape.specs.Shape.{tree_in}
 use Rattle.rules.proofs.Sums.{sum_above, sums_none, sums_all, sums_step, sums_fit}
-use borrow.Author.Rules.{rules}
 use Rattle.active.proofs.weight_sums.Goals as goal
 use Rattle.active.proofs.weight_sums.Goals.{In-loop-i, Start}
 

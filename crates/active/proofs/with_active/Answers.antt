@@ -1,6 +1,5 @@
 -- `active::with_active` meets its contract.
 use native.Mathlib.Omega.{arith}
-use borrow.Author.Rules.{rules}
 use Rattle.active.proofs.with_active.Goals as goal
 
 pub returns-then-on : goal.returns-then-on

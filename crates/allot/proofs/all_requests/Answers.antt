@@ -7,8 +7,7 @@ use lib.Seq.{get_or-set_other}
 use Rattle.tree.specs.Class.{parent_of, is_leaf}
 use Rattle.tree.proofs.Rules.{parent_below}
 use Rattle.allot.specs.Request.{entry, request_of}
-use Rattle.allot.proofs.Requests.{Added, none_added, own_is, rest_small, request_small, added_more, all_added}
-use borrow.Author.Rules.{rules}
+use Rattle.allot.proofs.Requests.{none_added, own_is, rest_small, request_small, added_more, all_added}
 use Rattle.allot.proofs.all_requests.Goals as goal
 use Rattle.allot.proofs.all_requests.Goals.{After-own_request-own}
 

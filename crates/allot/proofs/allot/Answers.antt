@@ -3,7 +3,6 @@ use mathlib.Core.Path.{refl}
 use native.Mathlib.Omega.{arith}
 use Rattle.allot.proofs.Requests.{requested_adding}
 use Rattle.allot.proofs.Answers.{shared_out_lem}
-use borrow.Author.Rules.{rules}
 use Rattle.allot.proofs.allot.Goals as goal
 
 pub share_out-shares-requires : goal.share_out-shares-requires

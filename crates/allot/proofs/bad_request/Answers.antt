@@ -1,6 +1,5 @@
 -- `allot::bad_request` meets its contract.
 use mathlib.Core.Path.{refl}
-use borrow.Author.Tests.{not-true, not-false}
 use Rattle.allot.proofs.bad_request.Goals as goal
 
 pub returns-then-not-leaf : goal.returns-then-not-leaf

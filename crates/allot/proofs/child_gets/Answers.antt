@@ -2,7 +2,6 @@
 use borrow.Author.Tests.{le-leb, lt-leb}
 use Rattle.allot.specs.Steps.{child_gets}
 use mathlib.Core.Path.{refl}
-use borrow.Author.Rules.{rules}
 use Rattle.allot.proofs.child_gets.Goals as goal
 
 pub returns-then-asked-has : goal.returns-then-asked-has

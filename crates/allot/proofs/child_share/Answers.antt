@@ -1,7 +1,6 @@
 -- `allot::child_share` meets its contract.
 use mathlib.Core.Path.{refl}
 use borrow.Author.Tests.{eq-eqb, ne_eqb}
-use borrow.Author.Rules.{rules}
 use Rattle.allot.proofs.child_share.Goals as goal
 
 pub returns-then-parent-p : goal.returns-then-parent-p

@@ -1,15 +1,13 @@
 -- `allot::children_get` meets its contract.
 use mathlib.Core.Path.{◌≡◌, sym}
-use Prim.Native.Nat.{◌+◌, ◌-◌, ◌≤◌}
+use Prim.Native.Nat.{◌-◌}
 use native.Mathlib.Omega.{arith}
-use Rattle.tree.specs.Sum.{sum_to}
 use Rattle.tree.specs.Class.{is_child, of_child, children_sum}
 use Rattle.tree.proofs.Rules.{few_classes}
 use Rattle.tree.proofs.Sums.{sum_none, sum_step, sum_bound}
 use Rattle.allot.specs.Request.{entry}
 use Rattle.allot.specs.Share.{share_at}
 use Rattle.allot.proofs.Fair.{share_small, share_fits}
-use borrow.Author.Rules.{rules}
 use Rattle.allot.proofs.children_get.Goals as goal
 use Rattle.allot.proofs.children_get.Goals.{After-child_share-sum}
 

@@ -3,7 +3,6 @@ use mathlib.Core.Path.{refl, sym, ◌∙◌}
 use native.Mathlib.Omega.{arith}
 use Rattle.checks.proofs.Laws.{not_true_and_false}
 use Rattle.tree.specs.Class.{is_leaf}
-use borrow.Author.Rules.{rules}
 use Rattle.allot.proofs.class_split.Goals as goal
 
 pub returns-then-has : goal.returns-then-has

@@ -1,11 +1,7 @@
 -- `allot::fair_share` meets its contract: the lower number fits, the higher does not, and both come together.
-use mathlib.Core.Path.{◌≡◌}
 use Prim.Native.Nat.{◌+◌, ◌-◌, ◌≤◌, ◌<◌}
-use native.Mathlib.Omega.{arith}
 use Rattle.allot.specs.Request.{entry}
 use Rattle.allot.specs.Share.{Fits}
-use Rattle.allot.proofs.Fair.{fits_zero, largest_at, top_too_large}
-use borrow.Author.Rules.{rules}
 use Rattle.allot.proofs.fair_share.Given as goal
 
 abbrev pub invariant-loop-low : goal.invariant-loop-low

@@ -5,7 +5,6 @@ use lib.Dec.{ltb}
 use borrow.Author.Tests.{lt-ltb, le-ltb}
 use Rattle.checks.proofs.Laws.{decides, pass_over}
 use Rattle.allot.specs.Answer.{bad_capacity}
-use borrow.Author.Rules.{rules}
 use Rattle.allot.proofs.range_fault.Goals as goal
 
 pub returns-then-capacity-lt1 : goal.returns-then-capacity-lt1

@@ -1,12 +1,10 @@
 -- `allot::rates` meets its contract: 11, then 20, then 21, else the rates.
 use mathlib.Core.Bool.{not}
 use mathlib.Core.Path.{sym, ap, ◌∙◌}
-use borrow.Author.Tests.{not-false}
 use Rattle.checks.proofs.Laws.{decides, pass_over}
 use Rattle.tree.proofs.Rules.{few_classes}
 use Rattle.allot.specs.Answer.{nothing_allotted}
 use Rattle.allot.proofs.Answers.{refused_rates, allotted_rates, passed_in_range}
-use borrow.Author.Rules.{rules}
 use Rattle.allot.proofs.rates.Goals as goal
 
 pub returns-then-not-is_plan : goal.returns-then-not-is_plan

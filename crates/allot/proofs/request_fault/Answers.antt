@@ -1,7 +1,7 @@
 -- `allot::request_fault` meets its contract: class by class upward number 21.
 use mathlib.Core.Bool.{Bool, ◌&&◌}
 use mathlib.Core.Path.{◌≡◌, sym, ap, ◌∙◌}
-use Prim.Native.Nat.{ℕ, ◌+◌, ◌-◌, ◌≤◌, ◌<◌}
+use Prim.Native.Nat.{ℕ}
 use native.Mathlib.Omega.{arith}
 use lib.Dec.{ltb}
 use Rattle.checks.specs.Check.{first_broken}
@@ -10,7 +10,6 @@ use Rattle.checks.proofs.Laws.{classes_passed, classes_refused, upward_more, pas
 use Rattle.tree.specs.Class.{is_leaf}
 use Rattle.allot.specs.Request.{entry}
 use Rattle.allot.specs.Answer.{request_checks, bad_request}
-use borrow.Author.Rules.{rules}
 use Rattle.allot.proofs.request_fault.Goals as goal
 use Rattle.allot.proofs.request_fault.Goals.{After-bad_request}
 

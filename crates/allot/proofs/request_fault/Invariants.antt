@@ -1,16 +1,9 @@
 -- `allot::request_fault` meets its contract: class by class upward number 21.
-use mathlib.Core.Bool.{Bool, ◌&&◌}
-use mathlib.Core.Path.{◌≡◌, sym, ap, ◌∙◌}
+use mathlib.Core.Path.{◌≡◌}
 use Prim.Native.Nat.{ℕ, ◌+◌, ◌-◌, ◌≤◌, ◌<◌}
-use native.Mathlib.Omega.{arith}
-use lib.Dec.{ltb}
 use Rattle.checks.specs.Check.{first_broken}
 use Rattle.checks.specs.declared.Verdict.TheVariants.{Passed}
-use Rattle.checks.proofs.Laws.{classes_passed, classes_refused, upward_more, pass_over, decides, none_broken}
-use Rattle.tree.specs.Class.{is_leaf}
-use Rattle.allot.specs.Request.{entry}
-use Rattle.allot.specs.Answer.{request_checks, bad_request}
-use borrow.Author.Rules.{rules}
+use Rattle.allot.specs.Answer.{request_checks}
 use Rattle.allot.proofs.request_fault.Given as goal
 
 abbrev pub invariant-loop-i : goal.invariant-loop-i

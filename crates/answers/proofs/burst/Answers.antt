@@ -3,7 +3,6 @@ use mathlib.Core.Bool.{Bool, true, false}
 use mathlib.Core.List.{List}
 use mathlib.Core.Path.{◌≡◌, refl, sym, ap, subst}
 use Prim.Native.Nat.{ℕ}
-use borrow.Author.Tests.{not-true, not-false}
 use Rattle.checks.specs.Check.{Exactly}
 use Rattle.shape.specs.Shape.{tree_in}
 use Rattle.state.specs.declared.Link.{Link}
@@ -16,7 +15,6 @@ use Rattle.steps.specs.Fields.{lent_link, link_at}
 use Rattle.answers.specs.Burst.{stand_in}
 use Rattle.answers.specs.Steps.{Told}
 use Rattle.answers.proofs.Bursts.{bursts_none, bursts_made, served_at, served_from}
-use borrow.Author.Rules.{rules}
 use Rattle.answers.proofs.burst.Goals as goal
 use Rattle.answers.proofs.burst.Goals.{After-is_sound_at}
 

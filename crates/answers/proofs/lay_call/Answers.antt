@@ -1,7 +1,5 @@
 -- `answers::lay_call` meets its contract.
 use mathlib.Core.Path.{refl}
-use borrow.Author.Tests.{not-true, not-false}
-use borrow.Author.Rules.{rules}
 use Rattle.answers.proofs.lay_call.Goals as goal
 
 pub returns-then-not-more : goal.returns-then-not-more

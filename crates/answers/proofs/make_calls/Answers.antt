@@ -1,24 +1,21 @@
 -- `answers::make_calls` meets its contract: the link of the arrays is the one after the calls made so far, and their rows are laid.
 use mathlib.Core.Bool.{Bool, true, ◌&&◌}
-use mathlib.Core.Path.{◌≡◌, refl, sym, ap, subst, ◌∙◌}
+use mathlib.Core.Path.{◌≡◌, refl, sym, subst, ◌∙◌}
 use Prim.Native.Nat.{◌+◌, ◌≤◌}
 use native.Mathlib.Omega.{arith}
 use lib.Dec.{leb}
 use lib.ListN.{length}
 use borrow.Author.Tests.{leb-true}
 use Rattle.tree.proofs.Classes.{both_true}
-use Rattle.tree.specs.declared.Tree.{Tree}
 use Rattle.shape.specs.Shape.{tree_in}
 use Rattle.state.specs.declared.Link.{Link}
 use Rattle.steps.specs.Fields.{link_at}
-use Rattle.steps.specs.Rounds.{Kept}
 use Rattle.steps.proofs.Rounding.{none_kept}
-use Rattle.run.proofs.Lines.{steps_left, steps_less}
+use Rattle.run.proofs.Lines.{steps_less}
 use Rattle.answers.specs.declared.event.Heard.{Heard}
-use Rattle.answers.specs.Steps.{Next, Told, Served}
+use Rattle.answers.specs.Steps.{Told, Served}
 use Rattle.answers.proofs.Events.{heard_sound}
-use Rattle.answers.proofs.Bursts.{Making, making_starts, making_within, making_on, making_ends, laid_moves}
-use borrow.Author.Rules.{rules}
+use Rattle.answers.proofs.Bursts.{making_starts, making_within, making_on, making_ends, laid_moves}
 use Rattle.answers.proofs.make_calls.Invariants.{next_of}
 use Rattle.answers.proofs.make_calls.Goals as goal
 use Rattle.answers.proofs.make_calls.Goals.{In-loop-kept}

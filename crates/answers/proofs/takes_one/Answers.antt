@@ -5,7 +5,6 @@ use Prim.Native.Nat.{ℕ, ◌+◌, ◌-◌, ◌≤◌}
 use native.Mathlib.Omega.{arith}
 use lib.Dec.{leb}
 use borrow.Author.Tests.{le-leb, lt-leb, leb-true, leb-false}
-use borrow.Author.Rules.{rules}
 use Rattle.answers.proofs.takes_one.Goals as goal
 
 room_same : (need laid room : ℕ) → laid ≤ room → leb need (room - laid) ≡ leb (laid + need) room

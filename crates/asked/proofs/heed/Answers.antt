@@ -3,7 +3,6 @@ use mathlib.Core.Path.{sym, ap, ◌∙◌}
 use native.Mathlib.Omega.{arith}
 use Rattle.words.proofs.Taken.{pair_written}
 use Rattle.asked.specs.Asked.{heeded}
-use borrow.Author.Rules.{rules}
 use Rattle.asked.proofs.heed.Goals as goal
 
 pub requested-requires : goal.requested-requires

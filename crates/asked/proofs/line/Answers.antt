@@ -2,7 +2,6 @@
 use mathlib.Core.Path.{sym, ap}
 use Rattle.checks.specs.declared.Verdict.{Verdict}
 use Rattle.asked.specs.Answer.{line_by}
-use borrow.Author.Rules.{rules}
 use Rattle.asked.proofs.line.Goals as goal
 
 pub returns-in-Passed : goal.returns-in-Passed

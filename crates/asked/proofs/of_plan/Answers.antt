@@ -2,7 +2,6 @@
 use mathlib.Core.Path.{sym, subst}
 use Rattle.checks.specs.declared.Verdict.{Verdict}
 use Rattle.asked.specs.Answer.{OfPlan}
-use borrow.Author.Rules.{rules}
 use Rattle.asked.proofs.of_plan.Goals as goal
 
 pub returns-in-Passed : goal.returns-in-Passed

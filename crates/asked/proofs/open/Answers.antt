@@ -1,7 +1,6 @@
 -- `asked::open` meets its contract.
 use mathlib.Core.Path.{sym, ap, ◌∙◌}
 use Rattle.asked.specs.Asked.{begun_by}
-use borrow.Author.Rules.{rules}
 use Rattle.asked.proofs.open.Goals as goal
 
 pub returns-in-Is : goal.returns-in-Is

@@ -3,7 +3,6 @@ use mathlib.Core.Path.{sym, subst, ◌∙◌}
 use Rattle.checks.specs.declared.Verdict.{Verdict}
 use Rattle.plan.specs.declared.PlanRead.{PlanRead}
 use Rattle.asked.specs.Answer.{OfPlan, OfInput}
-use borrow.Author.Rules.{rules}
 use Rattle.asked.proofs.rates_of.Goals as goal
 
 pub returns-in-Passed : goal.returns-in-Passed

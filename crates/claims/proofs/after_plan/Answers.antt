@@ -4,7 +4,6 @@ use mathlib.Core.Path.{ap, ◌∙◌}
 use Rattle.calls.specs.declared.AfterFresh.{AfterFresh}
 use Rattle.calls.specs.Fresh.{fresh_of}
 use Rattle.claims.specs.Recording.{goes_on}
-use borrow.Author.Rules.{rules}
 use Rattle.claims.proofs.after_plan.Goals as goal
 
 pub returns : goal.returns

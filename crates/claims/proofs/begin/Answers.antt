@@ -6,7 +6,6 @@ use Rattle.state.specs.declared.Link.{Link}
 use Rattle.claims.specs.declared.Judged.TheVariants.{Stop}
 use Rattle.claims.specs.Recording.{decides}
 use Rattle.claims.proofs.Whole.{begun_by_lem}
-use borrow.Author.Rules.{rules}
 use Rattle.claims.proofs.begin.Goals as goal
 
 pub after_plan-requires : goal.after_plan-requires

@@ -1,7 +1,7 @@
 -- `claims::check` meets its contract.
 use mathlib.Core.Bool.{true}
 use mathlib.Core.List.{List}
-use mathlib.Core.Path.{◌≡◌, sym, ap, ap₂, subst, ◌∙◌}
+use mathlib.Core.Path.{◌≡◌, sym, ap, subst, ◌∙◌}
 use Prim.Native.Nat.{ℕ}
 use native.Mathlib.Omega.{arith}
 use lib.ListN.{drop}
@@ -11,7 +11,6 @@ use Rattle.claims.specs.declared.Checked.{Checked}
 use Rattle.claims.specs.Recording.{way_from, part_of}
 use Rattle.claims.specs.Parts.{check_begins}
 use Rattle.claims.proofs.Whole.{begun_ended, begun_sound, judged_on}
-use borrow.Author.Rules.{rules}
 use Rattle.claims.proofs.check.Goals as goal
 use Rattle.claims.proofs.check.Goals.{Else-not-begun}
 

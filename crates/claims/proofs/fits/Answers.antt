@@ -2,7 +2,6 @@
 use mathlib.Core.Path.{refl}
 use borrow.Author.Tests.{le-leb, lt-leb}
 use Rattle.claims.specs.Parts.{fits}
-use borrow.Author.Rules.{rules}
 use Rattle.claims.proofs.fits.Goals as goal
 
 pub returns-then-n-place : goal.returns-then-n-place

@@ -3,11 +3,9 @@ use mathlib.Core.Bool.{Bool}
 use mathlib.Core.Path.{◌≡◌, refl, sym, subst, ◌∙◌}
 use native.Mathlib.Omega.{arith}
 use lib.ListN.{length}
-use borrow.Author.Tests.{not-true, not-false}
 use Rattle.checks.specs.Check.{Exactly}
 use Rattle.sound.specs.Sound.{SoundLink}
 use Rattle.claims.proofs.Whole.{fits_room, part_unsound, part_fits, part_stays}
-use borrow.Author.Rules.{rules}
 use Rattle.claims.proofs.part.Goals as goal
 use Rattle.claims.proofs.part.Goals.{After-is_sound}
 

@@ -1,7 +1,6 @@
 -- `digits::put_eight` meets its contract: the upper half of its digits, then the lower half.
 use native.Mathlib.Omega.{arith}
 use Rattle.digits.proofs.Laying.{laid_then}
-use borrow.Author.Rules.{rules}
 use Rattle.digits.proofs.put_eight.Goals as goal
 
 pub returns : goal.returns

@@ -3,7 +3,6 @@ use Prim.Native.Nat.{◌/◌}
 use native.Mathlib.Omega.{arith}
 use Rattle.digits.proofs.Decimals.{decimal_by_two, decimal_within}
 use Rattle.digits.proofs.Laying.{laid_as}
-use borrow.Author.Rules.{rules}
 use Rattle.digits.proofs.put_few.Goals as goal
 
 pub put_two-requires : goal.put_two-requires

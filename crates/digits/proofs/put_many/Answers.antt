@@ -3,7 +3,6 @@ use Prim.Native.Nat.{◌/◌}
 use native.Mathlib.Omega.{arith}
 use Rattle.digits.proofs.Decimals.{decimal_by_four, decimal_within}
 use Rattle.digits.proofs.Laying.{laid_as}
-use borrow.Author.Rules.{rules}
 use Rattle.digits.proofs.put_many.Goals as goal
 
 pub put_four-requires : goal.put_four-requires

@@ -5,7 +5,6 @@ use Prim.Native.Nat.{ℕ}
 use native.Mathlib.Omega.{arith}
 use Rattle.digits.proofs.Decimals.{decimal_small, decimal_two}
 use Rattle.digits.proofs.Laying.{laid_byte, laid_same}
-use borrow.Author.Rules.{rules}
 use Rattle.digits.proofs.put_short.Goals as goal
 
 pub returns-then-n-lt10 : goal.returns-then-n-lt10

@@ -6,7 +6,6 @@ use native.Mathlib.Omega.{arith}
 use lib.ListN.{set}
 use lib.Seq.{lt-length-set}
 use Rattle.digits.proofs.Laying.{laid_byte, laid_as}
-use borrow.Author.Rules.{rules}
 use Rattle.digits.proofs.put_two.Goals as goal
 
 pub bounds-out-at-2 : goal.bounds-out-at-2

@@ -3,7 +3,6 @@ use Prim.Native.Nat.{◌/◌}
 use native.Mathlib.Omega.{arith}
 use Rattle.digits.proofs.Decimals.{decimal_by_eight, decimal_within}
 use Rattle.digits.proofs.Laying.{laid_as}
-use borrow.Author.Rules.{rules}
 use Rattle.digits.proofs.put_upper.Goals as goal
 
 pub put_eight-requires : goal.put_eight-requires

@@ -1,7 +1,6 @@
 -- `fields::answered` meets its contract.
 use mathlib.Core.Path.{refl}
 use borrow.Author.Tests.{not-true, not-false}
-use borrow.Author.Rules.{rules}
 use Rattle.fields.proofs.answered.Goals as goal
 
 pub returns-then-not-went : goal.returns-then-not-went

@@ -1,6 +1,6 @@
 -- `fields::arrive_in` meets its contract: the step of an arrival, told whether the link that the fields make up is sound.
-use mathlib.Core.Path.{◌≡◌, sym, subst, ◌∙◌}
-use lib.ListN.{length, length-map}
+use mathlib.Core.Path.{◌≡◌, sym, subst}
+use lib.ListN.{length}
 use denote.Struct.Laws as LL
 use Rattle.state.specs.contracts.Totals as N
 use Rattle.state.proofs.Totals.TheLaws as N'
@@ -14,7 +14,6 @@ use Rattle.state.proofs.Shapes.{accounts_shaped}
 use Rattle.checks.specs.Check.{Exactly}
 use Rattle.sound.specs.Sound.{SoundLink}
 use Rattle.sound.proofs.Lent.{lent_exactly}
-use borrow.Author.Rules.{rules}
 use Rattle.fields.proofs.arrive_in.Goals as goal
 use Rattle.fields.proofs.arrive_in.Goals.{After-is_sound_at-sound, Start}
 

@@ -1,10 +1,8 @@
 -- `fields::class_in` meets its contract.
 use mathlib.Core.Bool.{true, false}
 use mathlib.Core.Path.{◌≡◌, refl}
-use native.Mathlib.Omega.{arith}
 use lib.Dec.{ltb}
 use borrow.Author.Tests.{lt-ltb, le-ltb}
-use borrow.Author.Rules.{rules}
 use Rattle.fields.proofs.class_in.Goals as goal
 
 pub returns-then-class-gt-MOST : goal.returns-then-class-gt-MOST

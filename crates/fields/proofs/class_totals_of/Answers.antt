@@ -1,9 +1,5 @@
 -- `fields::class_totals_of` meets its contract: one entry of the tables.
-use mathlib.Core.Path.{sym, ap, ◌∙◌}
-use Rattle.calls.specs.declared.PanelTotals.{PanelTotals}
-use Rattle.fields.specs.Fields.{class_in}
 use Rattle.fields.proofs.Told.{class_told}
-use borrow.Author.Rules.{rules}
 use Rattle.fields.proofs.class_totals_of.Goals as goal
 
 pub returns : goal.returns

@@ -2,7 +2,6 @@
 use mathlib.Core.Bool.{Bool}
 use mathlib.Core.Path.{◌≡◌, ap, subst, ◌∙◌}
 use lib.ListN.{length}
-use borrow.Author.Tests.{not-true, not-false}
 use Rattle.checks.specs.Check.{Exactly}
 use Rattle.state.specs.declared.Link.{Link}
 use Rattle.state.specs.Account.{zip_accounts}
@@ -14,7 +13,6 @@ use Rattle.calls.specs.Send.{send_of}
 use Rattle.calls.proofs.Departures.{send_unsound}
 use Rattle.fields.specs.Fields.{GoesIn}
 use Rattle.fields.proofs.OverFields.{stays_sends, goes_sends}
-use borrow.Author.Rules.{rules}
 use Rattle.fields.proofs.send_of.Goals as goal
 use Rattle.fields.proofs.send_of.Goals.{After-is_sound_at, Start}
 

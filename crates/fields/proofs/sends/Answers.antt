@@ -3,7 +3,6 @@ use mathlib.Core.Path.{refl}
 use Rattle.steps.proofs.Rounding.{none_kept}
 use Rattle.steps.proofs.Departures.{departs_answers}
 use Rattle.steps.proofs.Wholes.{departs_wide}
-use borrow.Author.Rules.{rules}
 use Rattle.fields.proofs.sends.Goals as goal
 
 pub send-went-requires : goal.send-went-requires

@@ -1,6 +1,5 @@
 -- `fields::stays` meets its contract.
 use mathlib.Core.Path.{refl}
-use borrow.Author.Rules.{rules}
 use Rattle.fields.proofs.stays.Goals as goal
 
 pub returns : goal.returns

@@ -1,10 +1,8 @@
 -- `fields::totals_of` meets its contract: the totals of a sound link are the sums over the leaves.
-use mathlib.Core.Bool.{Bool, true, false}
+use mathlib.Core.Bool.{Bool}
 use mathlib.Core.List.{List}
-use mathlib.Core.Path.{◌≡◌, sym, ap, ap₂, ◌∙◌}
+use mathlib.Core.Path.{sym, ap, ◌∙◌}
 use Prim.Native.Nat.{ℕ}
-use lib.ListN.{length-map}
-use borrow.Author.Tests.{not-true, not-false}
 use denote.Struct.Laws as LL
 use Rattle.checks.specs.declared.Verdict.TheVariants.{Passed, Refused}
 use Rattle.state.specs.declared.Link.{Link}
@@ -12,10 +10,8 @@ use Rattle.state.specs.declared.Totals.{Totals}
 use Rattle.state.specs.State.{link_of}
 use Rattle.state.specs.contracts.Totals as N
 use Rattle.state.proofs.Totals.TheLaws as N'
-use Rattle.calls.specs.declared.PanelTotals.{PanelTotals}
 use Rattle.calls.specs.Panel.{panel_gives}
 use Rattle.calls.proofs.Panels.{sound_totals}
-use borrow.Author.Rules.{rules}
 use Rattle.fields.proofs.totals_of.Goals as goal
 use Rattle.fields.proofs.totals_of.Goals.{Start}
 

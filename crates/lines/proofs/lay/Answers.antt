@@ -1,6 +1,5 @@
 -- `lines::lay` meets its contract: a line laid at place 0.
 use native.Mathlib.Omega.{arith}
-use borrow.Author.Rules.{rules}
 use Rattle.lines.proofs.Laying.{lays, counts}
 use Rattle.lines.proofs.lay.Goals as goal
 

@@ -2,7 +2,6 @@
 use native.Mathlib.Omega.{arith}
 use Rattle.lines.specs.Line.{bytes_of}
 use Rattle.lines.proofs.Laying.{line_at, laid_end}
-use borrow.Author.Rules.{rules}
 use Rattle.lines.proofs.lay_at.Goals as goal
 
 pub returns-in-Link : goal.returns-in-Link

@@ -1,7 +1,6 @@
 -- `lines::lay_four` meets its contract: the word, then the numbers.
 use native.Mathlib.Omega.{arith}
 use Rattle.lines.proofs.Laying.{laid_end}
-use borrow.Author.Rules.{rules}
 use Rattle.lines.proofs.lay_four.Goals as goal
 
 pub returns : goal.returns

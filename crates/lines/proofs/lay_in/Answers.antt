@@ -2,7 +2,6 @@
 use native.Mathlib.Omega.{arith}
 use Rattle.lines.specs.Line.{bytes_of}
 use Rattle.lines.proofs.Laying.{laid_end}
-use borrow.Author.Rules.{rules}
 use Rattle.lines.proofs.lay_in.Goals as goal
 
 pub returns : goal.returns

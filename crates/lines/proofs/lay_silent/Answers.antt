@@ -3,7 +3,6 @@ use native.Mathlib.Omega.{arith}
 use Rattle.digits.proofs.Laying.{laid_then}
 use Rattle.lines.specs.Line.{bytes_of}
 use Rattle.lines.proofs.Laying.{laid_end}
-use borrow.Author.Rules.{rules}
 use Rattle.lines.proofs.lay_silent.Goals as goal
 
 pub returns : goal.returns

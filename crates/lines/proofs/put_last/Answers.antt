@@ -4,7 +4,6 @@ use native.Mathlib.Omega.{arith}
 use Rattle.lines.specs.Laid.{end_of}
 use Rattle.digits.proofs.Laying.{laid_byte}
 use Rattle.lines.proofs.Laying.{laid_end}
-use borrow.Author.Rules.{rules}
 use Rattle.lines.proofs.put_last.Goals as goal
 
 pub returns : goal.returns

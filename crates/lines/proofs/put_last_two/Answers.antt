@@ -3,7 +3,6 @@ use mathlib.Core.List.{[], ◌∷◌}
 use native.Mathlib.Omega.{arith}
 use Rattle.lines.specs.Laid.{end_of}
 use Rattle.lines.proofs.Laying.{laid_end}
-use borrow.Author.Rules.{rules}
 use Rattle.lines.proofs.put_last_two.Goals as goal
 
 pub returns : goal.returns

@@ -1,10 +1,8 @@
 -- `lines::put_number` meets its contract: a space, then the digits.
-use mathlib.Core.Path.{◌∙◌}
 use native.Mathlib.Omega.{arith}
 use lib.ListN.{length-set}
 use Rattle.digits.proofs.Decimals.{decimal_most}
 use Rattle.digits.proofs.Laying.{laid_byte, laid_then}
-use borrow.Author.Rules.{rules}
 use Rattle.lines.proofs.put_number.Goals as goal
 
 pub put_few-requires : goal.put_few-requires

@@ -7,7 +7,6 @@ use lib.ListN.{set}
 use lib.Seq.{lt-length-set}
 use Rattle.digits.proofs.Decimals.{decimal_small}
 use Rattle.digits.proofs.Laying.{laid_byte, laid_as}
-use borrow.Author.Rules.{rules}
 use Rattle.lines.proofs.put_spaced.Goals as goal
 
 pub bounds-out-at-2 : goal.bounds-out-at-2

@@ -1,7 +1,6 @@
 -- `lines::put_why` meets its contract: each case lays its word.
 use native.Mathlib.Omega.{arith}
 use Rattle.lines.proofs.Laying.{why_at}
-use borrow.Author.Rules.{rules}
 use Rattle.lines.proofs.put_why.Goals as goal
 
 pub returns-in-Empty : goal.returns-in-Empty

@@ -1,12 +1,9 @@
 -- `mend::has_child` meets its contract.
-use mathlib.Core.Bool.{false}
-use mathlib.Core.Path.{◌≡◌, sym, ◌∙◌}
-use Prim.Native.Nat.{ℕ, ◌+◌, ◌-◌, ◌≤◌, ◌<◌}
+use mathlib.Core.Path.{sym, ◌∙◌}
 use native.Mathlib.Omega.{arith}
 use borrow.Author.Tests.{eq-eqb, ne_eqb}
 use Rattle.tree.specs.Class.{is_child, has_child}
 use Rattle.tree.proofs.Sums.{some_found, none_more, some_never}
-use borrow.Author.Rules.{rules}
 use Rattle.mended.proofs.has_child.Goals as goal
 
 pub loop-i-init : goal.loop-i-init

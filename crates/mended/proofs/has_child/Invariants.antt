@@ -1,12 +1,8 @@
 -- `mend::has_child` meets its contract.
 use mathlib.Core.Bool.{false}
-use mathlib.Core.Path.{◌≡◌, sym, ◌∙◌}
+use mathlib.Core.Path.{◌≡◌}
 use Prim.Native.Nat.{ℕ, ◌+◌, ◌-◌, ◌≤◌, ◌<◌}
-use native.Mathlib.Omega.{arith}
-use borrow.Author.Tests.{eq-eqb, ne_eqb}
-use Rattle.tree.specs.Class.{is_child, has_child}
-use Rattle.tree.proofs.Sums.{some_found, none_more, some_never}
-use borrow.Author.Rules.{rules}
+use Rattle.tree.specs.Class.{is_child}
 use Rattle.mended.proofs.has_child.Given as goal
 
 abbrev pub invariant-loop-i : goal.invariant-loop-i

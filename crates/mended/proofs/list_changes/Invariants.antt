@@ -1,16 +1,7 @@
 -- `mend::list_changes` meets its contract: class by class upward, one entry where the weight is another.
-use mathlib.Core.List.{List}
-use mathlib.Core.Path.{◌≡◌, refl, sym, ap, ◌∙◌}
+use mathlib.Core.Path.{◌≡◌}
 use Prim.Native.Nat.{◌+◌, ◌-◌, ◌≤◌}
-use native.Mathlib.Omega.{arith}
-use lib.ListN.{get_or}
-use Rattle.units.specs.declared.Weight.{Weight}
-use Rattle.tree.specs.Class.{no_weight}
-use Rattle.mended.specs.declared.Changes.{Changes}
 use Rattle.mended.specs.Answer.{changes_to, listed}
-use Rattle.mended.proofs.Least.{mended_at}
-use Rattle.mended.proofs.Listing.{changes_none, changes_few, list_step}
-use borrow.Author.Rules.{rules}
 use Rattle.mended.proofs.list_changes.Given as goal
 
 abbrev pub invariant-loop-i : goal.invariant-loop-i

@@ -3,7 +3,6 @@ use mathlib.Core.Path.{sym, ap, ◌∙◌}
 use Rattle.plan.specs.declared.PlanRead.{PlanRead}
 use Rattle.mended.specs.Answer.{mended_by}
 use Rattle.mended.proofs.Answers.{records_read, by_passed, by_refused}
-use borrow.Author.Rules.{rules}
 use Rattle.mended.proofs.mend.Goals as goal
 
 pub mend_tree-requires : goal.mend_tree-requires

@@ -1,5 +1,4 @@
 -- `mend::mend_shares` meets its contract: 22, or the mended tree.
-use borrow.Author.Rules.{rules}
 use Rattle.mended.proofs.mend_shares.Goals as goal
 
 pub with_weights-requires : goal.with_weights-requires

@@ -3,7 +3,6 @@ use mathlib.Core.Path.{sym, ◌∙◌}
 use borrow.Author.Tests.{eq-eqb, ne_eqb}
 use Rattle.tree.specs.Rules.{no_class}
 use Rattle.mended.proofs.Answers.{mend_none, mend_child, mend_on}
-use borrow.Author.Rules.{rules}
 use Rattle.mended.proofs.mend_tree.Goals as goal
 
 pub returns-then-tree-eq0 : goal.returns-then-tree-eq0

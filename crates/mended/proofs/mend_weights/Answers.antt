@@ -19,7 +19,6 @@ use Rattle.mended.proofs.Downward.{
   above_more,
   above_end,
 }
-use borrow.Author.Rules.{rules}
 use Rattle.mended.proofs.mend_weights.Goals as goal
 use Rattle.mended.proofs.mend_weights.Goals.{After-mended_weight-w, After-wide-p}
 

@@ -1,6 +1,5 @@
 -- `mend::mended_weight` meets its contract.
 use native.Mathlib.Omega.{arith}
-use borrow.Author.Rules.{rules}
 use Rattle.mended.proofs.mended_weight.Goals as goal
 
 pub returns-then-own-children : goal.returns-then-own-children

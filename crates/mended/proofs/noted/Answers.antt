@@ -1,6 +1,5 @@
 -- `mend::noted` meets its contract.
 use borrow.Author.Tests.{le-ltb, lt-ltb}
-use borrow.Author.Rules.{rules}
 use Rattle.mended.proofs.noted.Goals as goal
 
 pub returns-then-new-old : goal.returns-then-new-old

@@ -1,5 +1,4 @@
 -- `mend::refused` meets its contract.
-use borrow.Author.Rules.{rules}
 use Rattle.mended.proofs.refused.Goals as goal
 
 pub returns : goal.returns

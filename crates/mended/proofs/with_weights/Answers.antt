@@ -1,5 +1,4 @@
 -- `mend::with_weights` meets its contract.
-use borrow.Author.Rules.{rules}
 use Rattle.mended.proofs.with_weights.Goals as goal
 
 pub returns : goal.returns

@@ -1,10 +1,9 @@
 -- `offered::if_accepted` meets its contract: the arrival's answer, and the promise for the bytes that it answers.
-use mathlib.Core.Path.{◌≡◌, refl, sym, ap, ◌∙◌}
+use mathlib.Core.Path.{sym, ap, ◌∙◌}
 use Prim.Native.Nat.{ℕ}
 use Rattle.checks.specs.declared.Verdict.{Verdict}
 use Rattle.offered.specs.Offer.{wait_by}
 use Rattle.offered.proofs.Offering.{promise_is_bound}
-use borrow.Author.Rules.{rules}
 use Rattle.offered.proofs.if_accepted.Goals as goal
 
 pub returns-in-Passed : goal.returns-in-Passed

@@ -1,14 +1,12 @@
 -- `opening::begin_round` meets its contract.
-use mathlib.Core.Bool.{Bool, true, false}
-use mathlib.Core.List.{List}
-use mathlib.Core.Path.{◌≡◌, refl, sym, ap, subst, ◌∙◌}
+use mathlib.Core.Bool.{Bool}
+use mathlib.Core.Path.{◌≡◌, sym, ap, ◌∙◌}
 use Prim.Native.Nat.{ℕ, ◌≤◌}
 use native.Mathlib.Omega.{arith}
 use Rattle.tree.specs.declared.Tree.{Tree}
 use Rattle.tree.specs.Rules.{PlanRules}
 use Rattle.tree.specs.Size.{most_size, SizeRight}
 use Rattle.tree.proofs.Rules.{size_ceiling}
-use Rattle.state.specs.declared.Account.{Account}
 use Rattle.shape.specs.Shape.{tree_in}
 use Rattle.rules.specs.Opening.{Kind, main, surplus, kind_is, kind_of, size_in, resized}
 use Rattle.rules.proofs.Sizes.{main_right}

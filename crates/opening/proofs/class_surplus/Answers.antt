@@ -1,11 +1,8 @@
 -- `opening::class_surplus` meets its contract.
 use mathlib.Core.Path.{ap, ◌∙◌}
 use Prim.Native.Nat.{ℕ}
-use borrow.Author.Tests.{not-true, not-false}
 use Rattle.units.specs.Unit.{surplus_of}
-use borrow.Author.Tests.{not-true, not-false}
 use Rattle.units.specs.Unit.{surplus_of}
-use borrow.Author.Rules.{rules}
 use Rattle.opening.proofs.class_surplus.Goals as goal
 
 pub returns-then-not-on : goal.returns-then-not-on

@@ -13,7 +13,6 @@ use Rattle.tree.proofs.Rules.{few_classes}
 use Rattle.rules.specs.Opening.{main, surplus, has_surplus, kind_of}
 use Rattle.state.specs.Account.{zip_accounts}
 use Rattle.opening.proofs.Openings.{surplus_by, not_inner}
-use borrow.Author.Rules.{rules}
 use Rattle.opening.proofs.is_surplus.Goals as goal
 use Rattle.opening.proofs.is_surplus.Goals.{After-both-inner, After-class_surplus, In-loop-i, Start}
 

@@ -1,17 +1,12 @@
 -- `opening::open_accounts` meets its contract.
-use Prim.Native.Nat.{ℕ, ◌-◌, ◌*◌, ◌≤◌, ◌<◌}
-use mathlib.Core.Bool.{Bool}
-use mathlib.Core.List.{List}
+use Prim.Native.Nat.{ℕ, ◌*◌, ◌≤◌, ◌<◌}
 use mathlib.Core.Path.{◌≡◌, sym, ap, ap₂, ◌∙◌}
 use native.Mathlib.Omega.{arith}
 use lib.ListN.{get_or}
 use Rattle.sets.specs.Set.{has}
-use Rattle.units.specs.Unit.{due_of}
 use Rattle.tree.specs.declared.Tree.{Tree}
 use Rattle.tree.specs.Class.{parent_of, weight_of}
-use Rattle.state.specs.declared.Account.{Account}
 use Rattle.rules.specs.Opening.{kind_is}
-use Rattle.rules.specs.Steps.{CanOpen}
 use Rattle.shape.specs.Shape.{tree_in}
 use Rattle.tree.proofs.Rules.{few_classes}
 use Rattle.rules.proofs.Shares.{parent_most}
@@ -20,7 +15,6 @@ use Rattle.tree.specs.Size.{most_size}
 use Rattle.opening.specs.Opens.{OpenedUpTo}
 use Rattle.opening.proofs.Openings.{opening_wide, opening_unset, opening_funds, opening_due, leaf_shares_none}
 use Rattle.opening.proofs.Openings.{opening_on, opening_starts, opening_ends}
-use borrow.Author.Rules.{rules}
 use Rattle.opening.proofs.open_accounts.Goals as goal
 use Rattle.opening.proofs.open_accounts.Goals.{At-loop-i, In-loop-i, Start}
 

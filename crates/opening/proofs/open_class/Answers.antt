@@ -1,7 +1,5 @@
 -- `opening::open_class` meets its contract.
 use mathlib.Core.Path.{refl}
-use borrow.Author.Tests.{not-true, not-false}
-use borrow.Author.Rules.{rules}
 use Rattle.opening.proofs.open_class.Goals as goal
 
 pub returns-then-not-on : goal.returns-then-not-on

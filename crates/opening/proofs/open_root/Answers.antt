@@ -1,5 +1,4 @@
 -- `opening::open_root` meets its contract.
-use borrow.Author.Rules.{rules}
 use Rattle.opening.proofs.open_root.Goals as goal
 
 pub returns-then-surplus : goal.returns-then-surplus

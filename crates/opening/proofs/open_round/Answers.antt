@@ -1,10 +1,9 @@
 -- `opening::open_round` meets its contract.
-use mathlib.Core.Path.{◌≡◌, sym, ap, subst, ◌∙◌}
+use mathlib.Core.Path.{sym, ap, subst, ◌∙◌}
 use Rattle.shape.specs.Shape.{tree_in}
 use Rattle.rules.specs.Opening.{Kind, kind_is, kind_of, size_in, resized, opened_accounts}
 use Rattle.rules.specs.Steps.{CanOpen}
 use Rattle.state.specs.Account.{zip_accounts}
-use borrow.Author.Rules.{rules}
 use Rattle.opening.proofs.open_round.Goals as goal
 
 pub begin_round-begun-requires : goal.begin_round-begun-requires

@@ -1,11 +1,9 @@
 -- `opening::resize` meets its contract.
-use mathlib.Core.List.{List}
-use mathlib.Core.Path.{◌≡◌, refl, sym, ap, ◌∙◌}
+use mathlib.Core.Path.{refl, ap, ◌∙◌}
 use native.Mathlib.Omega.{arith}
 use lib.ListN.{set}
 use Rattle.state.specs.declared.Account.{Account}
 use Rattle.state.specs.Account.{funds_of, took_size, zip_accounts}
-use borrow.Author.Rules.{rules}
 use Rattle.opening.proofs.resize.Goals as goal
 
 pub returns-then-surplus : goal.returns-then-surplus

@@ -3,7 +3,6 @@ use mathlib.Core.Path.{refl, ap}
 use native.Mathlib.Omega.{arith}
 use Rattle.state.specs.declared.Account.{Account}
 use Rattle.rules.proofs.Shares.{quota_back}
-use borrow.Author.Rules.{rules}
 use Rattle.opening.proofs.share_out.Goals as goal
 
 pub due-requires : goal.due-requires

@@ -6,7 +6,6 @@ use Rattle.tree.specs.declared.Tree.{Tree}
 use Rattle.tree.specs.Size.{round_size}
 use Rattle.shape.specs.Shape.{tree_in}
 use Rattle.rules.specs.Sizes.{active_size, main_size}
-use borrow.Author.Rules.{rules}
 use Rattle.opening.proofs.size_after.Goals as goal
 
 main_active : (t : Tree) (active : ℕ) → t.follows ≡ true → active_size t active ≡ main_size t active

@@ -1,6 +1,5 @@
 -- `parts::part` meets its contract: whether the record is sound is decided once.
 use Rattle.lines.proofs.Laying.{counts}
-use borrow.Author.Rules.{rules}
 use Rattle.parts.proofs.part.Goals as goal
 
 pub part_of-requires : goal.part_of-requires

@@ -4,7 +4,6 @@ use Prim.Native.Nat.{◌-◌, ◌≤◌}
 use native.Mathlib.Omega.{arith}
 use lib.ListN.{length, take, drop, drop_of_length-le, length-drop}
 use lib.Seq.{take_all, take-nil, drop-length}
-use borrow.Author.Rules.{rules}
 use Rattle.plan.proofs.events_after.Goals as goal
 
 pub returns-then-input-used : goal.returns-then-input-used

@@ -1,9 +1,7 @@
 -- `plan::read_entry` meets its contract.
-use mathlib.Core.Path.{◌≡◌, sym, ap, ◌∙◌}
-use mathlib.Core.Bool.{true, false}
+use mathlib.Core.Path.{sym, ap, ◌∙◌}
 use Rattle.plan.specs.Kind.{gives_claim}
 use Rattle.plan.proofs.EntryLaws.{entry_end, entry_unknown, entry_cut, entry_alone, entry_whole}
-use borrow.Author.Rules.{rules}
 use Rattle.plan.proofs.read_entry.Goals as goal
 
 pub returns-then-gives_claim : goal.returns-then-gives_claim

@@ -1,7 +1,6 @@
 -- `plan::read_event` meets its contract.
 use mathlib.Core.Path.{sym, ◌∙◌}
 use Rattle.plan.proofs.EventLaws.{event_end, event_unknown, event_cut, event_whole}
-use borrow.Author.Rules.{rules}
 use Rattle.plan.proofs.read_event.Goals as goal
 
 pub whole_event-requires : goal.whole_event-requires

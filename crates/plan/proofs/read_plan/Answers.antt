@@ -1,6 +1,5 @@
 -- `plan::read_plan` meets its contract: the answer is the one the rules give, for any bytes. The records, and then closing.
 use mathlib.Core.Path.{sym, ap, ◌∙◌}
-use borrow.Author.Rules.{rules}
 use Rattle.plan.specs.Reader.{closed}
 use Rattle.plan.proofs.Reading.{plan_halves, records_light}
 use Rattle.plan.proofs.read_plan.Goals as goal

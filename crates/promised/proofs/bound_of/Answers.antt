@@ -3,7 +3,6 @@ use mathlib.Core.Path.{refl}
 use native.Mathlib.Omega.{arith}
 use Rattle.wait.proofs.RoundedUp.{up_most}
 use Rattle.wait.proofs.Accepted.{bound_fits}
-use borrow.Author.Rules.{rules}
 use Rattle.promised.proofs.bound_of.Goals as goal
 
 pub overflow_add-result : goal.overflow_add-result

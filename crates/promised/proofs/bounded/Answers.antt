@@ -8,7 +8,6 @@ use Rattle.tree.specs.Class.{longest_of}
 use Rattle.tree.proofs.Rules.{weight_range, longest_range, size_ceiling}
 use Rattle.rules.proofs.Taken.{leaf_class_lem}
 use Rattle.promised.specs.Promise.{promising}
-use borrow.Author.Rules.{rules}
 use Rattle.promised.proofs.bounded.Goals as goal
 
 pub bound_of-requires : goal.bound_of-requires

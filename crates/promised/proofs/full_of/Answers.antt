@@ -1,5 +1,4 @@
 -- `promised::full_of` meets its contract.
-use native.Mathlib.Omega.{arith}
 use Rattle.units.specs.Cost.{cost_of}
 use borrow.Author.Rules.{rules}
 use Rattle.promised.proofs.full_of.Goals as goal

@@ -3,7 +3,6 @@ use mathlib.Core.Path.{ap, subst, ◌∙◌}
 use Prim.Native.Nat.{ℕ, ◌*◌}
 use Rattle.units.specs.Cost.{cost_of}
 use Rattle.promised.specs.Promise.{Promises}
-use borrow.Author.Rules.{rules}
 use Rattle.promised.proofs.leaf_waits.Goals as goal
 
 pub returns : goal.returns

@@ -1,5 +1,5 @@
 -- `promised::longest_wait` meets its contract: 11, then 12, then 14, else the bound.
-use mathlib.Core.Bool.{Bool, true, false, not}
+use mathlib.Core.Bool.{not}
 use mathlib.Core.Path.{◌≡◌, refl, sym, ap, ◌∙◌}
 use Prim.Native.Nat.{ℕ, ◌*◌}
 use native.Mathlib.Omega.{arith}
@@ -10,7 +10,6 @@ use Rattle.units.specs.Cost.{cost_of}
 use Rattle.tree.specs.Class.{is_leaf}
 use Rattle.promised.specs.Promise.{most_held}
 use Rattle.promised.proofs.Kept.{promise_of}
-use borrow.Author.Rules.{rules}
 use Rattle.promised.proofs.longest_wait.Goals as goal
 use Rattle.promised.proofs.longest_wait.Goals.{After-full_of}
 

@@ -2,11 +2,9 @@
 use mathlib.Core.Bool.{true}
 use mathlib.Core.Path.{◌≡◌, sym, ap, ◌∙◌}
 use native.Mathlib.Omega.{arith}
-use borrow.Author.Tests.{not-true, not-false}
 use Rattle.sets.specs.Set.{has}
 use Rattle.state.specs.Queue.{start_of, slot}
 use Rattle.reasons.proofs.InLink.{leaf_low, start_low, holds_none, not_in_round, still_due, lacks_in, short_by}
-use borrow.Author.Rules.{rules}
 use Rattle.reasons.proofs.reason_of.Goals as goal
 use Rattle.reasons.proofs.reason_of.Goals.{After-slot-at}
 

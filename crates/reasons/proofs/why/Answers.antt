@@ -1,12 +1,10 @@
 -- `reasons::why` meets its contract: 11, then 12, else the reason.
 use mathlib.Core.Path.{sym, ap, ◌∙◌}
 use mathlib.Core.Bool.{not}
-use borrow.Author.Tests.{not-false}
 use Rattle.checks.proofs.Laws.{decides, pass_over, none_broken}
 use Rattle.tree.specs.Class.{is_leaf}
 use Rattle.calls.specs.Arrival.{no_leaf}
 use Rattle.reasons.proofs.Answers.{refused_why, told_why}
-use borrow.Author.Rules.{rules}
 use Rattle.reasons.proofs.why.Goals as goal
 
 pub returns-then-not-is_sound : goal.returns-then-not-is_sound

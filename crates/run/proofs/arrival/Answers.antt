@@ -2,7 +2,6 @@
 use mathlib.Core.Bool.{true}
 use mathlib.Core.Path.{ap}
 use Rattle.lines.specs.declared.Line.{Line}
-use borrow.Author.Rules.{rules}
 use Rattle.run.proofs.arrival.Goals as goal
 
 pub returns : goal.returns

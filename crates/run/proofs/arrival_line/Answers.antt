@@ -2,7 +2,6 @@
 use mathlib.Core.Path.{sym, ap}
 use Rattle.checks.specs.declared.Verdict.{Verdict}
 use Rattle.run.specs.Event.{arrival_says, packet_in}
-use borrow.Author.Rules.{rules}
 use Rattle.run.proofs.arrival_line.Goals as goal
 
 pub returns-in-Passed : goal.returns-in-Passed

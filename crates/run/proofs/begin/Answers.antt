@@ -6,7 +6,6 @@ use Rattle.state.specs.declared.Link.{Link}
 use Rattle.lines.specs.declared.Line.TheVariants.{Stop}
 use Rattle.plan.proofs.Numbers.{plan_rules}
 use Rattle.run.proofs.Events.{begin_by}
-use borrow.Author.Rules.{rules}
 use Rattle.run.proofs.begin.Goals as goal
 
 pub linked-requires : goal.linked-requires

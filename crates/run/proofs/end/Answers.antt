@@ -2,7 +2,6 @@
 use mathlib.Core.Bool.{false}
 use mathlib.Core.Path.{ap}
 use Rattle.lines.specs.declared.Line.{Line}
-use borrow.Author.Rules.{rules}
 use Rattle.run.proofs.end.Goals as goal
 
 pub returns : goal.returns

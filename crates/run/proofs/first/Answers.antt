@@ -5,7 +5,6 @@ use Rattle.checks.specs.declared.Verdict.TheVariants.{Passed, Refused}
 use Rattle.state.specs.declared.Link.{Link}
 use Rattle.lines.specs.declared.Line.TheVariants.{Stop}
 use Rattle.run.proofs.Events.{first_by}
-use borrow.Author.Rules.{rules}
 use Rattle.run.proofs.first.Goals as goal
 
 pub returns-in-Passed : goal.returns-in-Passed

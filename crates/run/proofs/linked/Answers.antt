@@ -4,7 +4,6 @@ use mathlib.Core.Path.{ap, ◌∙◌}
 use Rattle.calls.specs.declared.AfterFresh.{AfterFresh}
 use Rattle.calls.specs.Fresh.{fresh_of}
 use Rattle.lines.specs.declared.Line.TheVariants.{Link}
-use borrow.Author.Rules.{rules}
 use Rattle.run.proofs.linked.Goals as goal
 
 pub returns : goal.returns

@@ -10,7 +10,6 @@ use Rattle.plan.specs.Event.{used_of, event_at}
 use Rattle.calls.specs.Run.{arrival, send}
 use Rattle.run.specs.Event.{packet_in, Calls}
 use Rattle.run.proofs.Events.{gives_by, used_fits}
-use borrow.Author.Rules.{rules}
 use Rattle.run.proofs.next.Goals as goal
 use Rattle.run.proofs.next.Goals.{After-read_event-event, After-used}
 

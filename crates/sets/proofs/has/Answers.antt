@@ -1,7 +1,6 @@
 -- `sets::has` meets its contract: the lowest digit of the shifted set is the digit of the class.
 use mathlib.Core.Path.{ap}
 use Prim.Native.Nat.{ℕ, ◌/◌, ◌^◌}
-use borrow.Author.Rules.{rules}
 use lib.Bits.{and_mask}
 use lib.Dec.{eqb}
 use Rattle.sets.specs.Set.{has}

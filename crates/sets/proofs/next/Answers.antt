@@ -1,6 +1,5 @@
 -- `sets::next` meets its contract: the mask clears the classes below the place, so its trailing zeros are the next class.
 use native.Mathlib.Omega.{arith}
-use borrow.Author.Rules.{rules}
 use Rattle.sets.proofs.Bits.{trailing_fits}
 use Rattle.sets.proofs.Laws.{next_mask, next_end}
 use Rattle.sets.proofs.next.Goals as goal

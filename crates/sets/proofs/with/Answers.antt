@@ -1,5 +1,4 @@
 -- `sets::with` meets its contract: `|` with the shifted one is the set with the class.
-use borrow.Author.Rules.{rules}
 use Rattle.sets.proofs.Bits.{one_at}
 use Rattle.sets.proofs.Laws.{or_with}
 use Rattle.sets.proofs.with.Goals as goal

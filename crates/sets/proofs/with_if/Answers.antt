@@ -2,7 +2,6 @@
 use mathlib.Core.Bool.{Bool, cond}
 use mathlib.Core.Path.{sym, ap, ◌∙◌}
 use Rattle.sets.specs.Set.{with}
-use borrow.Author.Rules.{rules}
 use Rattle.sets.proofs.with_if.Goals as goal
 
 pub returns-then-put : goal.returns-then-put

@@ -1,5 +1,4 @@
 -- `sets::without` meets its contract: `&` with all but the shifted one is the set without the class.
-use borrow.Author.Rules.{rules}
 use Rattle.sets.proofs.Bits.{one_at}
 use Rattle.sets.proofs.Laws.{and_without}
 use Rattle.sets.proofs.without.Goals as goal

@@ -1,7 +1,6 @@
 -- `shape::count` meets its contract.
 use mathlib.Core.Path.{sym}
 use Rattle.shape.proofs.Read.{count_in_lem}
-use borrow.Author.Rules.{rules}
 use Rattle.shape.proofs.count.Goals as goal
 
 pub returns : goal.returns

@@ -1,11 +1,10 @@
 -- `shape::families` meets its contract.
-use Prim.Native.Nat.{◌+◌, ◌-◌, ◌≤◌, ◌<◌}
+use Prim.Native.Nat.{◌<◌}
 use native.Mathlib.Omega.{arith}
 use Rattle.tree.specs.Class.{parent_of}
 use Rattle.tree.proofs.Rules.{few_classes, parent_below}
 use Rattle.shape.specs.Shape.{tree_in}
-use Rattle.shape.proofs.Kin.{FamiliesTo, families_none, families_on, families_all}
-use borrow.Author.Rules.{rules}
+use Rattle.shape.proofs.Kin.{families_none, families_on, families_all}
 use Rattle.shape.proofs.families.Goals as goal
 use Rattle.shape.proofs.families.Goals.{In-loop-i}
 

@@ -1,11 +1,7 @@
 -- `shape::families` meets its contract.
-use Prim.Native.Nat.{◌+◌, ◌-◌, ◌≤◌, ◌<◌}
-use native.Mathlib.Omega.{arith}
-use Rattle.tree.specs.Class.{parent_of}
-use Rattle.tree.proofs.Rules.{few_classes, parent_below}
+use Prim.Native.Nat.{◌+◌, ◌-◌, ◌≤◌}
 use Rattle.shape.specs.Shape.{tree_in}
-use Rattle.shape.proofs.Kin.{FamiliesTo, families_none, families_on, families_all}
-use borrow.Author.Rules.{rules}
+use Rattle.shape.proofs.Kin.{FamiliesTo}
 use Rattle.shape.proofs.families.Given as goal
 
 abbrev pub invariant-loop-i : goal.invariant-loop-i

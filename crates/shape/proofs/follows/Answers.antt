@@ -1,7 +1,6 @@
 -- `shape::follows` meets its contract.
 use mathlib.Core.Path.{sym}
 use Rattle.shape.proofs.Read.{follows_in}
-use borrow.Author.Rules.{rules}
 use Rattle.shape.proofs.follows.Goals as goal
 
 pub returns : goal.returns

@@ -1,7 +1,6 @@
 -- `shape::leaves` meets its contract.
 use mathlib.Core.Path.{sym}
 use Rattle.shape.proofs.Read.{leaves_in}
-use borrow.Author.Rules.{rules}
 use Rattle.shape.proofs.leaves.Goals as goal
 
 pub returns : goal.returns

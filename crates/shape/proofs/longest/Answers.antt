@@ -2,7 +2,6 @@
 use mathlib.Core.Path.{sym}
 use native.Mathlib.Omega.{arith}
 use Rattle.shape.proofs.Read.{longest_in, longest_fits}
-use borrow.Author.Rules.{rules}
 use Rattle.shape.proofs.longest.Goals as goal
 
 pub overflow_cast-result : goal.overflow_cast-result

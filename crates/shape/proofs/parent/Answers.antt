@@ -1,7 +1,6 @@
 -- `shape::parent` meets its contract.
 use mathlib.Core.Path.{sym}
 use Rattle.shape.proofs.Read.{parent_in}
-use borrow.Author.Rules.{rules}
 use Rattle.shape.proofs.parent.Goals as goal
 
 pub returns : goal.returns

@@ -1,8 +1,7 @@
 -- `shape::shape_of` meets its contract.
 use mathlib.Core.Path.{refl}
-use Prim.Native.Nat.{◌-◌, ◌≤◌}
 use native.Mathlib.Omega.{arith}
-use Rattle.shape.proofs.Read.{Laid, laid_none, laid_on_lem, laid_whole, tree_weights}
+use Rattle.shape.proofs.Read.{laid_none, laid_on_lem, laid_whole, tree_weights}
 use borrow.Author.Rules.{rules}
 use Rattle.shape.proofs.shape_of.Goals as goal
 

@@ -2,7 +2,6 @@
 use mathlib.Core.Path.{sym}
 use native.Mathlib.Omega.{arith}
 use Rattle.shape.proofs.Read.{weight_in_lem, weight_fits}
-use borrow.Author.Rules.{rules}
 use Rattle.shape.proofs.weight.Goals as goal
 
 pub overflow_cast-result : goal.overflow_cast-result

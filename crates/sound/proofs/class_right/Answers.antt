@@ -2,7 +2,6 @@
 use borrow.Author.Tests.{not-true, not-false}
 use Rattle.checks.proofs.Laws.{exactly_yes, exactly_no, not_true_and_false}
 use Rattle.sound.specs.Steps.{ViewRight}
-use Rattle.std.proofs.Common.{rules}
 use Rattle.sound.proofs.class_right.Goals as goal
 use Rattle.sound.proofs.class_right.Goals.{Else-not-view_is_right}
 

@@ -1,7 +1,6 @@
 -- `sound::classes_right` meets its contract.
-use Rattle.std.proofs.Common.{◌≡◌, ℕ, zero, suc, ◌+◌, ◌-◌, ◌*◌, ◌%◌, ◌<◌, ◌≤◌, Bool, not, eqb, List, [], get_or, sym, refl, ap, ◌∙◌, subst, arith, rules, eq-eqb, eqb-true}
+use Rattle.std.proofs.Common.{◌≡◌, ℕ, zero, suc, ◌-◌, ◌*◌, ◌%◌, ◌<◌, ◌≤◌, Bool, not, eqb, List, [], get_or, sym, refl, ap, ◌∙◌, subst, arith, rules, eq-eqb, eqb-true}
 use native.Mathlib.Decide.{dec_le}
-use borrow.Author.Tests.{not-true, not-false}
 use Rattle.checks.specs.Check.{Exactly}
 use Rattle.checks.proofs.Laws.{exactly_no, not_true_and_false}
 use Rattle.sets.specs.Set.{has}
@@ -10,7 +9,7 @@ use Rattle.tree.specs.Class.{parent_of, longest_of, is_leaf, of_child}
 use Rattle.tree.specs.Rules.{PlanRules}
 use Rattle.tree.specs.Size.{most_size}
 use Rattle.tree.proofs.Classes.{root_no_class}
-use Rattle.tree.proofs.Down.{Added, added_start, added_more}
+use Rattle.tree.proofs.Down.{added_start, added_more}
 use Rattle.tree.proofs.Rules.{parent_below}
 use Rattle.shape.specs.Shape.{tree_in}
 use Rattle.shape.proofs.Read.{longest_most}
@@ -24,7 +23,7 @@ use Rattle.sound.specs.Steps.{parents_after, added_after, packets_of, bytes_of}
 use Rattle.sound.specs.Steps.{view_of, link_in, ClassRight}
 use Rattle.sound.proofs.Counts.{child_adds, child_adds_no, packets_fit, bytes_fit}
 use Rattle.sound.proofs.Kin.{child_told}
-use Rattle.sound.proofs.Totals.{funds_below, below_none, below_step, total_below}
+use Rattle.sound.proofs.Totals.{below_none, below_step, total_below}
 use Rattle.sound.proofs.classes_right.Invariants.{number}
 use Rattle.sound.proofs.classes_right.Goals as goal
 use Rattle.sound.proofs.classes_right.Goals.{After-class_right, After-parent-up, Else-not-class_right, In-loop-n}

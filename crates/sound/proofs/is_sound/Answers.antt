@@ -1,5 +1,4 @@
 -- `sound::is_sound` meets its contract: a link is made up of its fields.
-use Rattle.std.proofs.Common.{rules}
 use Rattle.sound.proofs.is_sound.Goals as goal
 
 pub returns : goal.returns

@@ -2,7 +2,6 @@
 use Rattle.state.specs.State.{link_of}
 use Rattle.state.proofs.Shapes.{accounts_shaped}
 use Rattle.sound.proofs.Lent.{lent_exactly}
-use Rattle.std.proofs.Common.{rules}
 use Rattle.sound.proofs.is_sound_of.Goals as goal
 
 pub returns : goal.returns

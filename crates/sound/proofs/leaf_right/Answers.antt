@@ -1,5 +1,5 @@
 -- `sound::leaf_right` meets its contract.
-use Rattle.std.proofs.Common.{arith, rules, ltb-true, lt-ltb, eq-eqb, eqb-true}
+use Rattle.std.proofs.Common.{arith, ltb-true, lt-ltb, eq-eqb, eqb-true}
 use borrow.Author.Tests.{not-true, not-false}
 use Rattle.checks.proofs.Laws.{exactly_yes, exactly_no, not_true_and_false}
 use Rattle.sound.proofs.leaf_right.Goals as goal

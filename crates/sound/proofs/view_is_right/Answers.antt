@@ -1,5 +1,5 @@
 -- `sound::view_is_right` meets its contract.
-use Rattle.std.proofs.Common.{arith, rules}
+use Rattle.std.proofs.Common.{arith}
 use Rattle.checks.proofs.Laws.{exactly_no, not_true_and_false}
 use Rattle.sound.proofs.view_is_right.Goals as goal
 

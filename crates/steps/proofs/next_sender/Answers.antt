@@ -5,7 +5,6 @@ use Rattle.sets.specs.Set.{Both}
 use Rattle.shape.specs.Shape.{tree_in}
 use Rattle.steps.proofs.Rounding.{fields_low, fields_searched}
 use Rattle.steps.proofs.Departures.{now_finds, is_closed}
-use borrow.Author.Rules.{rules}
 use Rattle.steps.proofs.next_sender.Goals as goal
 use Rattle.steps.proofs.next_sender.Goals.{After-both-leaves}
 

@@ -2,7 +2,6 @@
 use mathlib.Core.Path.{sym}
 use Rattle.steps.proofs.Departures.{then_goes, then_departs, going_on, nothing_departs}
 use Rattle.totals.proofs.Sounds.{near_same}
-use borrow.Author.Rules.{rules}
 use Rattle.steps.proofs.send.Goals as goal
 
 pub returns-then-packets-eq0 : goal.returns-then-packets-eq0

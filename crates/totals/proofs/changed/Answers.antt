@@ -2,8 +2,6 @@
 use mathlib.Core.Bool.{true, false}
 use mathlib.Core.Path.{◌≡◌, refl}
 use native.Mathlib.Omega.{arith}
-use borrow.Author.Rules.{rules}
-use borrow.Author.Tests.{not-true, not-false}
 use Rattle.totals.proofs.changed.Goals as goal
 
 pub returns-then-not-fewer : goal.returns-then-not-fewer

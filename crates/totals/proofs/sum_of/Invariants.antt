@@ -1,13 +1,6 @@
 -- `totals::sum_of` meets its contract: class by class, the lowest first.
-use mathlib.Core.Bool.{true, false}
-use mathlib.Core.Path.{◌≡◌, refl, sym, ap, ◌∙◌}
-use Prim.Native.Nat.{ℕ, ◌≤◌, ◌<◌}
-use native.Mathlib.Decide.{ℕ_discrete}
-use native.Mathlib.Omega.{arith}
-use Rattle.checks.proofs.Laws.{not_true_and_false}
-use Rattle.sets.specs.Set.{has, Next}
-use Rattle.totals.proofs.Passing.{Adding, adding_starts, adding_fits, adding_on, adding_ends, without_less}
-use borrow.Author.Rules.{rules}
+use Rattle.sets.specs.Set.{Next}
+use Rattle.totals.proofs.Passing.{Adding}
 use Rattle.totals.proofs.sum_of.Given as goal
 
 abbrev pub invariant-loop-i : goal.invariant-loop-i

@@ -2,8 +2,6 @@
 use mathlib.Core.Path.{refl, ◌∙◌}
 use Rattle.shape.specs.Shape.{tree_in}
 use Rattle.totals.proofs.WorkingOut.{flat_worked_out}
-use borrow.Author.Rules.{rules}
-use borrow.Author.Tests.{not-true, not-false}
 use Rattle.totals.proofs.work_out.Goals as goal
 
 pub returns-then-not-sound : goal.returns-then-not-sound

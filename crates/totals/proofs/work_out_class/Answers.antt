@@ -1,7 +1,6 @@
 -- `totals::work_out_class` meets its contract.
 use mathlib.Core.Path.{refl, ap}
 use lib.ListN.{set}
-use borrow.Author.Rules.{rules}
 use Rattle.totals.proofs.work_out_class.Goals as goal
 
 pub returns-then-leaf : goal.returns-then-leaf

@@ -7,8 +7,7 @@ use Rattle.tree.specs.declared.Tree.{Tree}
 use Rattle.tree.specs.Class.{is_leaf}
 use Rattle.tree.proofs.Rules.{few_classes}
 use Rattle.shape.specs.Shape.{tree_in}
-use Rattle.totals.proofs.Passing.{Passed, pass_begins, pass_addable, pass_root, pass_turn, pass_ends}
-use borrow.Author.Rules.{rules}
+use Rattle.totals.proofs.Passing.{pass_begins, pass_addable, pass_root, pass_turn, pass_ends}
 use Rattle.totals.proofs.work_out_inner.Goals as goal
 use Rattle.totals.proofs.work_out_inner.Goals.{After-has-leaf, In-loop-i}
 

@@ -1,14 +1,7 @@
 -- `totals::work_out_inner` meets its contract: class by class downward.
-use mathlib.Core.Path.{◌≡◌, ap, ◌∙◌}
-use Prim.Native.Nat.{ℕ, ◌≤◌, ◌<◌}
-use native.Mathlib.Omega.{arith}
-use Rattle.sets.specs.Set.{has}
-use Rattle.tree.specs.declared.Tree.{Tree}
-use Rattle.tree.specs.Class.{is_leaf}
-use Rattle.tree.proofs.Rules.{few_classes}
+use Prim.Native.Nat.{◌≤◌}
 use Rattle.shape.specs.Shape.{tree_in}
-use Rattle.totals.proofs.Passing.{Passed, pass_begins, pass_addable, pass_root, pass_turn, pass_ends}
-use borrow.Author.Rules.{rules}
+use Rattle.totals.proofs.Passing.{Passed}
 use Rattle.totals.proofs.work_out_inner.Given as goal
 
 abbrev pub invariant-loop-i : goal.invariant-loop-i

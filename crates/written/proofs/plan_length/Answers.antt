@@ -7,7 +7,6 @@ use lib.ListN.{length}
 use Rattle.sets.specs.Set.{has}
 use Rattle.written.specs.Bytes.{classes_bytes}
 use Rattle.written.proofs.Lengths.{length_to, length_none, length_to_lem, length_most, length_next, plan_length}
-use borrow.Author.Rules.{rules}
 use Rattle.written.proofs.plan_length.Goals as goal
 use Rattle.written.proofs.plan_length.Goals.{After-record_length-n, After-rule_length-n}
 

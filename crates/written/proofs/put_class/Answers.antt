@@ -4,7 +4,6 @@ use native.Mathlib.Omega.{arith}
 use lib.ListN.{length}
 use Rattle.digits.proofs.Laying.{laid_same}
 use Rattle.written.proofs.Lengths.{class_as}
-use borrow.Author.Rules.{rules}
 use Rattle.written.proofs.put_class.Goals as goal
 
 pub put_record-requires : goal.put_record-requires

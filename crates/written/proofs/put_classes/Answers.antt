@@ -3,13 +3,11 @@ use mathlib.Core.Path.{◌≡◌, refl, ap, ◌∙◌}
 use Prim.Native.Nat.{ℕ, ◌+◌, ◌-◌, ◌≤◌}
 use native.Mathlib.Omega.{arith}
 use lib.ListN.{length, length-append}
-use Rattle.digits.specs.Laid.{LaidAt}
 use Rattle.digits.proofs.Laying.{laid_same, laid_as}
 use Rattle.tree.specs.declared.Tree.{Tree}
 use Rattle.written.specs.Bytes.{class_bytes, classes_bytes}
 use Rattle.written.proofs.Lengths.{classes_last, classes_none, classes_grow}
 use Rattle.written.proofs.Laying.{laid_none}
-use borrow.Author.Rules.{rules}
 use Rattle.written.proofs.put_classes.Goals as goal
 
 last_length : (t : Tree) (i : ℕ) → 1 ≤ i → length (classes_bytes t i) ≡ length (classes_bytes t (i - 1)) + length (class_bytes t i)

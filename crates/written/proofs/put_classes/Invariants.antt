@@ -1,15 +1,9 @@
 -- `written::put_classes` meets its contract: one class after the other.
-use mathlib.Core.Path.{◌≡◌, refl, ap, ◌∙◌}
-use Prim.Native.Nat.{ℕ, ◌+◌, ◌-◌, ◌≤◌}
-use native.Mathlib.Omega.{arith}
-use lib.ListN.{length, length-append}
+use mathlib.Core.Path.{◌≡◌}
+use Prim.Native.Nat.{◌+◌, ◌-◌, ◌≤◌}
+use lib.ListN.{length}
 use Rattle.digits.specs.Laid.{LaidAt}
-use Rattle.digits.proofs.Laying.{laid_same, laid_as}
-use Rattle.tree.specs.declared.Tree.{Tree}
-use Rattle.written.specs.Bytes.{class_bytes, classes_bytes}
-use Rattle.written.proofs.Lengths.{classes_last, classes_none, classes_grow}
-use Rattle.written.proofs.Laying.{laid_none}
-use borrow.Author.Rules.{rules}
+use Rattle.written.specs.Bytes.{classes_bytes}
 use Rattle.written.proofs.put_classes.Given as goal
 
 abbrev pub invariant-loop-i : goal.invariant-loop-i

@@ -1,8 +1,8 @@
 -- `written::put_plan` meets its contract: the rule record, the class records, the end record.
-use mathlib.Core.Path.{◌≡◌, ◌∙◌}
+use mathlib.Core.Path.{◌≡◌}
 use Prim.Native.Nat.{◌+◌, ◌≤◌}
 use native.Mathlib.Omega.{arith}
-use lib.ListN.{length, length-append, length-set}
+use lib.ListN.{length, length-append}
 use Rattle.digits.proofs.Laying.{laid_byte, laid_then, laid_as}
 use Rattle.written.specs.Bytes.{rule_bytes, classes_bytes, plan_bytes}
 use Rattle.written.proofs.Lengths.{rule_length, plan_length, plan_as}

@@ -4,7 +4,6 @@ use native.Mathlib.Omega.{arith}
 use lib.ListN.{length}
 use Rattle.written.specs.Bytes.{record_bytes}
 use Rattle.written.proofs.Lengths.{record_length}
-use borrow.Author.Rules.{rules}
 use Rattle.written.proofs.put_record.Goals as goal
 
 pub put_leaf-requires : goal.put_leaf-requires

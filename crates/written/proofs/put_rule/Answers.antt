@@ -1,12 +1,10 @@
 -- `written::put_rule` meets its contract.
 use mathlib.Core.Path.{◌≡◌, ◌∙◌}
 use native.Mathlib.Omega.{arith}
-use borrow.Author.Tests.{not-true, not-false}
 use lib.ListN.{length}
 use Rattle.written.specs.Bytes.{rule_bytes}
 use Rattle.written.proofs.Lengths.{rule_length}
 use Rattle.written.proofs.Laying.{laid_none}
-use borrow.Author.Rules.{rules}
 use Rattle.written.proofs.put_rule.Goals as goal
 
 pub returns-then-not-follows : goal.returns-then-not-follows

@@ -2,13 +2,11 @@
 use mathlib.Core.Path.{ap, ◌∙◌}
 use Prim.Native.Nat.{ℕ, ◌≤◌}
 use native.Mathlib.Omega.{arith}
-use borrow.Author.Tests.{not-true, not-false}
 use Rattle.checks.specs.declared.Verdict.TheVariants.{Refused}
 use Rattle.written.specs.Writing.{nothing_written}
 use Rattle.written.proofs.Lengths.{few_classes}
 use Rattle.written.proofs.Shape.{arrays}
 use Rattle.written.proofs.Laying.{writes_no_plan, writes_short, writes_all, counted}
-use borrow.Author.Rules.{rules}
 use Rattle.written.proofs.write_plan.Goals as goal
 use Rattle.written.proofs.write_plan.Goals.{Else-not-is_plan}
 

@@ -1,6 +1,6 @@
 -- `call::arrive` meets its contract.
-use mathlib.Core.Path.{◌≡◌, refl, subst}
-use mathlib.Core.Bool.{true, false}
+use mathlib.Core.Path.{refl}
+use mathlib.Core.Bool.{false}
 use Rattle.checks.specs.Check.{Exactly}
 use Rattle.shape.specs.Shape.{tree_in}
 use Rattle.state.specs.declared.Link.{Link}
@@ -9,10 +9,8 @@ use Rattle.sound.specs.Sound.{SoundLink}
 use Rattle.steps.specs.declared.Stand.{Stand}
 use Rattle.steps.specs.Fields.{link_at}
 use Rattle.totals.proofs.Sounds.{sound_total}
-use Rattle.calls.specs.Arrival.{Arrives, arrival_leaves}
 use Rattle.calls.proofs.Arrivals.{arrives_by}
 use Rattle.answers.proofs.Events.{arrives_standing}
-use borrow.Author.Rules.{rules}
 use Rattle.answers.proofs.call.arrive.Goals as goal
 use Rattle.answers.proofs.call.arrive.Goals.{After-is_sound_at-sound}
 

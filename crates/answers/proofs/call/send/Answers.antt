@@ -1,6 +1,6 @@
 -- `call::send` meets its contract.
 use mathlib.Core.Path.{◌≡◌, refl, sym, ap, subst, ◌∙◌}
-use mathlib.Core.Bool.{Bool, true, false}
+use mathlib.Core.Bool.{Bool, false}
 use Rattle.checks.specs.Check.{Exactly}
 use Rattle.shape.specs.Shape.{tree_in}
 use Rattle.state.specs.declared.Link.{Link}
@@ -8,13 +8,11 @@ use Rattle.state.specs.Queue.{Shaped}
 use Rattle.sound.specs.Sound.{SoundLink}
 use Rattle.steps.specs.declared.Stand.{Stand}
 use Rattle.steps.specs.Fields.{link_at}
-use borrow.Author.Tests.{not-true, not-false}
 use Rattle.steps.proofs.Rounding.{none_kept}
 use Rattle.calls.specs.declared.Departure.{Departure}
 use Rattle.calls.specs.Send.{Sends, send_leaves}
 use Rattle.calls.proofs.Departures.{send_unsound, sends_by_lem}
 use Rattle.answers.proofs.Events.{sends_standing}
-use borrow.Author.Rules.{rules}
 use Rattle.answers.proofs.call.send.Goals as goal
 use Rattle.answers.proofs.call.send.Goals.{After-is_sound_at}
 

@@ -1,7 +1,6 @@
 -- `event::arrives` meets its contract.
 use Rattle.answers.specs.Steps.{arrived_with}
 use Rattle.answers.proofs.Events.{arrives_in_place}
-use borrow.Author.Rules.{rules}
 use Rattle.answers.proofs.event.arrives.Goals as goal
 
 pub returns : goal.returns

@@ -8,8 +8,6 @@ use Rattle.steps.specs.Fields.{link_at}
 use Rattle.steps.specs.Rounds.{InFields, nothing_goes}
 use Rattle.answers.specs.Steps.{Told}
 use Rattle.answers.proofs.Events.{departs_in_place, refused_in_place}
-use borrow.Author.Tests.{not-true, not-false}
-use borrow.Author.Rules.{rules}
 use Rattle.answers.proofs.event.departs.Goals as goal
 
 pub returns-then-not-sound : goal.returns-then-not-sound

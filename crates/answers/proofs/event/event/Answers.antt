@@ -10,7 +10,6 @@ use Rattle.plan.specs.declared.EventRead.{EventRead}
 use Rattle.plan.specs.declared.EventRead.TheVariants.{NoMore, Fault}
 use Rattle.plan.specs.Event.{used_of, event_at}
 use Rattle.answers.proofs.Events.{last_heard, arrival_heard, send_heard}
-use borrow.Author.Rules.{rules}
 use Rattle.answers.proofs.event.event.Goals as goal
 use Rattle.answers.proofs.event.event.Goals.{After-event_at-read, After-used, Start}
 

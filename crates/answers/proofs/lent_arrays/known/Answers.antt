@@ -1,7 +1,6 @@
 -- `lent::known` meets its contract.
 use mathlib.Core.Path.{sym, ◌∙◌}
 use Rattle.state.proofs.Zips.{zip_length}
-use borrow.Author.Rules.{rules}
 use Rattle.answers.proofs.lent_arrays.known.Goals as goal
 
 pub returns : goal.returns

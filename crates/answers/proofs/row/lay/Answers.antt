@@ -4,7 +4,6 @@ use mathlib.Core.List.{[], ◌∷◌}
 use Prim.Native.Nat.{ℕ}
 use native.Mathlib.Omega.{arith}
 use Rattle.digits.proofs.Laying.{laid_as}
-use borrow.Author.Rules.{rules}
 use Rattle.answers.proofs.row.lay.Goals as goal
 
 pub returns : goal.returns

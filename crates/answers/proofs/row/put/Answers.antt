@@ -1,6 +1,5 @@
 -- `row::put` meets its contract.
 use Rattle.digits.proofs.Laying.{laid_byte}
-use borrow.Author.Rules.{rules}
 use Rattle.answers.proofs.row.put.Goals as goal
 
 pub returns : goal.returns

@@ -2,7 +2,6 @@
 use mathlib.Core.Path.{refl}
 use native.Mathlib.Omega.{arith}
 use Rattle.digits.proofs.Laying.{laid_as}
-use borrow.Author.Rules.{rules}
 use Rattle.answers.proofs.row.put_two.Goals as goal
 
 pub returns : goal.returns

@@ -3,7 +3,6 @@ use mathlib.Core.Path.{sym, ap}
 use Prim.Native.Nat.{◌+◌}
 use Rattle.plan.specs.declared.Claim.{Claim}
 use Rattle.plan.specs.Entry.{claim_uses}
-use borrow.Author.Rules.{rules}
 use Rattle.claims.proofs.in_place.claim_uses.Goals as goal
 
 pub returns-in-Sent : goal.returns-in-Sent

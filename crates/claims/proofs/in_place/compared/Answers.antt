@@ -1,9 +1,7 @@
 -- `in_place::compared` meets its contract.
 use mathlib.Core.Path.{sym, ap, ◌∙◌}
 use Prim.Native.Nat.{ℕ, ◌+◌}
-use borrow.Author.Tests.{not-true, not-false}
 use Rattle.claims.specs.Steps.{did_go_on}
-use borrow.Author.Rules.{rules}
 use Rattle.claims.proofs.in_place.compared.Goals as goal
 
 pub returns-then-not-same_claim : goal.returns-then-not-same_claim

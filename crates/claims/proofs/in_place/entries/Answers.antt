@@ -2,7 +2,7 @@
 use mathlib.Core.Bool.{true}
 use mathlib.Core.List.{List}
 use mathlib.Core.Path.{◌≡◌, refl, sym, ap, ap₂, subst, ◌∙◌}
-use Prim.Native.Nat.{ℕ, ◌+◌, ◌-◌, ◌<◌}
+use Prim.Native.Nat.{ℕ, ◌+◌, ◌-◌}
 use native.Mathlib.Omega.{arith}
 use lib.ListN.{length, take, drop, length-drop}
 use lib.Seq.{take_all}
@@ -15,7 +15,6 @@ use Rattle.state.specs.declared.Link.{Link}
 use Rattle.state.specs.declared.Totals.{Totals}
 use Rattle.state.specs.Queue.{Shaped}
 use Rattle.state.proofs.Shapes.{shaped}
-use Rattle.sound.specs.Sound.{SoundLink}
 use Rattle.steps.specs.declared.Stand.{Stand}
 use Rattle.totals.specs.WorkedOut.{totals_for, InTotal}
 use Rattle.totals.proofs.Sounds.{sound_roomy, sound_total, total_is, light_here}
@@ -27,8 +26,7 @@ use Rattle.claims.specs.declared.Checked.{Checked}
 use Rattle.claims.specs.declared.in_place.Did.{Did}
 use Rattle.claims.specs.Recording.{goes_on, takes_one}
 use Rattle.claims.specs.Steps.{checked_by, Enters, PartDone}
-use Rattle.claims.proofs.Checking.{way_at, Loop, loop_starts, loop_on, loop_ends, left_of, left_less, test_same}
-use borrow.Author.Rules.{rules}
+use Rattle.claims.proofs.Checking.{way_at, loop_starts, loop_on, loop_ends, left_less, test_same}
 use Rattle.claims.proofs.in_place.entries.Goals as goal
 use Rattle.claims.proofs.in_place.entries.Goals.{After-entry-s, After-goes_on-s, After-shape_of-shape, At-loop-kept, In-loop-kept}
 

@@ -1,34 +1,13 @@
 -- `in_place::entries` meets its contract: the link of the locals is the link after the entries before the place.
 use mathlib.Core.Bool.{true}
-use mathlib.Core.List.{List}
-use mathlib.Core.Path.{◌≡◌, refl, sym, ap, ap₂, subst, ◌∙◌}
-use Prim.Native.Nat.{ℕ, ◌+◌, ◌-◌, ◌<◌}
-use native.Mathlib.Omega.{arith}
-use lib.ListN.{length, take, drop, length-drop}
-use lib.Seq.{take_all}
-use Rattle.tree.proofs.Classes.{both_true}
-use Rattle.tree.specs.declared.Tree.{Tree}
-use Rattle.tree.specs.Rules.{PlanRules}
+use Prim.Native.Nat.{◌+◌, ◌-◌}
+use lib.ListN.{length}
 use Rattle.shape.specs.Shape.{tree_in}
-use Rattle.plan.specs.Entry.{entry_at}
-use Rattle.state.specs.declared.Link.{Link}
-use Rattle.state.specs.declared.Totals.{Totals}
 use Rattle.state.specs.Queue.{Shaped}
-use Rattle.state.proofs.Shapes.{shaped}
-use Rattle.sound.specs.Sound.{SoundLink}
-use Rattle.steps.specs.declared.Stand.{Stand}
-use Rattle.totals.specs.WorkedOut.{totals_for, InTotal}
-use Rattle.totals.proofs.Sounds.{sound_roomy, sound_total, total_is, light_here}
-use Rattle.steps.specs.Fields.{lent_link, link_at}
+use Rattle.steps.specs.Fields.{link_at}
 use Rattle.steps.specs.Rounds.{Kept}
-use Rattle.steps.proofs.Rounding.{none_kept}
-use Rattle.steps.proofs.Wholes.{apart_is}
-use Rattle.claims.specs.declared.Checked.{Checked}
-use Rattle.claims.specs.declared.in_place.Did.{Did}
-use Rattle.claims.specs.Recording.{goes_on, takes_one}
-use Rattle.claims.specs.Steps.{checked_by, Enters, PartDone}
-use Rattle.claims.proofs.Checking.{way_at, Loop, loop_starts, loop_on, loop_ends, left_of, left_less, test_same}
-use borrow.Author.Rules.{rules}
+use Rattle.claims.specs.Steps.{checked_by}
+use Rattle.claims.proofs.Checking.{Loop, left_of}
 use Rattle.claims.proofs.in_place.entries.Given as goal
 
 abbrev pub invariant-loop-kept : goal.invariant-loop-kept

@@ -8,7 +8,6 @@ use Rattle.state.specs.declared.Link.{Link}
 use Rattle.totals.proofs.Sounds.{sound_roomy}
 use Rattle.shape.specs.Shape.{tree_in}
 use Rattle.steps.specs.Fields.{link_at}
-use borrow.Author.Rules.{rules}
 use Rattle.claims.proofs.InPlace.{decides_in_place, arrival_in_place, claim_in_place}
 use Rattle.claims.proofs.in_place.entry.Goals as goal
 use Rattle.claims.proofs.in_place.entry.Goals.{Start}

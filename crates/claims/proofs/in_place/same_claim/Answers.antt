@@ -5,7 +5,6 @@ use Rattle.plan.specs.declared.Arrived.{Arrived}
 use Rattle.plan.specs.declared.Claim.TheVariants.{Sent, Idle}
 use Rattle.claims.specs.Recording.{same_claim}
 use Rattle.claims.specs.Steps.{packet_of}
-use borrow.Author.Rules.{rules}
 use Rattle.claims.proofs.in_place.same_claim.Goals as goal
 
 -- nothing waits where no packet has gone

@@ -1,7 +1,6 @@
 -- `in_place::same_packet` meets its contract.
-use mathlib.Core.Path.{◌≡◌, refl, sym, ◌∙◌}
+use mathlib.Core.Path.{refl, sym, ◌∙◌}
 use borrow.Author.Tests.{eq-eqb, ne_eqb}
-use borrow.Author.Rules.{rules}
 use Rattle.claims.proofs.in_place.same_packet.Goals as goal
 
 pub returns-then-wide-went : goal.returns-then-wide-went

@@ -1,6 +1,5 @@
 -- `in_place::takes_one` meets its contract.
 use mathlib.Core.Path.{refl}
-use borrow.Author.Rules.{rules}
 use Rattle.claims.proofs.in_place.takes_one.Goals as goal
 
 pub returns-else-last : goal.returns-else-last

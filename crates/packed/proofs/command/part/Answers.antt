@@ -1,6 +1,5 @@
 -- `command::part` meets its contract.
 use mathlib.Core.Path.{refl}
-use borrow.Author.Rules.{rules}
 use borrow.Author.Tests.{lt-ltb, le-ltb}
 use Rattle.packed.proofs.command.part.Goals as goal
 

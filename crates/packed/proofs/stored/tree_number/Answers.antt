@@ -1,6 +1,5 @@
 -- `stored::tree_number` meets its contract.
 use mathlib.Core.Path.{refl}
-use borrow.Author.Rules.{rules}
 use borrow.Author.Tests.{lt-ltb, le-ltb, eq-eqb, ne_eqb}
 use Rattle.packed.proofs.stored.tree_number.Goals as goal
 

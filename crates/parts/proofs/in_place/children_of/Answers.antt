@@ -1,7 +1,5 @@
 -- `in_place::children_of` meets its contract.
 use Rattle.checks.proofs.Laws.{not_true_and_false}
-use borrow.Author.Tests.{not-true, not-false}
-use borrow.Author.Rules.{rules}
 use Rattle.parts.proofs.in_place.children_of.Goals as goal
 
 pub returns-then-not-sound : goal.returns-then-not-sound

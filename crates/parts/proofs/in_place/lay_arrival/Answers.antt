@@ -4,7 +4,6 @@ use Rattle.checks.specs.declared.Verdict.{Verdict}
 use Rattle.run.specs.Event.{arrival_says}
 use Rattle.parts.specs.Steps.{packet_with}
 use Rattle.parts.proofs.Happenings.{lays_as}
-use borrow.Author.Rules.{rules}
 use Rattle.parts.proofs.in_place.lay_arrival.Goals as goal
 
 pub returns-in-Passed : goal.returns-in-Passed

@@ -3,7 +3,6 @@ use mathlib.Core.Path.{ap}
 use Rattle.checks.specs.declared.Verdict.{Verdict}
 use Rattle.parts.specs.Steps.{end_says}
 use Rattle.parts.proofs.Happenings.{lays_as}
-use borrow.Author.Rules.{rules}
 use Rattle.parts.proofs.in_place.lay_last.Goals as goal
 
 pub returns-in-Passed : goal.returns-in-Passed

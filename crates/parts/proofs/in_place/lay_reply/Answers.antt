@@ -1,8 +1,5 @@
 -- `in_place::lay_reply` meets its contract: of which kind the reply is.
-use mathlib.Core.Path.{◌≡◌}
-use native.Mathlib.Omega.{arith}
 use borrow.Author.Tests.{eq-eqb, ne_eqb}
-use borrow.Author.Rules.{rules}
 use Rattle.parts.proofs.in_place.lay_reply.Goals as goal
 
 pub returns-then-reply-eq16 : goal.returns-then-reply-eq16

@@ -19,16 +19,14 @@ use Rattle.lines.specs.Line.{line_room}
 use Rattle.totals.specs.WorkedOut.{totals_for, Roomy, InTotal}
 use Rattle.totals.proofs.Sounds.{sound_roomy, sound_total, total_is, light_here, root_for}
 use Rattle.steps.specs.Fields.{lent_link, link_at}
-use Rattle.steps.specs.Rounds.{Kept}
 use Rattle.steps.specs.declared.Stand.{Stand}
 use Rattle.answers.specs.declared.event.Heard.{Heard}
 use Rattle.answers.specs.Steps.{Told}
 use Rattle.steps.proofs.Wholes.{apart_is}
 use Rattle.parts.specs.Steps.{reply_says, Taken}
-use Rattle.run.proofs.Lines.{steps_left, steps_less, next_on}
+use Rattle.run.proofs.Lines.{steps_less, next_on}
 use Rattle.parts.proofs.Happenings.{lays_as, event_goes}
-use Rattle.parts.proofs.Parts.{Laying, laying_starts, laying_on, laying_ends}
-use borrow.Author.Rules.{rules}
+use Rattle.parts.proofs.Parts.{laying_starts, laying_on, laying_ends}
 use borrow.Author.Tests.{leb-true}
 use Rattle.parts.proofs.in_place.part_of.Goals as goal
 use Rattle.parts.proofs.in_place.part_of.Goals.{After-outcome-run, After-shape_of-shape, At-loop-kept, In-loop-kept}

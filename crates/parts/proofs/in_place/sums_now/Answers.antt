@@ -4,7 +4,6 @@ use Rattle.checks.proofs.Laws.{not_true_and_false}
 use Rattle.tree.specs.Rules.{PlanRules}
 use Rattle.shape.specs.Shape.{tree_in}
 use Rattle.steps.proofs.Rounding.{raised_none, round_kept}
-use borrow.Author.Tests.{not-true, not-false}
 use Rattle.parts.proofs.in_place.sums_now.Goals as goal
 use Rattle.parts.proofs.in_place.sums_now.Goals.{Else-not-sound}
 

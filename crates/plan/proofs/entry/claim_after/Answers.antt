@@ -2,7 +2,6 @@
 use mathlib.Core.Path.{sym, ap, ◌∙◌}
 use Rattle.plan.specs.declared.EntryRead.TheVariants.{Claims}
 use Rattle.plan.proofs.EntryLaws.{after_none, after_strange, after_cut, after_whole}
-use borrow.Author.Rules.{rules}
 use Rattle.plan.proofs.entry.claim_after.Goals as goal
 
 pub whole_claim-requires : goal.whole_claim-requires

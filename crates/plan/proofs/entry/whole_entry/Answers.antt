@@ -1,9 +1,8 @@
 -- `entry::whole_entry` meets its contract.
 use mathlib.Core.Bool.{true}
 use mathlib.Core.Path.{◌≡◌, sym, ap, ◌∙◌}
-use Prim.Native.Nat.{◌+◌, ◌-◌, ◌≤◌}
+use Prim.Native.Nat.{◌+◌, ◌-◌}
 use native.Mathlib.Omega.{arith}
-use borrow.Author.Tests.{not-true, not-false}
 use lib.ListN.{length, drop, length-drop}
 use lib.Seq.{take_all}
 use Rattle.plan.specs.declared.EntryRead.TheVariants.{Arrives}
@@ -14,7 +13,6 @@ use Rattle.plan.specs.Event.{arrived_of}
 use Rattle.plan.specs.Entry.{claim_after}
 use Rattle.plan.proofs.Records.{body_part, body_length, whole_length, arrival_body, there_length}
 use Rattle.plan.proofs.EntryLaws.{entry_arrives, entry_sends}
-use borrow.Author.Rules.{rules}
 use Rattle.plan.proofs.entry.whole_entry.Goals as goal
 use Rattle.plan.proofs.entry.whole_entry.Goals.{After-record_length-end, Else-not-gives_arrival}
 

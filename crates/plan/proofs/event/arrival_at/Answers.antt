@@ -1,6 +1,5 @@
 -- `event::arrival_at` meets its contract.
 use mathlib.Core.Path.{refl}
-use borrow.Author.Rules.{rules}
 use Rattle.plan.proofs.event.arrival_at.Goals as goal
 
 pub returns : goal.returns

@@ -1,10 +1,8 @@
 -- `event::event_at` meets its contract.
 use mathlib.Core.Path.{sym, ap, ◌∙◌}
 use native.Mathlib.Omega.{arith}
-use borrow.Author.Tests.{not-true, not-false}
 use Rattle.plan.specs.declared.EventRead.TheVariants.{Arrive}
 use Rattle.plan.proofs.Lying.{lies_end, lies_strange, lies_cut, lies_send, lies_arrival, arrival_seven}
-use borrow.Author.Rules.{rules}
 use Rattle.plan.proofs.event.event_at.Goals as goal
 
 pub returns-then-input-place : goal.returns-then-input-place

@@ -1,5 +1,4 @@
 -- `event::read_arrival` meets its contract.
-use borrow.Author.Rules.{rules}
 use Rattle.plan.proofs.event.read_arrival.Goals as goal
 
 pub returns : goal.returns

@@ -3,7 +3,6 @@ use mathlib.Core.Bool.{true}
 use mathlib.Core.Path.{◌≡◌, sym, ap, ◌∙◌}
 use Prim.Native.Nat.{◌+◌}
 use native.Mathlib.Omega.{arith}
-use borrow.Author.Tests.{not-true, not-false}
 use lib.ListN.{length}
 use Rattle.plan.specs.declared.EventRead.TheVariants.{Arrive}
 use Rattle.plan.specs.declared.kind.RecordKind.{RecordKind}
@@ -12,7 +11,6 @@ use Rattle.plan.specs.Record.{kind_at}
 use Rattle.plan.specs.Event.{arrived_of}
 use Rattle.plan.proofs.Records.{body_part, body_length, whole_length, arrival_body}
 use Rattle.plan.proofs.EventLaws.{event_arrival, event_send}
-use borrow.Author.Rules.{rules}
 use Rattle.plan.proofs.event.whole_event.Goals as goal
 use Rattle.plan.proofs.event.whole_event.Goals.{After-record_length-end, Else-not-gives_arrival}
 

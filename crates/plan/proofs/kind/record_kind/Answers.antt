@@ -1,5 +1,4 @@
 -- `kind::record_kind` meets its contract.
-use borrow.Author.Rules.{rules}
 use borrow.Author.Tests.{ne_eqb}
 use Rattle.plan.specs.Kind.{record_kind}
 use Rattle.plan.proofs.kind.record_kind.Goals as goal

@@ -1,5 +1,4 @@
 -- `reader::close_plan` meets its contract: only records that broke no rule are closed.
-use borrow.Author.Rules.{rules}
 use Rattle.plan.proofs.reader.close_plan.Goals as goal
 
 pub returns-in-Passed : goal.returns-in-Passed

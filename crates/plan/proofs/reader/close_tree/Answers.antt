@@ -1,5 +1,4 @@
 -- `reader::close_tree` meets its contract.
-use borrow.Author.Rules.{rules}
 use Rattle.plan.proofs.reader.close_tree.Goals as goal
 
 pub returns-in-Passed : goal.returns-in-Passed

@@ -1,7 +1,6 @@
 -- `reader::no_class` meets its contract: 17 at the start, 18 anywhere else.
 use mathlib.Core.Path.{sym, refl, ◌∙◌}
-use borrow.Author.Tests.{eq-eqb, ne_eqb, not-true, not-false}
-use borrow.Author.Rules.{rules}
+use borrow.Author.Tests.{eq-eqb, ne_eqb}
 use Rattle.plan.proofs.reader.no_class.Goals as goal
 
 pub returns-then-not-gives_rule : goal.returns-then-not-gives_rule

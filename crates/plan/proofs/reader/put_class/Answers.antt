@@ -5,7 +5,6 @@ use native.Mathlib.Omega.{arith}
 use borrow.Author.Tests.{lt-ltb, le-ltb}
 use Rattle.checks.proofs.Laws.{decides, pass_over}
 use Rattle.tree.specs.Rules.{too_many}
-use borrow.Author.Rules.{rules}
 use Rattle.plan.proofs.reader.put_class.Goals as goal
 
 pub returns-then-tree-ge-MOST : goal.returns-then-tree-ge-MOST

@@ -1,7 +1,6 @@
 -- `reader::read_opening` meets its contract: a first record that breaks a number of its head is no rule that was read.
 use Rattle.checks.proofs.Laws.{not_true_and_false}
 use Rattle.plan.proofs.Reading.{opening_none}
-use borrow.Author.Rules.{rules}
 use Rattle.plan.proofs.reader.read_opening.Goals as goal
 
 pub whole_rule-requires : goal.whole_rule-requires

@@ -1,9 +1,7 @@
 -- `reader::read_records` meets its contract: the records are those that the rules give, for any bytes.
 use mathlib.Core.Path.{sym, ◌∙◌}
-use Prim.Native.Nat.{◌-◌}
 use native.Mathlib.Omega.{arith}
-use Rattle.plan.proofs.Reading.{ReadTo, start_no_rule, read_none, read_stop, read_end, read_onward}
-use borrow.Author.Rules.{rules}
+use Rattle.plan.proofs.Reading.{start_no_rule, read_none, read_stop, read_end, read_onward}
 use Rattle.plan.proofs.reader.read_records.Goals as goal
 
 pub loop-n-init : goal.loop-n-init

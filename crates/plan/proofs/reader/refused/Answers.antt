@@ -1,5 +1,4 @@
 -- `reader::refused` meets its contract.
-use borrow.Author.Rules.{rules}
 use Rattle.plan.proofs.reader.refused.Goals as goal
 
 pub returns : goal.returns

@@ -4,7 +4,6 @@ use native.Mathlib.Omega.{arith}
 use lib.ListN.{length, length-drop, drop}
 use Rattle.plan.proofs.Records.{there_length}
 use Rattle.plan.proofs.Reading.{rest_part, record_missing, record_unknown, record_cut, rule_stops, whole_to_step}
-use borrow.Author.Rules.{rules}
 use Rattle.plan.proofs.reader.take_record.Goals as goal
 
 pub take_whole-requires : goal.take_whole-requires

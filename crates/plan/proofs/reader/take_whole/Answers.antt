@@ -3,14 +3,12 @@ use mathlib.Core.Bool.{Bool, true, cond}
 use mathlib.Core.Path.{◌≡◌, sym, ap, ◌∙◌}
 use Prim.Native.Nat.{◌+◌}
 use native.Mathlib.Omega.{arith}
-use borrow.Author.Tests.{not-true, not-false}
 use lib.ListN.{length}
 use Rattle.plan.specs.declared.kind.RecordKind.{RecordKind}
 use Rattle.plan.specs.Kind.{gives_class, gives_leaf}
 use Rattle.plan.specs.Record.{kind_at, body_of, class_of, class_at}
 use Rattle.plan.proofs.Records.{class_body, body_part, body_length, whole_length}
 use Rattle.plan.proofs.Reading.{class_to_whole, plain_to_whole}
-use borrow.Author.Rules.{rules}
 use Rattle.plan.proofs.reader.take_whole.Goals as goal
 use Rattle.plan.proofs.reader.take_whole.Goals.{After-gives_leaf-leaf, After-read_class-class, After-record_length-end, Else-not-gives_class}
 

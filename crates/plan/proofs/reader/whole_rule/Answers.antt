@@ -5,7 +5,6 @@ use mathlib.Core.Logic.{inl, inr}
 use mathlib.Core.Path.{◌≡◌, sym, ap, ◌∙◌}
 use Prim.Native.Nat.{ℕ, ◌+◌}
 use native.Mathlib.Omega.{arith}
-use borrow.Author.Tests.{not-true, not-false}
 use lib.ListN.{length}
 use Rattle.checks.proofs.Laws.{not_true_and_false}
 use Rattle.plan.specs.declared.kind.RecordKind.{RecordKind}
@@ -13,7 +12,6 @@ use Rattle.plan.specs.Kind.{gives_rule}
 use Rattle.plan.specs.Record.{byte_at, kind_at, rule_of, bad_rule}
 use Rattle.plan.proofs.Records.{body_part, body_length, whole_length, rule_body, rule_right, rule_bad}
 use Rattle.plan.proofs.Reading.{opening_none, opening_rule, RuleRecord}
-use borrow.Author.Rules.{rules}
 use Rattle.plan.proofs.reader.whole_rule.Goals as goal
 use Rattle.plan.proofs.reader.whole_rule.Goals.{After-read_rule-rule, After-record_length-end, Else-not-gives_rule}
 

@@ -1,5 +1,4 @@
 -- `record::inner_class` meets its contract.
-use borrow.Author.Rules.{rules}
 use Rattle.plan.proofs.record.inner_class.Goals as goal
 
 pub returns : goal.returns

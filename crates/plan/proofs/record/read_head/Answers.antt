@@ -3,7 +3,6 @@ use mathlib.Core.Bool.{not}
 use mathlib.Core.Path.{ap}
 use borrow.Author.Tests.{eq-eqb, ne_eqb, lt-ltb, le-ltb}
 use Rattle.plan.specs.Record.{kind_at, missing, unknown, cut}
-use borrow.Author.Rules.{rules}
 use Rattle.plan.proofs.record.read_head.Goals as goal
 
 pub returns-then-rest-eq0 : goal.returns-then-rest-eq0

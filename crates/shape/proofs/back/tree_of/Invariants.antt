@@ -1,15 +1,11 @@
 -- `back::tree_of` meets its contract.
-use mathlib.Core.List.{List, ◌++◌, append-nil}
-use mathlib.Core.Path.{◌≡◌, refl, ◌∙◌}
+use mathlib.Core.List.{List, ◌++◌}
+use mathlib.Core.Path.{◌≡◌}
 use Prim.Native.Nat.{ℕ, ◌+◌, ◌-◌, ◌≤◌}
-use native.Mathlib.Omega.{arith}
 use lib.ListN.{get_or, replicate}
 use Rattle.units.specs.declared.Weight.{Weight}
 use Rattle.tree.specs.Class.{no_weight}
 use Rattle.tree.specs.Sum.{table}
-use Rattle.tree.proofs.Tables.{table_none, table_fill}
-use Rattle.shape.proofs.Read.{parent_in, weight_in_lem, longest_in, parent_fits, weight_fits, longest_fits, tree_back}
-use borrow.Author.Rules.{rules}
 use Rattle.shape.proofs.back.tree_of.Given as goal
 
 -- the numbers of a class

@@ -1,6 +1,6 @@
 -- `size::bad_longest` meets its contract.
 use mathlib.Core.Path.{refl, ◌∙◌}
-use borrow.Author.Tests.{lt-ltb, le-ltb, ltb-false, not-true, not-false}
+use borrow.Author.Tests.{lt-ltb, le-ltb, ltb-false}
 use Rattle.checks.proofs.Laws.{not_true_and_false}
 use Rattle.tree.specs.Rules.{bad_longest}
 use Rattle.shape.proofs.size.bad_longest.Goals as goal

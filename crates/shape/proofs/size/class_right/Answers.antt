@@ -3,14 +3,12 @@ use mathlib.Core.Bool.{true, false}
 use mathlib.Core.Path.{◌≡◌, refl, sym, ap, ◌∙◌}
 use Prim.Native.Nat.{ℕ}
 use native.Mathlib.Omega.{arith}
-use borrow.Author.Tests.{not-true, not-false}
 use Rattle.sets.specs.Set.{has}
 use Rattle.checks.proofs.Laws.{exactly_yes, exactly_no, not_true_and_false}
 use Rattle.tree.specs.declared.Tree.{Tree}
 use Rattle.tree.specs.Class.{is_leaf}
 use Rattle.tree.specs.Rules.{bad_longest}
 use Rattle.tree.specs.Size.{longest_cost}
-use borrow.Author.Rules.{rules}
 use Rattle.shape.proofs.size.class_right.Goals as goal
 use Rattle.shape.proofs.size.class_right.Goals.{After-has-leaf}
 

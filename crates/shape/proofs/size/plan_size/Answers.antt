@@ -1,7 +1,6 @@
 -- `size::plan_size` meets its contract: a tree's shape is that tree.
 use mathlib.Core.Path.{subst}
 use Rattle.shape.specs.Steps.{Sizes}
-use borrow.Author.Rules.{rules}
 use Rattle.shape.proofs.size.plan_size.Goals as goal
 
 pub returns : goal.returns

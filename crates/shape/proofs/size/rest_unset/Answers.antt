@@ -1,12 +1,7 @@
 -- `size::rest_unset` meets its contract.
-use Prim.Native.Nat.{ℕ, ◌-◌, ◌≤◌, ◌<◌}
 use native.Mathlib.Omega.{arith}
 use borrow.Author.Count.{below_more}
-use borrow.Author.Tests.{not-true, not-false}
 use Rattle.checks.proofs.Laws.{exactly_yes, exactly_no, not_true_and_false}
-use Rattle.shape.specs.Steps.{NumberUnset}
-use Rattle.shape.specs.Shape.{tree_in}
-use borrow.Author.Rules.{rules}
 use Rattle.shape.proofs.size.rest_unset.Goals as goal
 
 pub returns-then-not-unset_at : goal.returns-then-not-unset_at

@@ -1,6 +1,5 @@
 -- `size::round_size` meets its contract.
 use mathlib.Core.Path.{refl, ◌∙◌}
-use borrow.Author.Rules.{rules}
 use Rattle.shape.proofs.size.round_size.Goals as goal
 
 pub returns : goal.returns

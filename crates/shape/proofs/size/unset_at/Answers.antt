@@ -1,8 +1,6 @@
 -- `size::unset_at` meets its contract.
-use mathlib.Core.Path.{◌≡◌, sym, ◌∙◌}
-use Rattle.tree.specs.Class.{is_leaf}
+use mathlib.Core.Path.{sym, ◌∙◌}
 use Rattle.shape.proofs.Read.{leaf_in, parent_in, weight_in_lem, longest_in}
-use borrow.Author.Rules.{rules}
 use Rattle.shape.proofs.size.unset_at.Goals as goal
 
 pub returns : goal.returns

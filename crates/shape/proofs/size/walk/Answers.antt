@@ -2,9 +2,8 @@
 use mathlib.Core.Bool.{true}
 use mathlib.Core.List.{List}
 use mathlib.Core.Path.{◌≡◌, refl, sym, ◌∙◌}
-use Prim.Native.Nat.{ℕ, ◌+◌, ◌-◌, ◌^◌, ◌≤◌, ◌<◌}
+use Prim.Native.Nat.{ℕ, ◌^◌, ◌≤◌, ◌<◌}
 use native.Mathlib.Omega.{arith}
-use lib.ListN.{get_or}
 use borrow.Author.Tests.{not-true, not-false}
 use Rattle.checks.specs.Check.{Exactly}
 use Rattle.checks.proofs.Laws.{exactly_yes, exactly_no, not_true_and_false}
@@ -12,15 +11,14 @@ use Rattle.units.specs.Cost.{most_cost}
 use Rattle.tree.specs.declared.Tree.{Tree}
 use Rattle.tree.specs.Class.{parent_of, weight_of, of_child}
 use Rattle.tree.specs.Size.{all_weights, all_longest, longest_cost}
-use Rattle.shape.specs.Steps.{Numbers, ClassObeys, children_after}
-use Rattle.tree.specs.Sum.{sum_to}
+use Rattle.shape.specs.Steps.{ClassObeys, children_after}
 use Rattle.tree.proofs.Classes.{class_in_lem, class_range, child_light, child_own, child_other}
 use Rattle.tree.proofs.Rules.{lower_parent, weight_range, longest_cost_bound}
 use Rattle.tree.proofs.Sums.{sum_none, sum_rest, sum_above_lem}
-use Rattle.tree.proofs.Down.{Added, added_start, added_more, after_more}
+use Rattle.tree.proofs.Down.{added_start, added_more, after_more}
 use Rattle.shape.specs.Shape.{tree_in}
 use Rattle.shape.proofs.Read.{parent_in, weight_in_lem, longest_in}
-use Rattle.shape.proofs.Kin.{FamiliesAfter, after_none, after_on, after_all}
+use Rattle.shape.proofs.Kin.{after_none, after_on, after_all}
 use borrow.Author.Rules.{rules}
 use Rattle.shape.proofs.size.walk.Invariants.{number}
 use Rattle.shape.proofs.size.walk.Goals as goal

@@ -1,5 +1,5 @@
 -- `queue::above_of` meets its contract.
-use Rattle.std.proofs.Common.{◌-◌, ◌∙◌, rules}
+use Rattle.std.proofs.Common.{◌-◌, ◌∙◌}
 use Rattle.sound.proofs.Places.{four_wraps}
 use Rattle.sound.proofs.queue.above_of.Goals as goal
 

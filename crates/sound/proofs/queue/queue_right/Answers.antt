@@ -1,5 +1,5 @@
 -- `queue::queue_right` meets its contract: place by place, and not in the order of the queue.
-use Rattle.std.proofs.Common.{◌≡◌, ℕ, ◌+◌, ◌-◌, ◌*◌, ◌<◌, ◌≤◌, sym, refl, ◌∙◌, arith, rules, eq-eqb, eqb-true}
+use Rattle.std.proofs.Common.{◌≡◌, ◌+◌, ◌-◌, ◌*◌, ◌≤◌, sym, ◌∙◌, arith, eq-eqb, eqb-true}
 use Rattle.checks.proofs.Laws.{exactly_no}
 use Rattle.tree.specs.Sum.{sum_to}
 use Rattle.sound.specs.Steps.{lengths_cost}

@@ -1,5 +1,5 @@
 -- `queue::seen_at` meets its contract.
-use Rattle.std.proofs.Common.{refl, ◌∙◌, rules}
+use Rattle.std.proofs.Common.{refl, ◌∙◌}
 use Rattle.sound.proofs.queue.seen_at.Goals as goal
 
 pub returns : goal.returns

@@ -1,9 +1,7 @@
 -- `queue::seen_in` meets its contract.
-use Rattle.std.proofs.Common.{◌≡◌, ℕ, ◌+◌, ◌-◌, ◌*◌, ◌<◌, ◌≤◌, sym, refl, ◌∙◌, arith, rules}
+use Rattle.std.proofs.Common.{◌≡◌, ◌+◌, ◌-◌, ◌*◌, ◌≤◌}
 use Rattle.tree.specs.Sum.{sum_to}
-use Rattle.tree.proofs.Sums.{sum_none}
 use Rattle.sound.specs.Steps.{seen_at, most_to, four_over}
-use Rattle.sound.proofs.Places.{most_none, most_more, over_more}
 use Rattle.sound.proofs.queue.seen_in.Given as goal
 
 abbrev pub invariant-loop-k : goal.invariant-loop-k

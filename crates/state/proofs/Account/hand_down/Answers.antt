@@ -1,5 +1,5 @@
 -- `Account::hand_down` meets its contract.
-use Rattle.std.proofs.Common.{ℕ, ap, rules}
+use Rattle.std.proofs.Common.{ℕ, ap}
 use Rattle.state.specs.Account.{account}
 use Rattle.state.proofs.Account.hand_down.Goals as goal
 

@@ -1,5 +1,5 @@
 -- `Account::take_quota` meets its contract.
-use Rattle.std.proofs.Common.{ℕ, ◌+◌, ap, ◌∙◌, rules}
+use Rattle.std.proofs.Common.{ℕ, ◌+◌, ap, ◌∙◌}
 use Rattle.state.specs.Account.{account}
 use Rattle.state.proofs.Account.take_quota.Goals as goal
 

@@ -1,5 +1,5 @@
 -- `Account::take_size` meets its contract.
-use Rattle.std.proofs.Common.{◌≡◌, ℕ, ◌+◌, ◌-◌, ap, ◌∙◌, arith, rules}
+use Rattle.std.proofs.Common.{ℕ, ap, arith}
 use Rattle.state.specs.Account.{account}
 use Rattle.state.proofs.Account.take_size.Goals as goal
 

@@ -1,5 +1,5 @@
 -- `Link::fresh` meets its contract: the accounts are those of `no_account`, but the root's. Demand 2.
-use Rattle.std.proofs.Common.{◌≡◌, ℕ, ap, rules}
+use Rattle.std.proofs.Common.{◌≡◌, ℕ, ap}
 use Rattle.tree.specs.Size.{round_size}
 use Rattle.state.proofs.Link.fresh.Goals as goal
 

@@ -1,5 +1,4 @@
 -- `Link::none` meets its contract: every account is `no_account`, and the tree `no_tree`. Demand 2.
-use Rattle.std.proofs.Common.{rules}
 use Rattle.state.proofs.Link.none.Goals as goal
 
 pub returns : goal.returns

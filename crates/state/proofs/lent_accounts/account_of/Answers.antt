@@ -1,5 +1,5 @@
 -- `lent_accounts::account_of` meets its contract.
-use Rattle.std.proofs.Common.{sym, arith, rules}
+use Rattle.std.proofs.Common.{sym, arith}
 use Rattle.state.proofs.Zips.{zip_at}
 use Rattle.state.proofs.lent_accounts.account_of.Goals as goal
 

@@ -1,6 +1,5 @@
 -- `lent_accounts::keep` meets its contract.
 use Rattle.state.proofs.Zips.{zip_set}
-use Rattle.std.proofs.Common.{rules}
 use Rattle.state.proofs.lent_accounts.keep.Goals as goal
 
 pub returns : goal.returns

@@ -1,5 +1,5 @@
 -- `lent_accounts::keep_balance` meets its contract.
-use Rattle.std.proofs.Common.{ℕ, set, ap, ◌∙◌, rules}
+use Rattle.std.proofs.Common.{ℕ, set, ap, ◌∙◌}
 use Rattle.state.specs.Account.{account}
 use Rattle.state.specs.Account.{zip_accounts}
 use Rattle.state.proofs.Zips.{zip_set_first}

@@ -1,7 +1,5 @@
 -- `lent_accounts::numbers` meets its contract.
-use Rattle.std.proofs.Common.{◌≡◌, ℕ, ◌-◌, ◌≤◌, Bool, cond, List, ◌++◌, replicate, refl, ◌∙◌, append-nil, arith, rules}
-use Rattle.state.specs.declared.Account.{Account}
-use Rattle.state.specs.Account.{balance_of, residual_of}
+use Rattle.std.proofs.Common.{◌≡◌, refl, ◌∙◌, append-nil, arith}
 use Rattle.tree.specs.Sum.{table}
 use Rattle.tree.proofs.Tables.{table_none, table_fill}
 use Rattle.state.proofs.lent_accounts.numbers.Invariants.{balance_or_residual}

@@ -1,9 +1,8 @@
 -- `lent_accounts::numbers` meets its contract.
-use Rattle.std.proofs.Common.{◌≡◌, ℕ, ◌-◌, ◌≤◌, Bool, cond, List, ◌++◌, replicate, refl, ◌∙◌, append-nil, arith, rules}
+use Rattle.std.proofs.Common.{◌≡◌, ℕ, ◌-◌, ◌≤◌, Bool, cond, List, ◌++◌, replicate}
 use Rattle.state.specs.declared.Account.{Account}
 use Rattle.state.specs.Account.{balance_of, residual_of}
 use Rattle.tree.specs.Sum.{table}
-use Rattle.tree.proofs.Tables.{table_none, table_fill}
 use Rattle.state.proofs.lent_accounts.numbers.Given as goal
 
 abbrev pub balance_or_residual : Bool → List Account → ℕ → ℕ

@@ -1,5 +1,5 @@
 -- `lent_accounts::zipped` meets its contract.
-use Rattle.std.proofs.Common.{◌≡◌, ◌-◌, ◌≤◌, ◌++◌, replicate, refl, ◌∙◌, append-nil, arith, rules}
+use Rattle.std.proofs.Common.{◌≡◌, refl, ◌∙◌, append-nil, arith}
 use Rattle.state.specs.Account.{no_account, account_of}
 use Rattle.tree.specs.Sum.{table}
 use Rattle.tree.proofs.Tables.{table_none, table_fill}

@@ -1,10 +1,8 @@
 -- `lent_accounts::zipped` meets its contract.
-use Rattle.std.proofs.Common.{◌≡◌, ◌-◌, ◌≤◌, ◌++◌, replicate, refl, ◌∙◌, append-nil, arith, rules}
+use Rattle.std.proofs.Common.{◌≡◌, ◌-◌, ◌≤◌, ◌++◌, replicate}
 use Rattle.state.specs.Account.{no_account, account_of}
 use Rattle.tree.specs.Sum.{table}
-use Rattle.tree.proofs.Tables.{table_none, table_fill}
 use Rattle.state.specs.Account.{zip_accounts}
-use Rattle.shape.proofs.Read.{list_table}
 use Rattle.state.proofs.lent_accounts.zipped.Given as goal
 
 abbrev pub invariant-loop-i : goal.invariant-loop-i

@@ -1,5 +1,5 @@
 -- `queue::first` meets its contract: the first packet lies at the queue's start.
-use Rattle.std.proofs.Common.{sym, rules}
+use Rattle.std.proofs.Common.{sym}
 use Rattle.state.specs.Queue.{queued}
 use Rattle.state.proofs.Queues.{packet_first}
 use Rattle.state.proofs.queue.first.Goals as goal

@@ -1,5 +1,5 @@
 -- `queue::put` meets its contract.
-use Rattle.std.proofs.Common.{refl, rules}
+use Rattle.std.proofs.Common.{refl}
 use Rattle.state.proofs.queue.put.Goals as goal
 
 pub returns : goal.returns

@@ -4,9 +4,8 @@ use mathlib.Core.Path.{◌≡◌, refl, sym, ap, ap₂, ◌∙◌}
 use Prim.Native.Nat.{ℕ, ◌<◌}
 use native.Mathlib.Omega.{arith}
 use lib.ListN.{get_or}
-use borrow.Author.Tests.{not-true, not-false}
 use Rattle.checks.specs.declared.Verdict.{Verdict}
-use Rattle.checks.specs.declared.Verdict.TheVariants.{Passed, Refused}
+use Rattle.checks.specs.declared.Verdict.TheVariants.{Refused}
 use Rattle.checks.specs.Check.{first_broken}
 use Rattle.sets.specs.Set.{has}
 use Rattle.units.specs.Cost.{cost_of}
@@ -27,7 +26,6 @@ use Rattle.totals.specs.WorkedOut.{totals_for}
 use Rattle.totals.proofs.WorkingOut.{worked_out_own, leaf_not_inner}
 use Rattle.totals.proofs.Sounds.{counts_more, near_same}
 use Rattle.steps.specs.Arrivals.{lent_waiting, ArrivesOn}
-use borrow.Author.Rules.{rules}
 use Rattle.steps.proofs.arrival.arrive.Goals as goal
 use Rattle.steps.proofs.arrival.arrive.Goals.{After-judge-verdict}
 

@@ -6,12 +6,11 @@ use lib.Dec.{leb, ltb}
 use lib.ListN.{length}
 use borrow.Author.Tests.{le-leb, lt-leb}
 use Rattle.checks.proofs.Laws.{not_both}
-use Rattle.tree.specs.Class.{longest_of, is_leaf}
+use Rattle.tree.specs.Class.{longest_of}
 use Rattle.state.specs.declared.Packet.{Packet}
 use Rattle.state.specs.State.{State, queue_at}
 use Rattle.calls.specs.Arrival.{bad_length, full}
 use Rattle.calls.proofs.Arrivals.{length_number, full_number, no_number}
-use borrow.Author.Rules.{rules}
 use Rattle.steps.proofs.arrival.judge.Goals as goal
 
 -- what the numbers say is what the state says

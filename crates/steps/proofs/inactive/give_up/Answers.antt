@@ -4,7 +4,6 @@ use lib.ListN.{length-set}
 use Rattle.rules.proofs.Fitting.{funds_small, fit_set}
 use Rattle.steps.specs.Fields.{books_of}
 use Rattle.steps.proofs.Climbs.{given_by}
-use borrow.Author.Rules.{rules}
 use Rattle.steps.proofs.inactive.give_up.Goals as goal
 
 pub account_of-a-requires : goal.account_of-a-requires

@@ -1,7 +1,5 @@
 -- `inactive::has_active_child` meets its contract.
-use native.Mathlib.Omega.{arith}
 use Rattle.steps.proofs.Children.{child_left, no_child_left}
-use borrow.Author.Rules.{rules}
 use Rattle.steps.proofs.inactive.has_active_child.Goals as goal
 
 pub returns-then-both-eq0 : goal.returns-then-both-eq0

@@ -8,13 +8,10 @@ use Rattle.tree.specs.Class.{parent_of, is_class}
 use Rattle.shape.specs.Shape.{tree_in}
 use Rattle.tree.proofs.Rules.{parent_lower}
 use Rattle.rules.specs.Sending.{Books}
-use Rattle.rules.specs.Sending.{turns_off}
 use Rattle.rules.specs.Steps.{Fit}
 use Rattle.rules.proofs.Fitting.{fit_given}
-use Rattle.state.specs.Account.{zip_accounts}
 use Rattle.steps.specs.Fields.{books_of}
 use Rattle.steps.proofs.Climbs.{class_low, climb_stays, climb_root, climb_class, climb_up}
-use borrow.Author.Rules.{rules}
 use Rattle.steps.proofs.inactive.turn_off.Goals as goal
 use Rattle.steps.proofs.inactive.turn_off.Goals.{At-loop-leaf}
 

@@ -6,7 +6,6 @@ use Rattle.shape.specs.Shape.{tree_in}
 use Rattle.steps.specs.Fields.{lent_link, totals_for}
 use Rattle.steps.proofs.Goings.{goes_first, goes_takes, goes_pays, goes_counts}
 use Rattle.steps.proofs.Goings.{goes_off, goes_more, goes_last, goes_rules, goes_leaf}
-use borrow.Author.Rules.{rules}
 use Rattle.steps.proofs.leaf.goes.Goals as goal
 
 pub first-packet-requires : goal.first-packet-requires

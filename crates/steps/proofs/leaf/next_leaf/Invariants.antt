@@ -1,14 +1,10 @@
 -- `leaf::next_leaf` meets its contract.
-use mathlib.Core.Path.{◌≡◌, sym, ◌∙◌}
-use Prim.Native.Nat.{◌-◌, ◌≤◌, ◌<◌}
-use native.Mathlib.Omega.{arith}
+use mathlib.Core.Path.{◌≡◌}
+use Prim.Native.Nat.{◌-◌, ◌≤◌}
 use Rattle.state.specs.declared.Link.{Link}
 use Rattle.state.specs.State.{meaning}
 use Rattle.rules.specs.Sending.{ready, first_from, next_leaf}
-use Rattle.rules.proofs.Searching.{first_hit, first_end, first_pass}
 use Rattle.steps.specs.Fields.{Searched}
-use Rattle.steps.proofs.Seeks.{seek_starts, seek_skips, seek_ready}
-use borrow.Author.Rules.{rules}
 use Rattle.steps.proofs.leaf.next_leaf.Given as goal
 
 abbrev pub invariant-loop-leaves : goal.invariant-loop-leaves

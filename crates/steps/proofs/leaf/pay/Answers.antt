@@ -6,7 +6,6 @@ use lib.ListN.{length, get_or, set, length-set}
 use Rattle.rules.proofs.Fitting.{funds_small, fit_set}
 use Rattle.state.specs.Account.{zip_accounts}
 use Rattle.state.proofs.Zips.{zip_residual}
-use borrow.Author.Rules.{rules}
 use Rattle.steps.proofs.leaf.pay.Goals as goal
 use Rattle.steps.proofs.leaf.pay.Goals.{After-gain, After-keep_balance}
 

@@ -1,5 +1,5 @@
 -- `once::arrive` meets its contract.
-use mathlib.Core.Bool.{true, false}
+use mathlib.Core.Bool.{false}
 use mathlib.Core.Path.{◌≡◌, sym, ap, subst, ◌∙◌}
 use Rattle.shape.specs.Shape.{tree_in}
 use Rattle.state.specs.declared.Link.{Link}
@@ -8,7 +8,6 @@ use Rattle.calls.specs.Arrival.{arrival_of}
 use Rattle.totals.specs.WorkedOut.{totals_for}
 use Rattle.totals.proofs.Sounds.{total_is, light_near}
 use Rattle.steps.specs.Arrivals.{lent_waiting, TakesOn}
-use borrow.Author.Rules.{rules}
 use Rattle.steps.proofs.once.arrive.Goals as goal
 
 pub arrive-answer-requires : goal.arrive-answer-requires

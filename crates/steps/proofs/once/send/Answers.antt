@@ -9,7 +9,6 @@ use Rattle.totals.proofs.Sounds.{sound_total, total_is, light_near}
 use Rattle.steps.specs.declared.Went.{Went}
 use Rattle.steps.specs.Fields.{lent_link, link_at}
 use Rattle.steps.specs.Rounds.{InFields, Departs}
-use borrow.Author.Rules.{rules}
 use Rattle.steps.proofs.once.send.Goals as goal
 use Rattle.steps.proofs.once.send.Goals.{After-lent_64-wide}
 

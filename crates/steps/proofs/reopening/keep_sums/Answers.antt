@@ -1,11 +1,9 @@
 -- `reopening::keep_sums` meets its contract.
-use mathlib.Core.Bool.{true}
 use mathlib.Core.Path.{◌≡◌, sym, ap, subst, ◌∙◌}
 use Prim.Native.Nat.{ℕ}
 use Rattle.sets.specs.Set.{has}
 use Rattle.shape.specs.Shape.{tree_in}
 use Rattle.active.specs.Known.{Summed}
-use borrow.Author.Rules.{rules}
 use Rattle.steps.proofs.reopening.keep_sums.Goals as goal
 
 pub refresh-requires : goal.refresh-requires

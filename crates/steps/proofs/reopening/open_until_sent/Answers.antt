@@ -1,12 +1,10 @@
 -- `reopening::open_until_sent` meets its contract: a leaf is found after at most two rounds.
 use mathlib.Core.Path.{refl, subst}
-use Prim.Native.Nat.{ℕ, ◌-◌}
+use Prim.Native.Nat.{ℕ}
 use native.Mathlib.Omega.{arith}
 use Rattle.sets.specs.Set.{Both}
 use Rattle.shape.specs.Shape.{tree_in}
-use Rattle.steps.specs.Rounds.{Unseen, Opens, closed_link}
-use Rattle.steps.proofs.Rounding.{fields_low, fields_searched, UnderWay, under_starts, under_can, under_fields, under_finds, under_on}
-use borrow.Author.Rules.{rules}
+use Rattle.steps.proofs.Rounding.{fields_low, fields_searched, under_starts, under_can, under_fields, under_finds, under_on}
 use Rattle.steps.proofs.reopening.open_until_sent.Goals as goal
 use Rattle.steps.proofs.reopening.open_until_sent.Goals.{After-both-leaves}
 

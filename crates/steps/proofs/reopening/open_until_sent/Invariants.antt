@@ -1,12 +1,8 @@
 -- `reopening::open_until_sent` meets its contract: a leaf is found after at most two rounds.
-use mathlib.Core.Path.{refl, subst}
-use Prim.Native.Nat.{ℕ, ◌-◌}
-use native.Mathlib.Omega.{arith}
-use Rattle.sets.specs.Set.{Both}
+use Prim.Native.Nat.{◌-◌}
 use Rattle.shape.specs.Shape.{tree_in}
 use Rattle.steps.specs.Rounds.{Unseen, Opens, closed_link}
-use Rattle.steps.proofs.Rounding.{fields_low, fields_searched, UnderWay, under_starts, under_can, under_fields, under_finds, under_on}
-use borrow.Author.Rules.{rules}
+use Rattle.steps.proofs.Rounding.{UnderWay}
 use Rattle.steps.proofs.reopening.open_until_sent.Given as goal
 
 abbrev pub invariant-loop-in_force : goal.invariant-loop-in_force

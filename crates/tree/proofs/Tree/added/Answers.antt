@@ -1,5 +1,4 @@
 -- `tree::Tree::added` meets its contract.
-use borrow.Author.Rules.{rules}
 use Rattle.tree.proofs.Tree.added.Goals as goal
 
 pub returns : goal.returns

@@ -1,6 +1,6 @@
 -- `after_end::closing_fault` meets its contract: number 8, then number 7.
 use mathlib.Core.Path.{refl, ◌∙◌}
-use borrow.Author.Tests.{lt-ltb, le-ltb, not-true, not-false}
+use borrow.Author.Tests.{lt-ltb, le-ltb}
 use Rattle.checks.specs.Check.{first_broken}
 use Rattle.tree.specs.Class.{is_inner}
 use Rattle.tree.specs.Rules.{too_heavy, childless}

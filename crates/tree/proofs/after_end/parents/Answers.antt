@@ -1,14 +1,11 @@
 -- `after_end::parents` meets its contract.
 use mathlib.Core.Bool.{Bool, ◌||◌}
 use mathlib.Core.Path.{◌≡◌, sym, ap, ◌∙◌}
-use Prim.Native.Nat.{ℕ, ◌+◌, ◌-◌, ◌≤◌, ◌<◌}
+use Prim.Native.Nat.{◌-◌}
 use native.Mathlib.Omega.{arith}
-use Rattle.sets.specs.Set.{has}
 use Rattle.sets.proofs.Laws.{has_empty}
 use Rattle.tree.specs.Class.{is_child, has_child}
-use Rattle.tree.specs.Sum.{some_to}
 use Rattle.tree.proofs.Sums.{some_none, some_step}
-use borrow.Author.Rules.{rules}
 use Rattle.tree.proofs.after_end.parents.Goals as goal
 
 pub loop-child-init : goal.loop-child-init

@@ -1,14 +1,9 @@
 -- `after_end::parents` meets its contract.
-use mathlib.Core.Bool.{Bool, ◌||◌}
-use mathlib.Core.Path.{◌≡◌, sym, ap, ◌∙◌}
+use mathlib.Core.Path.{◌≡◌}
 use Prim.Native.Nat.{ℕ, ◌+◌, ◌-◌, ◌≤◌, ◌<◌}
-use native.Mathlib.Omega.{arith}
 use Rattle.sets.specs.Set.{has}
-use Rattle.sets.proofs.Laws.{has_empty}
-use Rattle.tree.specs.Class.{is_child, has_child}
+use Rattle.tree.specs.Class.{is_child}
 use Rattle.tree.specs.Sum.{some_to}
-use Rattle.tree.proofs.Sums.{some_none, some_step}
-use borrow.Author.Rules.{rules}
 use Rattle.tree.proofs.after_end.parents.Given as goal
 
 abbrev pub invariant-loop-child : goal.invariant-loop-child

@@ -8,7 +8,6 @@ use lib.Dec.{eqb}
 use borrow.Author.Tests.{eq-eqb, ne_eqb}
 use Rattle.sets.specs.Set.{has, with}
 use Rattle.sets.proofs.Laws.{has_with_same, has_with_other}
-use borrow.Author.Rules.{rules}
 use Rattle.tree.proofs.after_end.with_parent.Goals as goal
 
 -- what is in a set with class i put in

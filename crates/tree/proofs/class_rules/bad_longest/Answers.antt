@@ -1,6 +1,6 @@
 -- `class_rules::bad_longest` meets its contract.
 use mathlib.Core.Path.{refl, ◌∙◌}
-use borrow.Author.Tests.{lt-ltb, le-ltb, not-true, not-false}
+use borrow.Author.Tests.{lt-ltb, le-ltb}
 use Rattle.tree.specs.Rules.{bad_longest}
 use Rattle.tree.proofs.class_rules.bad_longest.Goals as goal
 

@@ -1,6 +1,5 @@
 -- `class_rules::bad_parent` meets its contract.
 use native.Mathlib.Omega.{arith}
-use borrow.Author.Rules.{rules}
 use borrow.Author.Tests.{le-leb, lt-leb}
 use Rattle.tree.specs.Class.{is_leaf}
 use Rattle.tree.specs.Rules.{bad_parent}

@@ -3,7 +3,6 @@ use mathlib.Core.Path.{◌≡◌, refl, sym, ◌∙◌}
 use Rattle.checks.proofs.Laws.{decides, pass_over, none_broken}
 use Rattle.tree.specs.Class.{is_leaf}
 use Rattle.tree.specs.Rules.{bad_parent, bad_weight, bad_longest}
-use borrow.Author.Rules.{rules}
 use Rattle.tree.proofs.class_rules.class_fault.Goals as goal
 use Rattle.tree.proofs.class_rules.class_fault.Goals.{After-bad_longest-longest}
 
