@@ -116,8 +116,8 @@ CB_ASSERT(sizeof(cb_offered) == 32 && sizeof(cb_silence) == 32, "four numbers");
 CB_ASSERT(sizeof(unsigned char) == 1 && sizeof(void *) <= 8, "a machine that the archive can be compiled for");
 
 /* ---- What the archive defines. A length or a class number has 64 bits on every machine. Call those with `_fields` through the functions
-   below, which hand over each array of a cb_link; the others as they are. Some work on copies and take tens of kilobytes of stack (cb_open,
-   cb_offer, cb_why, cb_write), the others a few: `bin/speed box` tells it for your machine. */
+   below, which hand over each array of a cb_link; the others as they are. Some work on copies and take tens of kilobytes of stack (cb_open
+   a hundred, cb_offer, cb_rates), the others a few: `bin/speed box` tells it for your machine. */
 
 uint64_t cb_version(void);
 uint64_t cb_link_bytes(void);
