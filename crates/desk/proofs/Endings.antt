@@ -1,6 +1,6 @@
 -- A run by parts ends with the step with which it ends event by event (R220).
 use mathlib.Core.Bool.{Bool, true, false, cond}
-use mathlib.Core.List.{List, []}
+use mathlib.Core.List.{List}
 use mathlib.Core.Path.{◌≡◌, refl, sym, ap, ap₂, ◌∙◌}
 use Prim.Native.Nat.{ℕ, zero, suc, ◌+◌, ◌≤◌, ◌<◌}
 use native.Mathlib.Omega.{arith}
@@ -17,7 +17,7 @@ use Rattle.run.specs.Event.{event_gives, step_of}
 use Rattle.run.specs.Run.{program_begins}
 use Rattle.run.proofs.Lines.{step_on, first_sound}
 use Rattle.parts.specs.declared.PartRun.{PartRun}
-use Rattle.parts.specs.Part.{Partway, onward, takes_one, part_of, counted, Parts}
+use Rattle.parts.specs.Part.{Partway, part_of, counted, Parts}
 use Rattle.parts.proofs.Parts.{starts, takes_keep}
 use Rattle.desk.specs.Ending.{end_in, run_end}
 

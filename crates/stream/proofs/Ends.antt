@@ -14,7 +14,7 @@ use Rattle.lines.specs.Line.{bytes_of, line_room}
 use Rattle.run.specs.Event.{last_line, event_gives, step_of}
 use Rattle.run.proofs.Lines.{step_on}
 use Rattle.parts.specs.declared.PartRun.{PartRun}
-use Rattle.parts.specs.Part.{Partway, onward, takes_one, part_of, counted, Parts}
+use Rattle.parts.specs.Part.{Partway, onward, takes_one, part_of, Parts}
 use Rattle.parts.proofs.Parts.{starts, takes_keep, part_first, parts_on, part_one_answer}
 use Rattle.stream.specs.Window.{last_bytes, unended, InWindow}
 

@@ -1,23 +1,18 @@
 -- An event that stands whole at the front of some bytes is the same with more bytes after them, and so is an unknown kind; only where there
 -- is no byte, or a record is cut, more bytes change what is read (R244). Demand 1.
-use mathlib.Core.Bool.{Bool, true, false, not}
+use mathlib.Core.Bool.{Bool, true, false}
 use mathlib.Core.List.{List, ◌++◌}
 use mathlib.Core.Path.{◌≡◌, refl, sym, ap, ◌∙◌}
-use Prim.Native.Nat.{ℕ, ◌+◌, ◌≤◌}
-use native.Mathlib.Omega.{arith}
-use lib.ListN.{length, take, drop, length-append, length-drop, get_or-append}
-use lib.Seq.{take-append-le, drop-append-le}
-use borrow.Author.Tests.{le-ltb, ne_eqb}
+use Prim.Native.Nat.{ℕ, ◌≤◌}
+use lib.ListN.{length}
 use Rattle.checks.proofs.Laws.{not_true_and_false}
 use Rattle.plan.specs.declared.EventRead.{EventRead}
 use Rattle.plan.specs.declared.EventRead.TheVariants.{NoMore, Arrive, SendNext, Fault}
-use Rattle.plan.specs.declared.kind.RecordKind.{RecordKind}
-use Rattle.plan.specs.declared.kind.Section.{Section}
 use Rattle.plan.specs.declared.kind.Section.TheVariants.{Events}
-use Rattle.plan.specs.Kind.{record_kind, stands_in, gives_arrival}
-use Rattle.plan.specs.Record.{kind_at, missing, unknown, cut, body_of}
+use Rattle.plan.specs.Kind.{gives_arrival}
+use Rattle.plan.specs.Record.{kind_at, missing, unknown, cut}
 use Rattle.plan.specs.Event.{arrived_of, event_of, event_at}
-use Rattle.plan.proofs.Records.{whole_length, there_length}
+use Rattle.plan.proofs.Records.{there_length}
 use Rattle.plan.proofs.Longer.{same_kind, same_there, same_unknown, same_cut, same_body}
 use Rattle.plan.proofs.EventLaws.{event_end, event_unknown, event_cut, event_whole, event_arrival, event_send}
 use Rattle.stream.specs.Window.{waits_for_more, unfinished_at}

@@ -1,6 +1,6 @@
 -- However its input is cut into windows, a run's lines are the windows' texts and the last line (R246, R247). Demands 1 and 2.
 use mathlib.Core.Bool.{Bool, true, false, cond}
-use mathlib.Core.List.{List, [], ◌∷◌, ◌++◌, append_assoc, append-nil}
+use mathlib.Core.List.{List, [], ◌++◌, append_assoc, append-nil}
 use mathlib.Core.Path.{◌≡◌, refl, sym, ap, ap₂, subst, ◌∙◌}
 use Prim.Native.Nat.{ℕ, suc, ◌+◌, ◌-◌, ◌≤◌}
 use native.Mathlib.Omega.{arith}
@@ -8,7 +8,6 @@ use lib.ListN.{length, take, drop, length-append, length-drop}
 use lib.Seq.{take_at, take-take, drop-append-le, drop-drop}
 use Rattle.checks.proofs.Laws.{not_true_and_false}
 use Rattle.tree.proofs.Classes.{both_true}
-use Rattle.plan.specs.declared.Arrived.{Arrived}
 use Rattle.plan.specs.declared.EventRead.{EventRead}
 use Rattle.plan.specs.declared.EventRead.TheVariants.{NoMore, Arrive, SendNext, Fault}
 use Rattle.plan.specs.Event.{event_at}
@@ -23,9 +22,9 @@ use Rattle.run.specs.Run.{begin_of, lines_of}
 use Rattle.run.proofs.Events.{used_fits}
 use Rattle.run.proofs.Lines.{lines_from, following, lines_next, lines_begin, begin_sound}
 use Rattle.parts.specs.declared.PartRun.{PartRun}
-use Rattle.parts.specs.Part.{Partway, onward, takes_one, part_of, counted, Parts, printed}
+use Rattle.parts.specs.Part.{Partway, onward, takes_one, part_of, counted, printed}
 use Rattle.parts.proofs.Parts.{starts, takes_keep, part_first, part_is, part_text, text_more, text_none}
-use Rattle.stream.specs.Window.{last_bytes, unended, InWindow, unfinished_at, WindowOn, window_text, StreamOn, last_at, streamed_by}
+use Rattle.stream.specs.Window.{unended, InWindow, WindowOn, window_text, StreamOn, streamed_by}
 use Rattle.stream.specs.Window.WindowOn.{last, then}
 use Rattle.stream.specs.Window.StreamOn.{whole, ends, next}
 use Rattle.stream.proofs.Ends.{window_inside}

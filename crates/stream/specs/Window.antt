@@ -1,6 +1,6 @@
 -- A run whose input is read window by window (R243 to R248): what a part of it gives in a window, and the windows one after the other until
 -- the run ends. Put together, their texts are the run's lines: proofs/Windows. Demands 1 and 2.
-use Rattle.std.specs.Prelude.{Bool, true, false, cond, List, [], ◌++◌, ◌≡◌, ℕ, ◌+◌, ◌-◌, ◌≤◌, eqb, length, take, drop}
+use Rattle.std.specs.Prelude.{Bool, true, false, cond, List, ◌++◌, ◌≡◌, ℕ, ◌+◌, ◌-◌, ◌≤◌, eqb, length, take, drop}
 use Rattle.plan.specs.declared.EventRead.{EventRead}
 use Rattle.plan.specs.declared.EventRead.TheVariants.{NoMore, Arrive, SendNext, Fault}
 use Rattle.plan.specs.Event.{event_at}

@@ -2,7 +2,6 @@
 use mathlib.Core.Path.{◌∙◌}
 use borrow.Author.Tests.{not-true, not-false}
 use Rattle.desk.proofs.Endings.{ends_first, ends_later, later_sound}
-use borrow.Author.Rules.{rules}
 use Rattle.desk.proofs.last_step.Goals as goal
 
 pub returns-then-not-step : goal.returns-then-not-step

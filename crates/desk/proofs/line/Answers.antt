@@ -1,6 +1,5 @@
 -- `desk::line` meets its contract: the line of what `reasons::why` answers.
 use mathlib.Core.Path.{sym, ap, ◌∙◌}
-use borrow.Author.Rules.{rules}
 use Rattle.desk.specs.Told.{silence_line}
 use Rattle.desk.proofs.line.Goals as goal
 

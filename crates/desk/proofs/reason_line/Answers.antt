@@ -1,6 +1,5 @@
 -- `desk::reason_line` meets its contract: a line for each reason.
 use mathlib.Core.Path.{sym, ap}
-use borrow.Author.Rules.{rules}
 use Rattle.desk.specs.Told.{reason_line}
 use Rattle.desk.proofs.reason_line.Goals as goal
 

@@ -1,16 +1,13 @@
 -- `desk::run_on` meets its contract: each part moves on through the input, and the run ends as it would have from its start.
-use mathlib.Core.Path.{◌≡◌, refl, sym, ap, ◌∙◌}
+use mathlib.Core.Path.{sym, ap, ◌∙◌}
 use mathlib.Core.Bool.{Bool, true}
 use Prim.Native.Nat.{ℕ}
 use native.Mathlib.Omega.{arith}
-use lib.ListN.{length, length-replicate}
-use borrow.Author.Tests.{not-true}
+use lib.ListN.{length-replicate}
 use Rattle.checks.proofs.Laws.{exactly_yes}
-use Rattle.sound.specs.Sound.{SoundLink}
-use Rattle.run.proofs.Lines.{steps_left, steps_less, next_as}
+use Rattle.run.proofs.Lines.{steps_less, next_as}
 use Rattle.parts.proofs.Parts.{parts_on}
-use Rattle.desk.proofs.Endings.{end_from, ended, end_from_lem, goes_on_lem, has_ended, parts_end}
-use borrow.Author.Rules.{rules}
+use Rattle.desk.proofs.Endings.{ended, end_from_lem, goes_on_lem, has_ended, parts_end}
 use Rattle.desk.proofs.run_on.Goals as goal
 
 pub loop-part-init : goal.loop-part-init

@@ -1,16 +1,9 @@
 -- `desk::run_on` meets its contract: each part moves on through the input, and the run ends as it would have from its start.
-use mathlib.Core.Path.{◌≡◌, refl, sym, ap, ◌∙◌}
-use mathlib.Core.Bool.{Bool, true}
-use Prim.Native.Nat.{ℕ}
-use native.Mathlib.Omega.{arith}
-use lib.ListN.{length, length-replicate}
-use borrow.Author.Tests.{not-true}
-use Rattle.checks.proofs.Laws.{exactly_yes}
+use mathlib.Core.Path.{◌≡◌}
+use lib.ListN.{length}
 use Rattle.sound.specs.Sound.{SoundLink}
-use Rattle.run.proofs.Lines.{steps_left, steps_less, next_as}
-use Rattle.parts.proofs.Parts.{parts_on}
-use Rattle.desk.proofs.Endings.{end_from, ended, end_from_lem, goes_on_lem, has_ended, parts_end}
-use borrow.Author.Rules.{rules}
+use Rattle.run.proofs.Lines.{steps_left}
+use Rattle.desk.proofs.Endings.{end_from, ended}
 use Rattle.desk.proofs.run_on.Given as goal
 
 abbrev pub invariant-loop-part : goal.invariant-loop-part

@@ -1,5 +1,5 @@
 -- `parts_speed::speed_run` meets its contract: what the parts lay from the start is what is left to lay from here.
-use Rattle.std.proofs.Common.{◌≡◌, ℕ, suc, ◌+◌, ◌-◌, ◌≤◌, true, length, sym, refl, ap, ◌∙◌, subst, arith, rules}
+use Rattle.std.proofs.Common.{◌≡◌, ℕ, suc, ◌+◌, ◌-◌, sym, refl, ap, ◌∙◌, subst, arith, rules}
 use borrow.Author.Tests.{not-true, not-false}
 use Rattle.sound.specs.Sound.{SoundLink}
 use Rattle.run.specs.declared.Step.{Step}

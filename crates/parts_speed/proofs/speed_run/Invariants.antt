@@ -1,12 +1,8 @@
 -- `parts_speed::speed_run` meets its contract: what the parts lay from the start is what is left to lay from here.
-use Rattle.std.proofs.Common.{◌≡◌, ℕ, suc, ◌+◌, ◌-◌, ◌≤◌, true, length, sym, refl, ap, ◌∙◌, subst, arith, rules}
-use borrow.Author.Tests.{not-true, not-false}
+use Rattle.std.proofs.Common.{◌≡◌, ◌-◌, ◌≤◌, true, length}
 use Rattle.sound.specs.Sound.{SoundLink}
-use Rattle.run.specs.declared.Step.{Step}
-use Rattle.run.specs.Run.{begin_of}
-use Rattle.run.proofs.Lines.{begin_sound}
-use Rattle.parts_speed.specs.Laid.{Laid, laid_on, laid_in}
-use Rattle.parts_speed.proofs.Steps.{laid_by, laid_end, laid_none, laid_on_lem}
+use Rattle.parts_speed.specs.Laid.{laid_on}
+use Rattle.parts_speed.proofs.Steps.{laid_by}
 use Rattle.parts_speed.proofs.speed_run.Given as goal
 
 abbrev pub invariant-loop-n : goal.invariant-loop-n

@@ -1,5 +1,5 @@
 -- `speed::after_arrival` meets its contract.
-use Rattle.std.proofs.Common.{refl, rules}
+use Rattle.std.proofs.Common.{refl}
 use Rattle.speed.proofs.after_arrival.Goals as goal
 
 pub returns-in-Passed : goal.returns-in-Passed

@@ -1,9 +1,9 @@
 -- `speed::by_value` meets its contract: what is left from here is what was to do from the start.
-use Rattle.std.proofs.Common.{◌<◌, sym, refl, subst, rules}
+use Rattle.std.proofs.Common.{◌<◌, sym, refl, subst}
 use Rattle.calls.specs.Run.{arrival, send, made}
 use Rattle.speed.specs.declared.TimedEvent.{TimedEvent}
 use Rattle.speed.specs.Timed.{calls_left}
-use Rattle.speed.proofs.Served.{Served, served_starts, served_on, served_tally, served_link, timed_less}
+use Rattle.speed.proofs.Served.{served_starts, served_on, served_tally, served_link, timed_less}
 use Rattle.speed.proofs.by_value.Goals as goal
 
 pub loop-event-init : goal.loop-event-init

@@ -1,5 +1,5 @@
 -- `speed::event_at` meets its contract: it is the event at the place, where one is asked for.
-use Rattle.std.proofs.Common.{◌≡◌, ℕ, suc, ◌+◌, ◌-◌, true, List, length, drop, sym, refl, ap, ◌∙◌, arith, rules}
+use Rattle.std.proofs.Common.{◌≡◌, ℕ, suc, ◌+◌, ◌-◌, true, List, length, drop, sym, refl, ap, ◌∙◌, arith}
 use Rattle.plan.specs.declared.EventRead.{EventRead}
 use Rattle.plan.specs.declared.EventRead.TheVariants.{NoMore, Arrive, SendNext, Fault}
 use Rattle.plan.specs.Event.{used_of, event_at}
@@ -34,7 +34,7 @@ overflow_add-after c =
     let a = c.args in
     let e = c.events_after-rest in
     let f = used_fits a.input.now a.place c.read_event-read.result (read_is (goal.at.overflow_add-after c).After-read_event-read _ refl) in
-    omega (arith, c.used.ensures.0, f, ap length e.ensures.0, e.ensures.1)
+    omega (arith, c.used.ensures.0, f, ap length e.ensures.result_value, e.ensures.result_bound)
 
 -- the place after it
 moves_on : (u : After-used) {e : EventRead} → u.read_event-read.result ≡ e → u.used.result ≡ used_of e
@@ -58,5 +58,5 @@ returns-in-SendNext c =
 
 pub returns-in-Fault : goal.returns-in-Fault
 returns-in-Fault c =
-    let told = c.enum_told-in-Fault-1.given in
-    c.plain-in-Fault.ensures ∙ asked_is (goal.at.returns-in-Fault c).After-read_event-read (Fault told.0.0 told.0.1.0) told.1
+    c.plain-in-Fault.ensures
+    ∙ asked_is (goal.at.returns-in-Fault c).After-read_event-read (Fault c.in-Fault.field-0 c.in-Fault.field-1) c.in-Fault.is

@@ -1,5 +1,5 @@
 -- `speed::first_events` meets its contract.
-use Rattle.std.proofs.Common.{sym, ap, ◌∙◌, rules}
+use Rattle.std.proofs.Common.{sym, ap, ◌∙◌}
 use Rattle.calls.specs.Run.{last_link}
 use Rattle.run.specs.declared.Step.{Step}
 use Rattle.speed.specs.Timed.{timed_run, tally_of}

@@ -1,5 +1,5 @@
 -- `speed::found_so` meets its contract.
-use Rattle.std.proofs.Common.{refl, rules}
+use Rattle.std.proofs.Common.{refl}
 use Rattle.speed.proofs.found_so.Goals as goal
 
 pub returns-then-sound : goal.returns-then-sound

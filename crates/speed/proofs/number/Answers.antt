@@ -1,5 +1,5 @@
 -- `speed::number` meets its contract: sums that wrap are one sum that wraps.
-use Rattle.std.proofs.Common.{◌≡◌, ℕ, ◌+◌, ◌%◌, ◌^◌, refl, arith, rules}
+use Rattle.std.proofs.Common.{◌≡◌, ℕ, ◌+◌, ◌%◌, ◌^◌, refl, arith}
 use Rattle.speed.proofs.number.Goals as goal
 
 -- a number and one more, each of them wrapped or not
@@ -12,8 +12,8 @@ wraps_last s b x y e f = omega (arith, e, f)
 pub returns-in-Passed : goal.returns-in-Passed
 returns-in-Passed c =
     rw c.in-Passed.is
-    (wraps_last _ _ _ _ (wraps _ _ _ _ (wraps _ _ _ _ refl c.wrapping_add_u64-packet.ensures) c.wrapping_add_u64.ensures)
-    c.wrapping_add_u64-in-Passed.ensures)
+    (wraps_last _ _ _ _ (wraps _ _ _ _ (wraps _ _ _ _ refl c.wrapping_add_u64-packet.ensures.value) c.wrapping_add_u64.ensures.value)
+    c.wrapping_add_u64-in-Passed.ensures.value)
 
 pub returns-in-Refused : goal.returns-in-Refused
 returns-in-Refused c = rw c.in-Refused.is refl

@@ -1,8 +1,6 @@
 -- `speed::sound_times` meets its contract: the link with other tags is as sound as the first.
-use Rattle.std.proofs.Common.{◌≡◌, ℕ, ◌+◌, ◌-◌, ◌≤◌, Bool, true, false, cond, refl, ap, ◌∙◌, arith, rules}
-use Rattle.checks.specs.Check.{Exactly}
+use Rattle.std.proofs.Common.{◌≡◌, ℕ, ◌+◌, ◌≤◌, Bool, true, false, cond, refl, ap, ◌∙◌, arith}
 use Rattle.checks.proofs.Laws.{exactly_unique}
-use Rattle.sound.specs.Sound.{SoundLink}
 use Rattle.speed.proofs.Served.{tags_exactly, found_more}
 use Rattle.speed.proofs.sound_times.Goals as goal
 

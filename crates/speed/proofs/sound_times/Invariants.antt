@@ -1,9 +1,7 @@
 -- `speed::sound_times` meets its contract: the link with other tags is as sound as the first.
-use Rattle.std.proofs.Common.{◌≡◌, ℕ, ◌+◌, ◌-◌, ◌≤◌, Bool, true, false, cond, refl, ap, ◌∙◌, arith, rules}
+use Rattle.std.proofs.Common.{◌≡◌, ◌-◌, ◌≤◌, Bool, cond}
 use Rattle.checks.specs.Check.{Exactly}
-use Rattle.checks.proofs.Laws.{exactly_unique}
 use Rattle.sound.specs.Sound.{SoundLink}
-use Rattle.speed.proofs.Served.{tags_exactly, found_more}
 use Rattle.speed.proofs.sound_times.Given as goal
 
 abbrev pub invariant-loop-n : goal.invariant-loop-n

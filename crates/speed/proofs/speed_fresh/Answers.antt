@@ -1,5 +1,5 @@
 -- `speed::speed_fresh` meets its contract: every waiting place of a fresh link has length 0.
-use Rattle.std.proofs.Common.{◌≡◌, ℕ, ◌+◌, ◌%◌, ◌^◌, ◌≤◌, Bool, true, List, get_or, replicate, sym, ap, ◌∙◌, arith, rules}
+use Rattle.std.proofs.Common.{◌≡◌, ℕ, ◌+◌, ◌%◌, ◌^◌, ◌≤◌, Bool, true, List, get_or, replicate, sym, ap, ◌∙◌, arith}
 use lib.ListN.{get_or-replicate}
 use Rattle.checks.specs.declared.Verdict.{Verdict}
 use Rattle.checks.specs.declared.Verdict.TheVariants.{Passed}
@@ -37,5 +37,5 @@ returns c =
     let at = c.args.at in
     let none : get_or c.fresh-made.result.link.lengths (at % 2_048) 0 ≡ 0 =
     ap (λ (xs : List ℕ). get_or xs (at % 2_048) 0) free ∙ get_or-replicate {A = ℕ} 2_048 (at % 2_048) 0 0 (omega arith) in
-    summed c.wrapping_add_u64.ensures size (c.wide.ensures ∙ none) (size_ceiling _ rules)
+    summed c.wrapping_add_u64.ensures.value size (c.wide.ensures ∙ none) (size_ceiling _ rules)
     ∙ size_by _ read Passed c.read_plan-read.ensures c.in_default.is

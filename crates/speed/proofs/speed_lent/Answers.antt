@@ -1,5 +1,4 @@
 -- `speed::speed_lent` meets its contract.
-use Rattle.std.proofs.Common.{rules}
 use borrow.Author.Tests.{not-true, not-false}
 use Rattle.speed.proofs.Served.{text_none, text_part}
 use Rattle.speed.proofs.speed_lent.Goals as goal

@@ -1,5 +1,5 @@
 -- `speed::speed_plan` meets its contract.
-use Rattle.std.proofs.Common.{ap, rules}
+use Rattle.std.proofs.Common.{ap}
 use Rattle.plan.specs.declared.PlanRead.{PlanRead}
 use Rattle.speed.proofs.speed_plan.Goals as goal
 

@@ -1,5 +1,5 @@
 -- `speed::speed_sound` meets its contract.
-use Rattle.std.proofs.Common.{subst, rules}
+use Rattle.std.proofs.Common.{subst}
 use Rattle.state.specs.declared.Link.{Link}
 use Rattle.speed.specs.Timed.{SoundTimes}
 use Rattle.speed.proofs.speed_sound.Goals as goal

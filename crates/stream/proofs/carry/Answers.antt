@@ -1,10 +1,9 @@
 -- `stream::carry` meets its contract: byte by byte from the front.
 use mathlib.Core.Path.{◌≡◌, refl, ap, ◌∙◌}
-use Prim.Native.Nat.{◌+◌, ◌-◌, ◌≤◌, ◌<◌}
+use Prim.Native.Nat.{◌+◌, ◌-◌, ◌<◌}
 use native.Mathlib.Omega.{arith}
 use lib.ListN.{length}
 use Rattle.stream.proofs.Carried.{carried, carried_length, carry_on}
-use borrow.Author.Rules.{rules}
 use Rattle.stream.proofs.carry.Goals as goal
 use Rattle.stream.proofs.carry.Goals.{After-slice_known-1}
 

@@ -1,10 +1,7 @@
 -- `stream::carry` meets its contract: byte by byte from the front.
-use mathlib.Core.Path.{◌≡◌, refl, ap, ◌∙◌}
-use Prim.Native.Nat.{◌+◌, ◌-◌, ◌≤◌, ◌<◌}
-use native.Mathlib.Omega.{arith}
-use lib.ListN.{length}
-use Rattle.stream.proofs.Carried.{carried, carried_length, carry_on}
-use borrow.Author.Rules.{rules}
+use mathlib.Core.Path.{◌≡◌}
+use Prim.Native.Nat.{◌-◌, ◌≤◌}
+use Rattle.stream.proofs.Carried.{carried}
 use Rattle.stream.proofs.carry.Given as goal
 
 abbrev pub invariant-loop-k : goal.invariant-loop-k

@@ -7,7 +7,6 @@ use Rattle.plan.specs.Event.{event_at}
 use Rattle.lines.specs.declared.Line.{Line}
 use Rattle.lines.specs.Line.{bytes_of}
 use Rattle.run.specs.Event.{last_line}
-use borrow.Author.Rules.{rules}
 use Rattle.stream.proofs.last_length.Goals as goal
 
 pub returns : goal.returns

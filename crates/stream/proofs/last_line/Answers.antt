@@ -1,8 +1,7 @@
 -- `stream::last_line` meets its contract.
-use mathlib.Core.Path.{◌≡◌, sym, ap, ◌∙◌}
+use mathlib.Core.Path.{sym, ap, ◌∙◌}
 use Rattle.plan.specs.declared.EventRead.{EventRead}
 use Rattle.run.specs.Event.{last_line}
-use borrow.Author.Rules.{rules}
 use Rattle.stream.proofs.last_line.Goals as goal
 
 pub returns-in-NoMore : goal.returns-in-NoMore

@@ -2,7 +2,6 @@
 use native.Mathlib.Omega.{arith}
 use Rattle.lines.proofs.Laying.{counts}
 use Rattle.stream.proofs.Ends.{last_laid, unended_more, unended_last}
-use borrow.Author.Rules.{rules}
 use Rattle.stream.proofs.part.Goals as goal
 
 pub returns-then-part : goal.returns-then-part

@@ -1,7 +1,6 @@
 -- `stream::unfinished` meets its contract.
-use mathlib.Core.Path.{◌≡◌, sym, ap, ◌∙◌}
+use mathlib.Core.Path.{sym, ap, ◌∙◌}
 use Rattle.stream.specs.Window.{waits_for_more, unfinished_at}
-use borrow.Author.Rules.{rules}
 use Rattle.stream.proofs.unfinished.Goals as goal
 
 pub returns-in-NoMore : goal.returns-in-NoMore

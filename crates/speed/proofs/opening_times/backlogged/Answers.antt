@@ -1,6 +1,5 @@
 -- `speed::opening::backlogged` meets its contract.
-use Rattle.std.proofs.Common.{◌≡◌, ℕ, ◌-◌, ◌≤◌, ap, ◌∙◌, arith, rules}
-use Rattle.sound.specs.Sound.{SoundLink}
+use Rattle.std.proofs.Common.{◌≡◌, ℕ, ap, ◌∙◌, arith}
 use Rattle.speed.specs.Openings.{offered_to}
 use Rattle.speed.proofs.Steps.{offered_none, offered_more}
 use Rattle.speed.proofs.opening_times.backlogged.Goals as goal

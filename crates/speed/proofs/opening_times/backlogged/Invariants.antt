@@ -1,8 +1,7 @@
 -- `speed::opening::backlogged` meets its contract.
-use Rattle.std.proofs.Common.{◌≡◌, ℕ, ◌-◌, ◌≤◌, ap, ◌∙◌, arith, rules}
+use Rattle.std.proofs.Common.{◌≡◌, ◌-◌, ◌≤◌}
 use Rattle.sound.specs.Sound.{SoundLink}
 use Rattle.speed.specs.Openings.{offered_to}
-use Rattle.speed.proofs.Steps.{offered_none, offered_more}
 use Rattle.speed.proofs.opening_times.backlogged.Given as goal
 
 abbrev pub invariant-loop-i : goal.invariant-loop-i

@@ -1,11 +1,11 @@
 -- `speed::opening::open_times` meets its contract.
-use Rattle.std.proofs.Common.{◌≡◌, ℕ, ◌-◌, ◌≤◌, false, length, sym, refl, ap, ◌∙◌, arith, rules}
+use Rattle.std.proofs.Common.{◌≡◌, ℕ, false, sym, refl, ap, ◌∙◌, arith}
 use Rattle.tree.specs.declared.Tree.{Tree}
 use Rattle.shape.specs.Shape.{tree_in}
 use Rattle.state.proofs.Shapes.{shaped}
 use Rattle.steps.specs.Fields.{lent_link}
 use Rattle.speed.specs.Openings.{opened_times}
-use Rattle.speed.proofs.Steps.{Opened, opened_apart, opened_fields, opened_more}
+use Rattle.speed.proofs.Steps.{opened_apart, opened_fields, opened_more}
 use Rattle.speed.proofs.opening_times.open_times.Goals as goal
 use Rattle.speed.proofs.opening_times.open_times.Goals.{At-loop-n}
 

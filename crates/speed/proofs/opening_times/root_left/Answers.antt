@@ -1,5 +1,5 @@
 -- `speed::opening::root_left` meets its contract.
-use Rattle.std.proofs.Common.{ap, ◌∙◌, rules}
+use Rattle.std.proofs.Common.{ap, ◌∙◌}
 use Rattle.tree.specs.declared.Tree.{Tree}
 use Rattle.state.specs.declared.Link.{Link}
 use Rattle.state.specs.Account.{balance_of}

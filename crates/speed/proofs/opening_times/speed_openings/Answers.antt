@@ -1,5 +1,5 @@
 -- `speed::opening::speed_openings` meets its contract.
-use Rattle.std.proofs.Common.{◌≡◌, ℕ, true, false, sym, refl, ap, ◌∙◌, rules}
+use Rattle.std.proofs.Common.{◌≡◌, ℕ, true, false, sym, refl, ap, ◌∙◌}
 use borrow.Author.Tests.{not-true, not-false}
 use Rattle.run.specs.declared.Step.{Step}
 use Rattle.run.specs.Run.{begin_of}
