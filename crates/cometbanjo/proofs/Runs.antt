@@ -1,10 +1,8 @@
 -- A run of exported calls is a run of the library (R346): so all that is said of every run, the bounded wait among it, holds of the calls
 -- that a box makes. Demands 1 to 3.
-use mathlib.Core.Bool.{Bool, true, false}
 use mathlib.Core.List.{List, [], ◌∷◌, ◌++◌, map}
 use mathlib.Core.Path.{◌≡◌, refl, sym, ap, ap₂, subst, ◌∙◌}
-use Prim.Native.Nat.{ℕ, zero, suc, ◌/◌}
-use lib.ListN.{length, get_or, drop}
+use Prim.Native.Nat.{ℕ}
 use Rattle.state.specs.declared.Link.{Link}
 use Rattle.calls.specs.Run.{Call, Made, made, call_of, link_left, last_link, Meets, Run}
 use Rattle.answers.specs.Reply.{reply_to, row_of, rows_of}

@@ -23,7 +23,7 @@ use tree::Tree;
 use units::Bytes;
 
 // An arrival over the fields of a link: the packets held and the totals after it, and its answer. What may get a field stands last, here
-// and below: the walks of the lent entries count bytes, and no other place moves then.
+// and below: the laws of a lent record (lent_parts/proofs/Fields) count bytes, and no other place moves then.
 #[derive(Drop)]
 pub struct Placed {
     pub held: [u8; Link::CLASSES],

@@ -1,13 +1,12 @@
 -- What is laid of a row or of an event reads as that row or that event, whatever follows it; the reader judges its numbers. Demand 1.
 use mathlib.Core.Bool.{Bool, true, false, cond}
-use mathlib.Core.List.{List, [], ◌∷◌, ◌++◌}
+use mathlib.Core.List.{List, ◌++◌}
 use mathlib.Core.Path.{◌≡◌, refl, ap, ap₂, ◌∙◌}
 use Prim.Native.Nat.{ℕ, ◌+◌, ◌*◌, ◌/◌, ◌%◌}
 use native.Mathlib.Omega.{arith}
-use lib.ListN.{length, take, length-append}
+use lib.ListN.{length, take}
 use borrow.Author.Tests.{ne_eqb, le-ltb}
 use Rattle.checks.specs.Check.{first_broken}
-use Rattle.plan.specs.declared.Arrived.{Arrived}
 use Rattle.plan.specs.declared.EventRead.TheVariants.{Arrive}
 use Rattle.plan.specs.declared.kind.Section.TheVariants.{Events}
 use Rattle.plan.specs.Record.{missing, unknown, cut, kind_at, body_of, class_at}

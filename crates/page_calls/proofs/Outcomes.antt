@@ -15,7 +15,6 @@ use Rattle.promised.specs.declared.Promised.{Promised}
 use Rattle.promised.proofs.Kept.{promise_one_answer}
 use Rattle.run.specs.declared.Step.{Step}
 use Rattle.run.specs.Run.{program_begins}
-use Rattle.parts.specs.declared.PartRun.{PartRun}
 use Rattle.parts.proofs.Parts.{part_one_answer}
 use Rattle.lines.specs.Line.{Lays}
 use Rattle.lines.proofs.Outcomes.{lay_one_answer}

@@ -5,7 +5,6 @@ use mathlib.Core.Path.{◌≡◌, refl, sym, ap, ◌∙◌}
 use Prim.Native.Nat.{ℕ}
 use native.Mathlib.Omega.{arith}
 use lib.ListN.{get_or, take}
-use Rattle.lines.specs.declared.Line.{Line}
 use Rattle.lines.specs.Line.{bytes_of, Lays}
 use Rattle.lines.proofs.Outcomes.{line_laid}
 use Rattle.run.specs.Run.{program_lines, program_begins}

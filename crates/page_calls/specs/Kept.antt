@@ -2,7 +2,6 @@
 use Rattle.std.specs.Prelude.{Bool, cond, List, [], ◌∷◌, ℕ, eqb, get_or}
 use Rattle.checks.specs.declared.Verdict.{Verdict}
 use Rattle.checks.specs.Check.{number_of, place_of}
-use Rattle.units.specs.declared.Weight.{Weight}
 use Rattle.tree.specs.declared.Tree.{Tree}
 use Rattle.tree.specs.Class.{weight_of}
 use Rattle.tree.specs.Sum.{table}

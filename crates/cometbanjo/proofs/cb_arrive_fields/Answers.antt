@@ -1,6 +1,5 @@
 -- `cb_arrive_fields` meets its contract.
 use Rattle.cometbanjo.proofs.Calling.{arrival_said}
-use borrow.Author.Rules.{rules}
 use Rattle.cometbanjo.proofs.cb_arrive_fields.Goals as goal
 
 pub returns : goal.returns

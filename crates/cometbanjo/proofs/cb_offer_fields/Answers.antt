@@ -1,6 +1,5 @@
 -- `cb_offer_fields` meets its contract.
 use Rattle.cometbanjo.proofs.Calling.{offers_met}
-use borrow.Author.Rules.{rules}
 use Rattle.cometbanjo.proofs.cb_offer_fields.Goals as goal
 
 pub returns : goal.returns

@@ -4,7 +4,6 @@ use Rattle.checks.specs.Check.{number_of}
 use Rattle.plan.specs.declared.PlanRead.{PlanRead}
 use Rattle.page_calls.specs.Kept.{said_of}
 use Rattle.cometbanjo.proofs.Calling.{fresh_wide, link_laid}
-use borrow.Author.Rules.{rules}
 use Rattle.cometbanjo.proofs.cb_open_fields.Goals as goal
 
 pub returns : goal.returns

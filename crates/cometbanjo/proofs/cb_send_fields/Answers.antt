@@ -1,6 +1,5 @@
 -- `cb_send_fields` meets its contract.
 use Rattle.cometbanjo.proofs.Calling.{send_said}
-use borrow.Author.Rules.{rules}
 use Rattle.cometbanjo.proofs.cb_send_fields.Goals as goal
 
 pub returns : goal.returns

@@ -1,6 +1,5 @@
 -- `cb_totals_fields` meets its contract.
 use mathlib.Core.Path.{refl}
-use borrow.Author.Rules.{rules}
 use Rattle.cometbanjo.proofs.cb_totals_fields.Goals as goal
 
 pub returns-then-sound_in : goal.returns-then-sound_in

@@ -4,7 +4,6 @@ use Rattle.shape.specs.Shape.{tree_in}
 use Rattle.steps.specs.declared.Stand.{Stand}
 use Rattle.steps.specs.Fields.{link_at}
 use Rattle.cometbanjo.proofs.Calling.{decided_standing}
-use borrow.Author.Rules.{rules}
 use Rattle.cometbanjo.proofs.sound_in.Goals as goal
 
 pub returns : goal.returns

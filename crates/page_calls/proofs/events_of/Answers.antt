@@ -1,6 +1,5 @@
 -- `page_calls::events_of` meets its contract.
 use mathlib.Core.Path.{refl}
-use borrow.Author.Rules.{rules}
 use borrow.Author.Tests.{not-true, not-false}
 use Rattle.page_calls.proofs.events_of.Goals as goal
 

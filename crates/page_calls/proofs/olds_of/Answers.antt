@@ -1,13 +1,10 @@
 -- `page_calls::olds_of` meets its contract.
-use mathlib.Core.List.{◌++◌, append-nil}
+use mathlib.Core.List.{append-nil}
 use mathlib.Core.Path.{◌≡◌, refl, ◌∙◌}
-use Prim.Native.Nat.{◌-◌, ◌≤◌}
 use native.Mathlib.Omega.{arith}
-use lib.ListN.{replicate}
 use Rattle.tree.specs.Sum.{table}
 use Rattle.tree.proofs.Tables.{table_none, table_fill}
 use Rattle.page_calls.specs.Kept.{old_at}
-use borrow.Author.Rules.{rules}
 use Rattle.page_calls.proofs.olds_of.Goals as goal
 
 pub loop-i-init : goal.loop-i-init

@@ -1,5 +1,4 @@
 -- `page_calls::page_begin` meets its contract.
-use borrow.Author.Rules.{rules}
 use Rattle.page_calls.proofs.page_begin.Goals as goal
 
 pub returns : goal.returns

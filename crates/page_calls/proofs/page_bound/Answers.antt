@@ -1,6 +1,5 @@
 -- `page_calls::page_bound` meets its contract.
 use mathlib.Core.Path.{refl}
-use borrow.Author.Rules.{rules}
 use Rattle.page_calls.proofs.page_bound.Goals as goal
 
 pub returns : goal.returns

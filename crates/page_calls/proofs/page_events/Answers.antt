@@ -1,5 +1,4 @@
 -- `page_calls::page_events` meets its contract.
-use borrow.Author.Rules.{rules}
 use Rattle.page_calls.proofs.page_events.Goals as goal
 
 pub returns : goal.returns

@@ -1,6 +1,5 @@
 -- `page_calls::page_open` meets its contract.
 use mathlib.Core.Path.{refl, ◌∙◌}
-use borrow.Author.Rules.{rules}
 use Rattle.page_calls.proofs.page_open.Goals as goal
 
 pub returns : goal.returns

@@ -1,6 +1,5 @@
 -- `page_calls::page_write` meets its contract.
-use mathlib.Core.Path.{refl, ◌∙◌}
-use borrow.Author.Rules.{rules}
+use mathlib.Core.Path.{◌∙◌}
 use Rattle.page_calls.proofs.page_write.Goals as goal
 
 pub returns : goal.returns

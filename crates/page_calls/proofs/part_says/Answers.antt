@@ -1,6 +1,5 @@
 -- `page_calls::part_says` meets its contract.
 use mathlib.Core.Path.{refl}
-use borrow.Author.Rules.{rules}
 use Rattle.page_calls.proofs.part_says.Goals as goal
 
 pub returns-then-part : goal.returns-then-part

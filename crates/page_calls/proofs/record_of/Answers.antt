@@ -1,6 +1,5 @@
 -- `page_calls::record_of` meets its contract.
 use mathlib.Core.Path.{refl}
-use borrow.Author.Rules.{rules}
 use borrow.Author.Tests.{ne_eqb}
 use Rattle.page_calls.specs.Record.{record_of}
 use Rattle.page_calls.proofs.record_of.Goals as goal

@@ -1,6 +1,5 @@
 -- `page_calls::tree_of` meets its contract.
 use mathlib.Core.Path.{refl}
-use borrow.Author.Rules.{rules}
 use Rattle.page_calls.proofs.tree_of.Goals as goal
 
 pub returns : goal.returns

@@ -1,6 +1,5 @@
 -- `numbers::met` meets its contract.
 use native.Mathlib.Omega.{arith}
-use borrow.Author.Rules.{rules}
 use Rattle.cometbanjo.proofs.numbers.met.Goals as goal
 
 pub returns-then-length-gt-MOST : goal.returns-then-length-gt-MOST

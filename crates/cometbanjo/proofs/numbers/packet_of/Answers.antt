@@ -1,7 +1,6 @@
 -- `numbers::packet_of` meets its contract.
 use mathlib.Core.Path.{ap}
 use Prim.Native.Nat.{ℕ}
-use borrow.Author.Rules.{rules}
 use Rattle.cometbanjo.proofs.numbers.packet_of.Goals as goal
 
 pub returns : goal.returns

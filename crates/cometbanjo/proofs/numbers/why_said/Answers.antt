@@ -3,7 +3,6 @@ use mathlib.Core.List.{[], ◌∷◌}
 use mathlib.Core.Path.{sym, ap, ap₂, ◌∙◌}
 use Prim.Native.Nat.{ℕ}
 use Rattle.cometbanjo.specs.Numbers.{why_said}
-use borrow.Author.Rules.{rules}
 use Rattle.cometbanjo.proofs.numbers.why_said.Goals as goal
 
 pub returns-in-Because : goal.returns-in-Because

@@ -1,6 +1,5 @@
 -- `offer::if_accepted` meets its contract: the answer of the arrival, and the promise for the bytes that it answers.
 use Rattle.cometbanjo.proofs.Calling.{offers_by, offers_none, accepted_rules, accepted_wait}
-use borrow.Author.Rules.{rules}
 use Rattle.cometbanjo.proofs.offer.if_accepted.Goals as goal
 
 pub tree_of-tree-requires : goal.tree_of-tree-requires

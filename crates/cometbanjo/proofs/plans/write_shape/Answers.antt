@@ -6,7 +6,6 @@ use Rattle.checks.specs.Check.{Exactly}
 use Rattle.tree.specs.Rules.{PlanRules}
 use Rattle.shape.specs.Shape.{tree_in}
 use Rattle.cometbanjo.proofs.Calling.{shape_refused}
-use borrow.Author.Rules.{rules}
 use Rattle.cometbanjo.proofs.plans.write_shape.Goals as goal
 
 pub returns-then-not-judged : goal.returns-then-not-judged

@@ -3,14 +3,12 @@ use mathlib.Core.Bool.{true}
 use mathlib.Core.Path.{◌≡◌, sym, ap, ◌∙◌}
 use Prim.Native.Nat.{◌+◌}
 use native.Mathlib.Omega.{arith}
-use borrow.Author.Tests.{not-true, not-false}
 use Rattle.sets.specs.Set.{has}
 use Rattle.state.specs.declared.Account.{Account}
 use Rattle.state.specs.declared.Link.{Link}
 use Rattle.state.specs.Queue.{start_of, slot}
 use Rattle.reasons.proofs.InLink.{leaf_low, start_low, holds_none, not_in_round, still_due, lacks_in, short_by}
 use Rattle.answers.specs.Burst.{link_in}
-use borrow.Author.Rules.{rules}
 use Rattle.cometbanjo.proofs.silent.reason_in.Goals as goal
 use Rattle.cometbanjo.proofs.silent.reason_in.Goals.{After-slot-at, Start}
 

@@ -2,7 +2,6 @@
 use mathlib.Core.Bool.{not}
 use mathlib.Core.Path.{◌≡◌, sym, ap, ◌∙◌}
 use Prim.Native.Nat.{ℕ}
-use borrow.Author.Tests.{not-false}
 use Rattle.checks.specs.Check.{Exactly}
 use Rattle.checks.proofs.Laws.{decides, pass_over, none_broken}
 use Rattle.sets.specs.Set.{has}
@@ -12,7 +11,6 @@ use Rattle.sound.specs.Sound.{SoundLink}
 use Rattle.calls.specs.Arrival.{no_leaf}
 use Rattle.reasons.proofs.Answers.{refused_why, told_why}
 use Rattle.answers.specs.Burst.{link_in, stand_in}
-use borrow.Author.Rules.{rules}
 use Rattle.cometbanjo.proofs.silent.why.Goals as goal
 use Rattle.cometbanjo.proofs.silent.why.Goals.{After-holds, After-sound_in, Start}
 

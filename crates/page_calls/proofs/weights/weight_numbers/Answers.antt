@@ -1,14 +1,9 @@
 -- `page_calls::weights::weight_numbers` meets its contract.
-use mathlib.Core.List.{List, ◌++◌, append-nil}
+use mathlib.Core.List.{append-nil}
 use mathlib.Core.Path.{◌≡◌, refl, ◌∙◌}
-use Prim.Native.Nat.{ℕ, ◌-◌, ◌≤◌}
 use native.Mathlib.Omega.{arith}
-use lib.ListN.{get_or, replicate}
-use Rattle.units.specs.declared.Weight.{Weight}
-use Rattle.tree.specs.Class.{no_weight}
 use Rattle.tree.specs.Sum.{table}
 use Rattle.tree.proofs.Tables.{table_none, table_fill}
-use borrow.Author.Rules.{rules}
 use Rattle.page_calls.proofs.weights.weight_numbers.Invariants.{weight_at}
 use Rattle.page_calls.proofs.weights.weight_numbers.Goals as goal
 

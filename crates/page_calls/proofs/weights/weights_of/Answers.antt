@@ -1,14 +1,10 @@
 -- `page_calls::weights::weights_of` meets its contract.
-use mathlib.Core.List.{List, ◌++◌, append-nil}
+use mathlib.Core.List.{append-nil}
 use mathlib.Core.Path.{◌≡◌, refl, ◌∙◌}
-use Prim.Native.Nat.{ℕ, ◌-◌, ◌≤◌}
 use native.Mathlib.Omega.{arith}
-use lib.ListN.{get_or, replicate}
-use Rattle.units.specs.declared.Weight.{Weight}
 use Rattle.tree.specs.Class.{no_weight}
 use Rattle.tree.specs.Sum.{table}
 use Rattle.tree.proofs.Tables.{table_none, table_fill}
-use borrow.Author.Rules.{rules}
 use Rattle.page_calls.proofs.weights.weights_of.Invariants.{weight_of}
 use Rattle.page_calls.proofs.weights.weights_of.Goals as goal
 
