@@ -63,18 +63,18 @@ extern "C" {
         balance: *mut u64, residual: *mut u64, quotas: *mut u64, start: *mut u8, held: *mut u8, lengths: *const u16, tags: *const u32,
         marks: *const u64, packets: *mut u64, bytes: *mut u64);
     #[link_name = "steps::arrival::arrive"]
-    fn arrival_step(out: *mut u64, sound: u64, class: u64, packet: *const u32, shape: *const u64, start: *const u8, held: *mut u8,
-        lengths: *mut u16, tags: *mut u32, marks: *mut u64, charged: u64, packets: *mut u64, bytes: *mut u64);
+    fn arrival_step(out: *mut u64, sound: u64, class: u64, length: u16, tag: u32, shape: *const u64, start: *const u8,
+        held: *mut u8, lengths: *mut u16, tags: *mut u32, marks: *mut u64, charged: u64, packets: *mut u64, bytes: *mut u64);
     #[link_name = "link::send"]
     fn first_send(out: *mut Given<6, First>, link: *const First);
     #[link_name = "link::arrive"]
-    fn first_arrive(out: *mut Given<3, First>, link: *const First, class: u64, packet: *const u32);
+    fn first_arrive(out: *mut Given<3, First>, link: *const First, class: u64, length: u16, tag: u32);
     #[link_name = "sound::is_sound"]
     fn first_sound(link: *const First) -> bool;
     #[link_name = "published_link::send"]
     fn second_send(out: *mut Given<6, Second>, link: *const Second);
     #[link_name = "published_link::arrive"]
-    fn second_arrive(out: *mut Given<3, Second>, link: *const Second, class: u64, packet: *const u32);
+    fn second_arrive(out: *mut Given<3, Second>, link: *const Second, class: u64, length: u16, tag: u32);
     #[link_name = "published_link::is_sound"]
     fn second_sound(link: *const Second) -> bool;
     fn clock_gettime(clock: i32, now: *mut i64) -> i32;
@@ -148,7 +148,7 @@ impl Lent {
         let (l, mut out) = (&mut self.link.link, [0u64; 3]);
         unsafe {
             arrival_step(
-                out.as_mut_ptr(), 1, class, packet.as_ptr(), self.shape.as_ptr(), l.start.as_ptr(), l.held.as_mut_ptr(),
+                out.as_mut_ptr(), 1, class, packet[0] as u16, packet[1], self.shape.as_ptr(), l.start.as_ptr(), l.held.as_mut_ptr(),
                 l.lengths.as_mut_ptr(), l.tags.as_mut_ptr(), l.marks.as_mut_ptr(), l.charged, l.packets.as_mut_ptr(), l.bytes.as_mut_ptr(),
             )
         }
@@ -186,9 +186,16 @@ impl Lent {
         (out[0], out[3])
     }
 
-    // Put together again.
+    // Put together again. The steps count a packet at its leaf and at the root; a record has the inner classes' counts too.
     fn record(&self) -> Box<Second> {
         let mut link = self.link.clone();
+        for i in (1..64).rev() {
+            let parent = link.link.tree.parent[i] as usize;
+            if parent != 0 {
+                link.link.packets[parent] += link.link.packets[i];
+                link.link.bytes[parent] += link.link.bytes[i];
+            }
+        }
         for i in 0..64 {
             link.link.accounts[i] = [self.balance[i], self.residual[i]];
         }
@@ -241,7 +248,7 @@ fn by_value<R: Clone>(
     filled: &R,
     events: &[Event],
     send: unsafe extern "C" fn(*mut Given<6, R>, *const R),
-    arrive: unsafe extern "C" fn(*mut Given<3, R>, *const R, u64, *const u32),
+    arrive: unsafe extern "C" fn(*mut Given<3, R>, *const R, u64, u16, u32),
     times: usize,
 ) -> (f64, u64) {
     let mut gone: Box<Given<6, R>> = Box::new(Given { link: filled.clone(), answer: [0; 6] });
@@ -254,7 +261,7 @@ fn by_value<R: Clone>(
         for event in events {
             match event {
                 Event::Arrive(class, packet) => {
-                    unsafe { arrive(&mut *taken, &link, *class, packet.as_ptr()) };
+                    unsafe { arrive(&mut *taken, &link, *class, packet[0] as u16, packet[1]) };
                     link.clone_from(&taken.link);
                 }
                 Event::Send => {
