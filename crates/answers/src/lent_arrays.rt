@@ -1,5 +1,5 @@
-// What is known of lent arrays: each has the length of its type, and so the link that lies in them has the lists of a link. A reference
-// does not say it by itself, a copy does; nobody reads the copies, so none is made in the compiled code.
+// What is known of lent arrays: each has the length of its type, and so the link that lies in them has the lists of a link. A copy tells
+// it; nobody reads the copies, so none is made in the compiled code.
 // Serves demand 1.
 ghost use Rattle.std.specs.Prelude.{false, ◌≡◌, length};
 ghost use Rattle.state.specs.Queue.{Shaped};
