@@ -36,6 +36,8 @@ module_for() { # TARGET MODULE TEXT
     sed -i -E "s|^target datalayout = .*|$layout|; s|^target triple = .*|target triple = \"$target\"|" "$text"
     sed -i -E 's/"(target-cpu|target-features|tune-cpu)"="[^"]*"//g' "$text"
     case $target in x86_64-*) ;; *) sed -i -E 's/"probe-stack"="[^"]*"//g' "$text" ;; esac
+    # In the kit's code an address is a number of 64 bits, and a pointer's slot has 8 bytes: so it stays where a pointer has fewer.
+    sed -i -E 's/= ptrtoaddr (ptr [^ ]+) to i64/= ptrtoint \1 to i64/; s/= alloca ptr, align 8/= alloca [8 x i8], align 8/' "$text"
 }
 
 joined_to() { if [ -f "$root/crates/$1/joined" ]; then cat "$root/crates/$1/joined"; fi; } # NAME

@@ -22,10 +22,8 @@ fn waiting_leaves(leaves: u64, held: &[u8; 64]) -> u64
     ensures { (i : ℕ) → i < 64 → has result i ≡ (has leaves i && leb 1 (get_or held.now i 0)) }
 {
     let mut waiting: u64 = 0;
-    let mut i: usize = 0;
-    while i < Tree::CLASSES {
-        waiting = sets::with_if(waiting, i, 1 <= held[i]);
-        i += 1;
+    for (i, &many) in held.iter().enumerate() {
+        waiting = sets::with_if(waiting, i, 1 <= many);
     }
     sets::both(waiting, leaves)
 }
@@ -36,11 +34,9 @@ fn above(shape: &[u64; 195], waiting: u64) -> u64
     ensures { result ≡ upward (tree_in shape.now) (has waiting) }
 {
     let mut active: u64 = waiting;
-    let mut i = shape::count(shape);
-    while 0 < i {
+    for i in (1..=shape::count(shape)).rev() {
         let p = shape::parent(shape, i);
         active = sets::with_if(active, p, sets::has(active, i));
-        i -= 1;
     }
     active
 }
@@ -64,10 +60,7 @@ fn with_active(sum: Weight, weight: Weight, on: bool) -> Weight
     requires { sum.0 + weight.0 < 2 ^ 32 }
     ensures { result.0 ≡ sum.0 + cond on weight.0 0 }
 {
-    if on {
-        return sum.plus(weight);
-    }
-    sum
+    if on { sum.plus(weight) } else { sum }
 }
 
 // The weight sums of all class numbers: one pass from the highest class down, each active class adding itself to its parent (R123).
@@ -77,23 +70,14 @@ pub fn weight_sums(shape: &[u64; 195], active: u64) -> [Weight; Tree::CLASSES]
 {
     let none = Weight(0);
     let mut sums = [none; Tree::CLASSES];
-    let mut i = shape::count(shape);
-    while 0 < i {
+    for i in (1..=shape::count(shape)).rev() {
         let p = shape::parent(shape, i);
         let w = shape::weight(shape, i);
         let s = sums[p];
         let on = sets::has(active, i);
         sums[p] = with_active(s, w, on);
-        i -= 1;
     }
     sums
-}
-
-// A weight as a bare number.
-fn number(weight: Weight) -> u32
-    ensures { result ≡ weight.0 }
-{
-    weight.0
 }
 
 // The kept sums become those of an active set, as bare numbers.
@@ -102,11 +86,8 @@ pub fn refresh(shape: &[u64; 195], active: u64, kept: &mut [u32; 64])
     ensures { Summed (tree_in shape.now) active kept.new }
 {
     let sums = weight_sums(shape, active);
-    let mut i: usize = 0;
-    while i < Tree::CLASSES {
-        let w = sums[i];
-        kept[i] = number(w);
-        i += 1;
+    for (i, sum) in sums.iter().enumerate() {
+        kept[i] = sum.0;
     }
 }
 
@@ -114,10 +95,7 @@ pub fn refresh(shape: &[u64; 195], active: u64, kept: &mut [u32; 64])
 fn active_longest(on: bool, leaf: bool, longest: u16) -> Bytes
     ensures { result.0 ≡ cond on (cond leaf (cost_of longest) 0) 0 }
 {
-    if !on {
-        return Bytes(0);
-    }
-    if leaf {
+    if on && leaf {
         return units::cost(longest);
     }
     Bytes(0)
@@ -128,12 +106,10 @@ pub fn active_size(shape: &[u64; 195], active: u64) -> Bytes
     requires { PlanRules (tree_in shape.now) }
     ensures { result.0 ≡ active_size (tree_in shape.now) active }
 {
-    let last = shape::count(shape);
     let leaves = shape::leaves(shape);
     let mut weights = Weight(0);
     let mut packets = Bytes(0);
-    let mut i: usize = 1;
-    while i <= last {
+    for i in 1..=shape::count(shape) {
         let w = shape::weight(shape, i);
         let counts = sets::has(active, i);
         weights = with_active(weights, w, counts);
@@ -142,7 +118,6 @@ pub fn active_size(shape: &[u64; 195], active: u64) -> Bytes
             sets::has(leaves, i),
             shape::longest(shape, i),
         ));
-        i += 1;
     }
     units::size(weights, packets)
 }

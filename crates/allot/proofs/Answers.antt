@@ -6,8 +6,10 @@ use Prim.Native.Nat.{ℕ, ◌+◌, ◌*◌, ◌≤◌, ◌<◌, min}
 use native.Mathlib.Decide.{dec_le, ℕ_discrete}
 use native.Mathlib.Omega.{arith}
 use borrow.Author.Tests.{le-leb, lt-leb, ltb-false, not-false}
-use Rattle.checks.specs.declared.Verdict.TheVariants.{Passed, Refused}
-use Rattle.checks.specs.Check.{check, first_broken, class_by_class, Exactly}
+use Rattle.checks.specs.declared.Refusal.TheVariants.{NotSound, BadCapacity}
+use Rattle.checks.specs.declared.Refusal.{Refusal}
+use Rattle.std.specs.Prelude.{Ok, Err}
+use Rattle.checks.specs.Check.{check, first_broken, class_by_class, Exactly, refusal_at}
 use Rattle.checks.proofs.Laws.{not_both, passed_parts, classes_each}
 use Rattle.tree.specs.declared.Tree.{Tree}
 use Rattle.tree.specs.Class.{parent_of, weight_of, is_leaf, children_sum}
@@ -114,7 +116,7 @@ module _ (t : Tree) (capacity : ℕ) (table requests : List ℕ) (s : Shares) (h
     },
   )
 
-  pub shared_out_lem : Tables t capacity table (record { verdict = Passed; requests = requests; gets = s.gets; unallotted = s.unallotted })
+  pub shared_out_lem : Tables t capacity table (record { verdict = Ok tt; requests = requests; gets = s.gets; unallotted = s.unallotted })
   shared_out_lem = record {
     requests = q.each;
     allots = record {
@@ -135,8 +137,8 @@ module _ (t : Tree) (capacity : ℕ) (table requests : List ℕ) (s : Shares) (h
 -- ---- the answer, refused or not
 
 module _ (t : Tree) (capacity : ℕ) (table : List ℕ) (obeys : Bool) (exactly : Exactly obeys (PlanRules t)) where
-  pub refused_rates : (n place : ℕ) (r : Allotted) → Refused n place ≡ first_broken (rate_checks obeys t capacity table)
-      → r ≡ nothing_allotted (Refused n place)
+  pub refused_rates : (n : Refusal) (place : ℕ) (r : Allotted) → Err (refusal_at n place) ≡ first_broken (rate_checks obeys t capacity table)
+      → r ≡ nothing_allotted (Err (refusal_at n place))
       → Rates t capacity table r
   refused_rates n place r e is = record {
     obeys = obeys;
@@ -146,10 +148,10 @@ module _ (t : Tree) (capacity : ℕ) (table : List ℕ) (obeys : Bool) (exactly 
     refused = λ m q h. is ∙ ap nothing_allotted (sym said ∙ h);
   }
     where
-      said : r.verdict ≡ Refused n place
+      said : r.verdict ≡ Err (refusal_at n place)
       said = ap (λ (x : Allotted). x.verdict) is
 
-  pub allotted_rates : (r : Allotted) → first_broken (rate_checks obeys t capacity table) ≡ Passed → r.verdict ≡ Passed
+  pub allotted_rates : (r : Allotted) → first_broken (rate_checks obeys t capacity table) ≡ Ok tt → r.verdict ≡ Ok tt
       → Tables t capacity table r
       → Rates t capacity table r
   allotted_rates r e is a = record {
@@ -161,13 +163,13 @@ module _ (t : Tree) (capacity : ℕ) (table : List ℕ) (obeys : Bool) (exactly 
   }
 
 -- where nothing is refused, the tree obeys the plan rules
-pub passed_rules : (t : Tree) (capacity : ℕ) (table : List ℕ) (r : Allotted) → Rates t capacity table r → r.verdict ≡ Passed → PlanRules t
+pub passed_rules : (t : Tree) (capacity : ℕ) (table : List ℕ) (r : Allotted) → Rates t capacity table r → r.verdict ≡ Ok tt → PlanRules t
 passed_rules t capacity table r a e =
     a.exactly.sound (not-false a.obeys
-    (passed_parts (check 11 (not a.obeys) 0) (range_checks t capacity table) (sym a.verdict ∙ e)).0)
+    (passed_parts (check NotSound (not a.obeys) 0) (range_checks t capacity table) (sym a.verdict ∙ e)).0)
 
 -- and every leaf's request is in range
-pub passed_in_range : (t : Tree) (capacity : ℕ) (table : List ℕ) → PlanRules t → first_broken (range_checks t capacity table) ≡ Passed
+pub passed_in_range : (t : Tree) (capacity : ℕ) (table : List ℕ) → PlanRules t → first_broken (range_checks t capacity table) ≡ Ok tt
     → RequestsInRange t table
 unfolding bad_request
 passed_in_range t capacity table rules e = record {
@@ -176,7 +178,7 @@ passed_in_range t capacity table rules e = record {
       let r = class_range t i is in
       let said =
       classes_each (request_checks t table) t.count
-      (passed_parts (check 20 (bad_capacity capacity) 0) (class_by_class (request_checks t table) t.count) e).1 i r.0 r.1
+      (passed_parts (check BadCapacity (bad_capacity capacity) 0) (class_by_class (request_checks t table) t.count) e).1 i r.0 r.1
       in
       ltb-false 1_000_000_000 (entry table i) (rw leaf at (passed_parts _ _ said).0);
 }

@@ -8,9 +8,10 @@ use native.Mathlib.Decide.{dec_le, ℕ_discrete}
 use native.Mathlib.Omega.{arith}
 use lib.Dec.{ltb}
 use lib.Seq.{ext_get_or}
-use Rattle.checks.specs.declared.Verdict.{Verdict}
-use Rattle.checks.specs.declared.Verdict.TheVariants.{Passed, Refused}
-use Rattle.checks.specs.Check.{Check, check, first_broken}
+use Rattle.checks.specs.declared.Refusal.TheVariants.{NotSound, BadCapacity, BadRequest}
+use Rattle.checks.specs.declared.Refusal.{Refusal}
+use Rattle.std.specs.Prelude.{Ok, Err}
+use Rattle.checks.specs.Check.{Check, check, first_broken, Verdict, refusal_at}
 use Rattle.checks.proofs.Laws.{refused_or_passed, not_true_and_false, exactly_unique, classes_same}
 use Rattle.tree.specs.declared.Tree.{Tree}
 use Rattle.tree.specs.Class.{parent_of, weight_of, is_class, is_leaf}
@@ -56,9 +57,9 @@ same_verdict : (t : Tree) (capacity : ℕ) (x y : List ℕ) (obeys : Bool) → S
     → first_broken (rate_checks obeys t capacity x) ≡ first_broken (rate_checks obeys t capacity y)
 unfolding bad_request
 same_verdict t capacity x y obeys same =
-    ap (λ (cs : List Check). first_broken (check 11 (not obeys) 0 ∷ check 20 (bad_capacity capacity) 0 ∷ cs))
+    ap (λ (cs : List Check). first_broken (check NotSound (not obeys) 0 ∷ check BadCapacity (bad_capacity capacity) 0 ∷ cs))
     (classes_same (request_checks t x) (request_checks t y) t.count
-    (λ i l u. ap (λ (b : Bool). check 21 b i ∷ []) (go i (class_in_lem t i l u) (is_leaf t i) refl)))
+    (λ i l u. ap (λ (b : Bool). check BadRequest b i ∷ []) (go i (class_in_lem t i l u) (is_leaf t i) refl)))
   where
     go : (i : ℕ) → is_class t i ≡ true → (b : Bool) → is_leaf t i ≡ b
         → (b && ltb 1_000_000_000 (entry x i)) ≡ (b && ltb 1_000_000_000 (entry y i))
@@ -202,7 +203,7 @@ only_leaves_read t capacity x y r s same a b = go (refused_or_passed r.verdict)
         ∙ same_verdict t capacity x y b.obeys same
         ∙ sym b.verdict
 
-    go : (r.verdict ≡ Passed) ⊎ ((n : ℕ) × (p : ℕ) × (r.verdict ≡ Refused n p)) → r ≡ s
+    go : (r.verdict ≡ Ok tt) ⊎ ((n : Refusal) × (p : ℕ) × (r.verdict ≡ Err (refusal_at n p))) → r ≡ s
     go (inl e) =
         let rules = passed_rules t capacity x r a e in
         tables_one_answer t capacity y r s rules (same_tables t capacity x y r rules same (a.allotted e))

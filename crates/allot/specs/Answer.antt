@@ -1,8 +1,8 @@
 -- What any tree, any capacity and any table of requests give (R68, R80 to R85): a refusal, or the rates of every class.
-use Rattle.std.specs.Prelude.{Bool, ◌&&◌, ◌||◌, not, List, [], ◌∷◌, ◌≡◌, ℕ, ◌≤◌, ◌<◌, ltb, length, replicate}
-use Rattle.checks.specs.declared.Verdict.{Verdict}
-use Rattle.checks.specs.declared.Verdict.TheVariants.{Passed, Refused}
-use Rattle.checks.specs.Check.{Check, check, first_broken, class_by_class, Exactly}
+use Rattle.checks.specs.declared.Refusal.TheVariants.{NotSound, BadCapacity, BadRequest}
+use Rattle.checks.specs.declared.Refusal.{Refusal}
+use Rattle.std.specs.Prelude.{Bool, ◌&&◌, ◌||◌, not, List, [], ◌∷◌, ◌≡◌, ℕ, ◌≤◌, ◌<◌, ltb, length, replicate, Ok, Err}
+use Rattle.checks.specs.Check.{Check, check, first_broken, class_by_class, Exactly, Verdict, refusal_at}
 use Rattle.tree.specs.declared.Tree.{Tree}
 use Rattle.tree.specs.Class.{is_leaf}
 use Rattle.tree.specs.Rules.{PlanRules}
@@ -19,14 +19,14 @@ unfoldable pub bad_request : Tree → List ℕ → ℕ → Bool
 bad_request t table i = is_leaf t i && ltb 1_000_000_000 (entry table i)
 
 abbrev pub request_checks : Tree → List ℕ → ℕ → List Check
-request_checks t table i = check 21 (bad_request t table i) i ∷ []
+request_checks t table i = check BadRequest (bad_request t table i) i ∷ []
 
 -- in this order: 11 at 0 for a tree that breaks the plan rules, 20 at 0, then class by class upward 21 at the class (R80 to R83)
 abbrev pub range_checks : Tree → ℕ → List ℕ → List Check
-range_checks t capacity table = check 20 (bad_capacity capacity) 0 ∷ class_by_class (request_checks t table) t.count
+range_checks t capacity table = check BadCapacity (bad_capacity capacity) 0 ∷ class_by_class (request_checks t table) t.count
 
 abbrev pub rate_checks : Bool → Tree → ℕ → List ℕ → List Check
-rate_checks obeys t capacity table = check 11 (not obeys) 0 ∷ range_checks t capacity table
+rate_checks obeys t capacity table = check NotSound (not obeys) 0 ∷ range_checks t capacity table
 
 -- a refusal allots 0 everywhere (R84, R163)
 abbrev pub nothing_allotted : Verdict → Allotted
@@ -45,5 +45,5 @@ pub record Rates (t : Tree) (capacity : ℕ) (table : List ℕ) (r : Allotted) :
   pub obeys : Bool
   pub exactly : Exactly obeys (PlanRules t)
   pub verdict : r.verdict ≡ first_broken (rate_checks obeys t capacity table)
-  pub allotted : r.verdict ≡ Passed → Tables t capacity table r
-  pub refused : (n place : ℕ) → r.verdict ≡ Refused n place → r ≡ nothing_allotted (Refused n place)
+  pub allotted : r.verdict ≡ Ok tt → Tables t capacity table r
+  pub refused : (n : Refusal) (place : ℕ) → r.verdict ≡ Err (refusal_at n place) → r ≡ nothing_allotted (Err (refusal_at n place))

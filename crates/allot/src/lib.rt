@@ -4,21 +4,21 @@
 // request is not met finds its F by halving between 0 and what it has plus 1: 30 probes at most, each over all classes.
 #![tactic(auto)]
 
-ghost use Rattle.std.specs.Prelude.{◌≡◌, cond, ◌&&◌, ◌*◌, ◌^◌, ◌≤◌, ◌<◌, min, eqb, ltb};
+ghost use Rattle.std.specs.Prelude.{◌≡◌, ◌&&◌, ◌*◌, ◌^◌, ◌≤◌, ◌<◌, min, ltb, Ok};
 ghost use Rattle.checks.specs.Check.{first_broken, class_by_class};
-ghost use Rattle.checks.specs.declared.Verdict.TheVariants.{Passed};
 ghost use Rattle.allot.specs.Request.{entry};
 ghost use Rattle.allot.specs.Share.{share_at, Fits, Largest};
 ghost use Rattle.tree.specs.Class.{children_sum};
 ghost use Rattle.allot.specs.Answer.{request_checks, range_checks, nothing_allotted, Tables, Rates};
 ghost use Rattle.allot.specs.Steps.{RequestsInRange, Requested, Adding, Splits, Settles, Settled, child_gets};
 
-use checks::Verdict;
+use checks::{Refusal, Refused, Verdict};
 use tree::Tree;
 use units::Weight;
 
 // The answer: a verdict, and by class number what each class requests, what it gets (class 0: what the root has) and what stays
 // unallotted at it.
+// R163: in an answer that refuses every further number is 0; so they stand beside the verdict, and not in a Result.
 #[derive(Clone, Copy)]
 pub struct Allotted {
     pub verdict: Verdict,
@@ -42,33 +42,12 @@ struct Shares {
     unallotted: [u64; Tree::CLASSES],
 }
 
-// The smaller of two numbers.
-fn smaller(a: u64, b: u64) -> u64
-    ensures { result ≡ min a b }
-{
-    if a <= b {
-        return a;
-    }
-    b
-}
-
 // What a class gets at F: min(request, weight × F).
 fn share(request: u64, weight: Weight, f: u64) -> u64
     requires { weight.0 * f < 2 ^ 64 }
     ensures { result ≡ min request (weight.0 * f) }
 {
-    smaller(request, weight.0 as u64 * f)
-}
-
-// The same, of a child of class p; any other class adds nothing.
-fn child_share(parent: u8, p: usize, request: u64, weight: Weight, f: u64) -> u64
-    requires { weight.0 * f < 2 ^ 64 }
-    ensures { result ≡ cond (eqb parent p) (min request (weight.0 * f)) 0 }
-{
-    if parent as usize == p {
-        return share(request, weight, f);
-    }
-    0
+    request.min(u64::from(weight.0) * f)
 }
 
 // What the children of class p get together at F.
@@ -76,14 +55,11 @@ fn children_get(tree: Tree, requests: [u64; Tree::CLASSES], p: usize, f: u64) ->
     requires { Adding tree requests × (f ≤ 63_000_000_001) }
     ensures { result ≡ children_sum tree (share_at tree (entry requests) f) p }
 {
-    let last = tree.count;
-    let mut sum: u64 = 0;
-    let mut i: usize = 1;
-    while i <= last {
-        let parent = tree.parent[i];
-        let weight = tree.weight[i];
-        sum += child_share(parent, p, requests[i], weight, f);
-        i += 1;
+    let mut sum = 0;
+    for i in 1..=tree.count {
+        if usize::from(tree.parent[i]) == p {
+            sum += share(requests[i], tree.weight[i], f);
+        }
     }
     sum
 }
@@ -130,9 +106,10 @@ fn child_gets(has: u64, asked: u64, request: u64, weight: Weight, f: u64) -> u64
     ensures { result ≡ child_gets has asked request weight.0 f }
 {
     if asked <= has {
-        return request;
+        request
+    } else {
+        share(request, weight, f)
     }
-    share(request, weight, f)
 }
 
 // Class i, which has so much, is settled.
@@ -159,26 +136,17 @@ fn all_requests(tree: Tree, table: [u64; Tree::CLASSES]) -> [u64; Tree::CLASSES]
     ensures { Requested tree table result }
 {
     let mut requests = [0u64; Tree::CLASSES];
-    let mut i: usize = tree.count;
-    while 0 < i {
-        let p = tree.parent[i] as usize;
-        let leaf = sets::has(tree.leaves, i);
-        let own = own_request(leaf, table[i], requests[i]);
+    for i in (1..=tree.count).rev() {
+        let p = usize::from(tree.parent[i]);
+        let own = if sets::has(tree.leaves, i) {
+            table[i]
+        } else {
+            requests[i]
+        };
         requests[i] = own;
         requests[p] += own;
-        i -= 1;
     }
     requests
-}
-
-// What a class requests: a leaf its entry, any other class what its children add up to.
-fn own_request(leaf: bool, entry: u64, sum: u64) -> u64
-    ensures { result ≡ cond leaf entry sum }
-{
-    if leaf {
-        return entry;
-    }
-    sum
 }
 
 // What every class gets, class by class upward.
@@ -186,26 +154,22 @@ fn share_out(tree: Tree, requests: [u64; Tree::CLASSES], has: u64) -> Shares
     requires { Adding tree requests × (has ≤ 63_000_000_000) }
     ensures { Settled tree (entry requests) has tree.count result }
 {
-    let last = tree.count;
     let none = Shares {
         gets: [0; Tree::CLASSES],
         fair: [0; Tree::CLASSES],
         unallotted: [0; Tree::CLASSES],
     };
     let mut shares = settled(none, tree, requests, 0, has);
-    let mut i: usize = 1;
-    while i <= last {
-        let p = tree.parent[i] as usize;
-        let weight = tree.weight[i];
+    for i in 1..=tree.count {
+        let p = usize::from(tree.parent[i]);
         let gets = child_gets(
             shares.gets[p],
             requests[p],
             requests[i],
-            weight,
+            tree.weight[i],
             shares.fair[p],
         );
         shares = settled(shares, tree, requests, i, gets);
-        i += 1;
     }
     shares
 }
@@ -214,10 +178,7 @@ fn share_out(tree: Tree, requests: [u64; Tree::CLASSES], has: u64) -> Shares
 fn bad_request(leaf: bool, request: u64) -> bool
     ensures { result ≡ (leaf && ltb 1_000_000_000 request) }
 {
-    if !leaf {
-        return false;
-    }
-    1_000_000_000 < request
+    leaf && 1_000_000_000 < request
 }
 
 // 21: the lowest-numbered leaf whose request is out of range.
@@ -225,16 +186,13 @@ fn request_fault(tree: Tree, table: [u64; Tree::CLASSES]) -> Verdict
     requires { tree.count ≤ 63 }
     ensures { result ≡ first_broken (class_by_class (request_checks tree table) tree.count) }
 {
-    let last = tree.count;
-    let mut i: usize = 1;
-    while i <= last {
+    for i in 1..=tree.count {
         let leaf = sets::has(tree.leaves, i);
         if bad_request(leaf, table[i]) {
-            return Verdict::Refused(checks::REQUEST, i);
+            return Err(Refused(Refusal::BadRequest, i));
         }
-        i += 1;
     }
-    Verdict::Passed
+    Ok(())
 }
 
 // 20, then 21.
@@ -243,10 +201,10 @@ fn range_fault(tree: Tree, capacity: u64, table: [u64; Tree::CLASSES]) -> Verdic
     ensures { result ≡ first_broken (range_checks tree capacity table) }
 {
     if capacity < 1 {
-        return Verdict::Refused(checks::CAPACITY, 0);
+        return Err(Refused(Refusal::BadCapacity, 0));
     }
     if 1_000_000_000 < capacity {
-        return Verdict::Refused(checks::CAPACITY, 0);
+        return Err(Refused(Refusal::BadCapacity, 0));
     }
     request_fault(tree, table)
 }
@@ -266,15 +224,15 @@ fn nothing_allotted(verdict: Verdict) -> Allotted
 // The rates of a tree with everything in range.
 fn allot(tree: Tree, capacity: u64, table: [u64; Tree::CLASSES]) -> Allotted
     requires { RequestsInRange tree table }
-    ensures { (result.verdict ≡ Passed) × Tables tree capacity table result }
+    ensures { (result.verdict ≡ Ok tt) × Tables tree capacity table result }
 {
     let requests = all_requests(tree, table);
-    let has = smaller(capacity, requests[0]);
+    let has = capacity.min(requests[0]);
     let shares = share_out(tree, requests, has);
     let gets = shares.gets;
     let unallotted = shares.unallotted;
     Allotted {
-        verdict: Verdict::Passed,
+        verdict: Ok(()),
         requests,
         gets,
         unallotted,
@@ -286,10 +244,10 @@ pub fn rates(tree: Tree, capacity: u64, requests: [u64; Tree::CLASSES]) -> Allot
     ensures { Rates tree capacity requests result }
 {
     if !shape::is_plan(tree) {
-        return nothing_allotted(Verdict::Refused(checks::NOT_SOUND, 0));
+        return nothing_allotted(Err(Refused(Refusal::NotSound, 0)));
     }
     let v = range_fault(tree, capacity, requests);
-    if let Verdict::Refused(_, _) = v {
+    if let Err(_) = v {
         return nothing_allotted(v);
     }
     allot(tree, capacity, requests)

@@ -8,13 +8,12 @@ use native.Mathlib.Nat.{zero-add}
 use borrow.Author.Tests.{leb-false}
 use lib.Dec.{leb}
 use lib.ListN.{length, take, drop, length-append}
-use Rattle.checks.specs.declared.Verdict.{Verdict}
-use Rattle.checks.specs.declared.Verdict.TheVariants.{Passed, Refused}
-use Rattle.checks.specs.Check.{Exactly}
+use Rattle.plan.specs.declared.event.Event.TheVariants.{Arrive, SendNext}
+use Rattle.checks.specs.declared.Refusal.TheVariants.{NotSound}
+use Rattle.std.specs.Prelude.{Ok, Err, Some, None}
+use Rattle.checks.specs.Check.{Exactly, Verdict, refusal_at}
 use Rattle.checks.proofs.Laws.{not_true_and_false, exactly_yes, exactly_unique}
-use Rattle.plan.specs.declared.EventRead.{EventRead}
-use Rattle.plan.specs.declared.EventRead.TheVariants.{NoMore, Arrive, SendNext, Fault}
-use Rattle.plan.specs.Event.{used_of, event_at}
+use Rattle.plan.specs.Event.{used_of, event_at, EventRead}
 use Rattle.state.specs.declared.Link.{Link}
 use Rattle.state.specs.Queue.{Shaped}
 use Rattle.sound.specs.Sound.{SoundLink}
@@ -82,7 +81,7 @@ calls_suc : (n : ℕ) (l : Link) (input : List ℕ) (place : ℕ)
 unfolding calls_from
 calls_suc n l input place = refl
 
-calls_none : (l : Link) (input : List ℕ) (place : ℕ) → calls_from 0 l input place ≡ none_made l place Passed
+calls_none : (l : Link) (input : List ℕ) (place : ℕ) → calls_from 0 l input place ≡ none_made l place (Ok tt)
 unfolding calls_from
 calls_none l input place = refl
 
@@ -161,13 +160,13 @@ module _ (l : Link) (input : List ℕ) (place : ℕ) (before : List ℕ) where
 
       by_event : (n : ℕ) → y.left ≡ suc n → (e : EventRead) → event_at (drop x.place input) x.place ≡ e
           → Goes (next_gives true x.link x.place e)
-      by_event n s NoMore e = no_more n s Passed (last_reply Passed) refl
+      by_event n s (Ok None) e = no_more n s (Ok tt) (last_reply (Ok tt)) refl
           (ap (λ (v : EventRead). made_by v x.link x.place (λ after at. calls_from n after input at)) e)
-      by_event n s (Arrive a) e = one_more_lem n s (makes true x.link (arrival a.class (packet_in a))) (x.place + used_of (Arrive a))
+      by_event n s (Ok (Some (Arrive a))) e = one_more_lem n s (makes true x.link (arrival a.class (packet_in a))) (x.place + used_of (Ok (Some (Arrive a))))
           (ap (λ (v : EventRead). made_by v x.link x.place (λ after at. calls_from n after input at)) e)
-      by_event n s SendNext e = one_more_lem n s (makes true x.link send) (x.place + used_of SendNext)
+      by_event n s (Ok (Some SendNext)) e = one_more_lem n s (makes true x.link send) (x.place + used_of (Ok (Some SendNext)))
           (ap (λ (v : EventRead). made_by v x.link x.place (λ after at. calls_from n after input at)) e)
-      by_event n s (Fault k p) e = no_more n s (Refused k p) (last_reply (Refused k p)) refl
+      by_event n s (Err r) e = no_more n s (Err r) (last_reply (Err r)) refl
           (ap (λ (v : EventRead). made_by v x.link x.place (λ after at. calls_from n after input at)) e)
 
       pub making_on : (z : Next) → z ≡ next_gives true x.link x.place (event_at (drop x.place input) x.place) → Goes z
@@ -223,7 +222,7 @@ served_at f {input = input} {place = place} {before = before} {d = d} {out = out
 
 module _ (l : Link) (input : List ℕ) (place : ℕ) (before : List ℕ) (shape : Shaped l) where
   -- on a record that is not sound none is made
-  pub bursts_none : (r : BurstEnd) → r ≡ record { verdict = Refused 11 0; place = 0; replies = 0 } → Exactly false (SoundLink l)
+  pub bursts_none : (r : BurstEnd) → r ≡ record { verdict = Err (refusal_at NotSound 0); place = 0; replies = 0 } → Exactly false (SoundLink l)
       → Bursts l input place before r before l
   bursts_none r is exactly = record {
     shape = shape;
@@ -302,10 +301,10 @@ calls_of_run (suc n) more l input place = step (λ after to. calls_of_run n more
     go : Rest → (e : EventRead)
         → (made_by e l place (λ after next. calls_from n after input next)).made
         ≡ made_in (run_of true l (take (suc n) (event_first e later).calls))
-    go rest NoMore = sym (made_none l)
-    go rest (Arrive a) = one rest (arrival a.class (packet_in a)) (used_of (Arrive a))
-    go rest SendNext = one rest send (used_of SendNext)
-    go rest (Fault k p) = sym (made_none l)
+    go rest (Ok None) = sym (made_none l)
+    go rest (Ok (Some (Arrive a))) = one rest (arrival a.class (packet_in a)) (used_of (Ok (Some (Arrive a))))
+    go rest (Ok (Some SendNext)) = one rest send (used_of (Ok (Some SendNext)))
+    go rest (Err _) = sym (made_none l)
 
     same : suc (n + more) ≡ suc n + more
     same = omega arith

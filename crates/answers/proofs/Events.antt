@@ -4,13 +4,13 @@ use mathlib.Core.List.{List}
 use mathlib.Core.Path.{◌≡◌, refl, sym, ap, ap₂, subst, ◌∙◌}
 use Prim.Native.Nat.{ℕ, ◌+◌}
 use lib.ListN.{drop}
-use Rattle.checks.specs.declared.Verdict.TheVariants.{Passed, Refused}
-use Rattle.checks.specs.Check.{first_broken, Exactly}
+use Rattle.plan.specs.declared.event.Event.TheVariants.{Arrive, SendNext}
+use Rattle.checks.specs.declared.Refusal.TheVariants.{NothingWaits}
+use Rattle.std.specs.Prelude.{Ok, Err, Some}
+use Rattle.checks.specs.Check.{first_broken, Exactly, refusal_at}
 use Rattle.checks.proofs.Laws.{exactly_yes}
 use Rattle.plan.specs.declared.Arrived.{Arrived}
-use Rattle.plan.specs.declared.EventRead.{EventRead}
-use Rattle.plan.specs.declared.EventRead.TheVariants.{Arrive, SendNext}
-use Rattle.plan.specs.Event.{used_of, event_at}
+use Rattle.plan.specs.Event.{used_of, event_at, EventRead}
 use Rattle.tree.specs.declared.Tree.{Tree}
 use Rattle.state.specs.declared.Link.{Link}
 use Rattle.state.specs.declared.Packet.{Packet}
@@ -54,7 +54,7 @@ arrives_in_place sound l a r after is = (
 
 -- its reply
 went_reply : (some : Bool) (class : ℕ) (p : Waiting) (rounds total : ℕ) (after : Link)
-    → cond some (send_reply Passed class p.length p.tag (since total p.mark) rounds) (send_reply (Refused 15 0) 0 0 0 0 0)
+    → cond some (send_reply (Ok tt) class p.length p.tag (since total p.mark) rounds) (send_reply (Err (refusal_at NothingWaits 0)) 0 0 0 0 0)
     ≡ reply_to (made send (answer_of some class p rounds total) after)
 went_reply true class p rounds total after = refl
 went_reply false class p rounds total after = refl
@@ -130,18 +130,18 @@ module _ (l : Link) (input : List ℕ) (place : ℕ) (sound : Bool) (told : Told
     same = refl;
   }
 
-  pub arrival_heard : (a : Arrived) (n : ℕ) (reply : Reply) (stand : Stand) (after : Link) → event_at (drop place input) place ≡ Arrive a
-      → n ≡ used_of (Arrive a) → ArrivesAs sound l a reply after
+  pub arrival_heard : (a : Arrived) (n : ℕ) (reply : Reply) (stand : Stand) (after : Link) → event_at (drop place input) place ≡ Ok (Some (Arrive a))
+      → n ≡ used_of (Ok (Some (Arrive a))) → ArrivesAs sound l a reply after
       → Hears sound l input place (heard_by sound reply true (place + n) stand) after
   arrival_heard a n reply stand after at used is =
       let call = arrival a.class (packet_in a) in
-      call_heard (Arrive a) call n reply stand after at (ap (λ (k : ℕ). next_by (makes sound l call) (place + k)) used) is.0 is.1
+      call_heard (Ok (Some (Arrive a))) call n reply stand after at (ap (λ (k : ℕ). next_by (makes sound l call) (place + k)) used) is.0 is.1
 
-  pub send_heard : (w : Went) (n : ℕ) (reply : Reply) (after : Link) → event_at (drop place input) place ≡ SendNext
-      → n ≡ used_of SendNext → reply ≡ went_replies sound w → DepartsAs sound l w after
+  pub send_heard : (w : Went) (n : ℕ) (reply : Reply) (after : Link) → event_at (drop place input) place ≡ Ok (Some SendNext)
+      → n ≡ used_of (Ok (Some SendNext)) → reply ≡ went_replies sound w → DepartsAs sound l w after
       → Hears sound l input place (heard_by sound reply true (place + n) w.stand) after
   send_heard w n reply after at used said is =
-      call_heard SendNext send n reply w.stand after at (ap (λ (k : ℕ). next_by (makes sound l send) (place + k)) used)
+      call_heard (Ok (Some SendNext)) send n reply w.stand after at (ap (λ (k : ℕ). next_by (makes sound l send) (place + k)) used)
       (said ∙ is.0) is.1
 
 -- ---- a link that stands where its four numbers say

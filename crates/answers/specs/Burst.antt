@@ -1,12 +1,10 @@
 -- A burst (R340 to R343): the calls of some events, one after the other, on a link that lies in the caller's arrays; their answers are laid
 -- as rows into a lent buffer. Whether the link is sound is decided once. Demands 1 and 2.
-use Rattle.std.specs.Prelude.{Bool, true, false, List, [], ◌∷◌, ◌++◌, ◌≡◌, ℕ, zero, suc, ◌+◌, ◌/◌, length, drop, get_or}
-use Rattle.checks.specs.declared.Verdict.{Verdict}
-use Rattle.checks.specs.declared.Verdict.TheVariants.{Passed, Refused}
-use Rattle.checks.specs.Check.{Exactly}
-use Rattle.plan.specs.declared.EventRead.{EventRead}
-use Rattle.plan.specs.declared.EventRead.TheVariants.{NoMore, Arrive, SendNext, Fault}
-use Rattle.plan.specs.Event.{used_of, event_at}
+use Rattle.plan.specs.declared.event.Event.TheVariants.{Arrive, SendNext}
+use Rattle.checks.specs.declared.Refusal.TheVariants.{NotSound}
+use Rattle.std.specs.Prelude.{Bool, true, false, List, [], ◌∷◌, ◌++◌, ◌≡◌, ℕ, zero, suc, ◌+◌, ◌/◌, length, drop, get_or, Ok, Err, Some, None}
+use Rattle.checks.specs.Check.{Exactly, Verdict, refusal_at}
+use Rattle.plan.specs.Event.{used_of, event_at, EventRead}
 use Rattle.shape.specs.Shape.{tree_in}
 use Rattle.state.specs.declared.Link.{Link}
 use Rattle.state.specs.Queue.{Shaped}
@@ -60,16 +58,16 @@ made_first m rest = record { made = m ∷ rest.made; link = rest.link; place = r
 
 -- an event on a sound link: a call, and those after the bytes that it used; or the input ends, or its record is malformed (R340, R342)
 abbrev pub made_by : EventRead → Link → ℕ → (Link → ℕ → CallsMade) → CallsMade
-made_by NoMore l place later = none_made l place Passed
-made_by (Arrive a) l place later =
+made_by (Ok None) l place later = none_made l place (Ok tt)
+made_by (Ok (Some (Arrive a))) l place later =
     let m = makes true l (arrival a.class (packet_in a)) in
-    made_first m (later (link_left m) (place + used_of (Arrive a)))
-made_by SendNext l place later = let m = makes true l send in made_first m (later (link_left m) (place + used_of SendNext))
-made_by (Fault n p) l place later = none_made l place (Refused n p)
+    made_first m (later (link_left m) (place + used_of (Ok (Some (Arrive a)))))
+made_by (Ok (Some SendNext)) l place later = let m = makes true l send in made_first m (later (link_left m) (place + used_of (Ok (Some SendNext))))
+made_by (Err e) l place later = none_made l place (Err e)
 
 -- the calls of the events from a place on, so many at most (R340, R342)
 unfoldable pub calls_from : ℕ → Link → List ℕ → ℕ → CallsMade
-calls_from zero l input place = none_made l place Passed
+calls_from zero l input place = none_made l place (Ok tt)
 calls_from (suc n) l input place = made_by (event_at (drop place input) place) l place (λ after next. calls_from n after input next)
 
 -- ---- a burst
@@ -77,7 +75,7 @@ calls_from (suc n) l input place = made_by (event_at (drop place input) place) l
 -- as many calls as the buffer has room for rows; 11 on a record that is not sound, and then none is made (R340, R343)
 abbrev pub burst_of : Bool → Link → List ℕ → ℕ → List ℕ → CallsMade
 burst_of true l input place before = calls_from (length before / 8) l input place
-burst_of false l input place before = none_made l 0 (Refused 11 0)
+burst_of false l input place before = none_made l 0 (Err (refusal_at NotSound 0))
 
 -- the answer counts the calls (R342)
 abbrev pub end_of : CallsMade → BurstEnd

@@ -1,12 +1,10 @@
 -- What the inner steps of a run without text say; no rule of its own.
-use Rattle.std.specs.Prelude.{Bool, true, false, cond, List, ◌≡◌, ℕ, ◌+◌, ◌/◌, length, drop}
-use Rattle.checks.specs.declared.Verdict.{Verdict}
-use Rattle.checks.specs.declared.Verdict.TheVariants.{Passed, Refused}
-use Rattle.checks.specs.Check.{Exactly}
+use Rattle.plan.specs.declared.event.Event.TheVariants.{Arrive, SendNext}
+use Rattle.checks.specs.declared.Refusal.TheVariants.{NotSound, NothingWaits}
+use Rattle.std.specs.Prelude.{Bool, true, false, cond, List, ◌≡◌, ℕ, ◌+◌, ◌/◌, length, drop, Ok, Err, Some, None}
+use Rattle.checks.specs.Check.{Exactly, Verdict, refusal_at}
 use Rattle.plan.specs.declared.Arrived.{Arrived}
-use Rattle.plan.specs.declared.EventRead.{EventRead}
-use Rattle.plan.specs.declared.EventRead.TheVariants.{NoMore, Arrive, SendNext, Fault}
-use Rattle.plan.specs.Event.{used_of, event_at}
+use Rattle.plan.specs.Event.{used_of, event_at, EventRead}
 use Rattle.state.specs.declared.Link.{Link}
 use Rattle.state.specs.Mark.{since}
 use Rattle.state.specs.Queue.{Shaped}
@@ -16,6 +14,7 @@ use Rattle.digits.specs.Laid.{LaidAt}
 use Rattle.steps.specs.declared.Stand.{Stand}
 use Rattle.steps.specs.declared.Went.{Went}
 use Rattle.run.specs.Event.{packet_in}
+use Rattle.answers.specs.declared.Kind.TheVariants.{Send}
 use Rattle.answers.specs.declared.Reply.{Reply}
 use Rattle.answers.specs.declared.CallsDone.{CallsDone}
 use Rattle.answers.specs.declared.event.Heard.{Heard}
@@ -33,13 +32,13 @@ ArrivesAs sound l a r after =
 
 -- why a send sends nothing
 abbrev pub why_nothing : Bool → Verdict
-why_nothing true = Refused 15 0
-why_nothing false = Refused 11 0
+why_nothing true = Err (refusal_at NothingWaits 0)
+why_nothing false = Err (refusal_at NotSound 0)
 
 -- a send: what the step gives has its reply, and the link after it
 abbrev pub send_reply : Verdict → ℕ → ℕ → ℕ → ℕ → ℕ → Reply
 send_reply verdict class length tag waited rounds = record {
-  kind = 17;
+  kind = Send;
   verdict = verdict;
   class = class;
   length = length;
@@ -51,7 +50,7 @@ send_reply verdict class length tag waited rounds = record {
 abbrev pub went_replies : Bool → Went → Reply
 went_replies sound w =
     cond w.some
-    (send_reply Passed w.class w.packet.length w.packet.tag (since w.stand.charged w.packet.mark) w.rounds)
+    (send_reply (Ok tt) w.class w.packet.length w.packet.tag (since w.stand.charged w.packet.mark) w.rounds)
     (send_reply (why_nothing sound) 0 0 0 0 0)
 
 abbrev pub DepartsAs : Bool → Link → Went → Link → Type 0
@@ -82,10 +81,10 @@ abbrev pub last_next : Verdict → Link → ℕ → Next
 last_next verdict l place = record { reply = last_reply verdict; more = false; link = l; place = place }
 
 abbrev pub next_gives : Bool → Link → ℕ → EventRead → Next
-next_gives sound l place NoMore = last_next Passed l place
-next_gives sound l place (Arrive a) = next_by (makes sound l (arrival a.class (packet_in a))) (place + used_of (Arrive a))
-next_gives sound l place SendNext = next_by (makes sound l send) (place + used_of SendNext)
-next_gives sound l place (Fault n p) = last_next (Refused n p) l place
+next_gives sound l place (Ok None) = last_next (Ok tt) l place
+next_gives sound l place (Ok (Some (Arrive a))) = next_by (makes sound l (arrival a.class (packet_in a))) (place + used_of (Ok (Some (Arrive a))))
+next_gives sound l place (Ok (Some SendNext)) = next_by (makes sound l send) (place + used_of (Ok (Some SendNext)))
+next_gives sound l place (Err e) = last_next (Err e) l place
 
 -- an event at a place, on a link of which it is told whether it is sound: what it gives, and the link after it is as sound as before
 pub record Hears (sound : Bool) (l : Link) (input : List ℕ) (place : ℕ) (r : Heard) (after : Link) : Type 0 where
@@ -103,7 +102,7 @@ Laid false reply at before r out = (r ≡ at) × (out ≡ before)
 
 -- what ended the calls
 abbrev pub ended_by : Bool → Verdict → Verdict
-ended_by true verdict = Passed
+ended_by true verdict = Ok tt
 ended_by false verdict = verdict
 
 -- calls on a sound link: the rows are laid from the buffer's start on, and the link is the one that the last call left

@@ -5,8 +5,9 @@ ghost use Rattle.calls.specs.Arrival.{Arrives, arrival_leaves};
 ghost use Rattle.calls.specs.Send.{Sends, send_leaves};
 ghost use Rattle.answers.specs.Burst.{link_in};
 
-use crate::{four_of, lent_arrays, stand_in};
+use crate::{four_of, stand_in};
 use calls::{Arrival, Departure};
+use checks::Refusal;
 use state::Packet;
 
 // An arrival.
@@ -33,9 +34,6 @@ pub fn arrive(
 {
     let mut children = [0u64; 64];
     let at = stand_in(stand);
-    lent_arrays::known(
-        balance, residual, start, held, lengths, tags, marks, packets, bytes,
-    );
     let sound = sound::is_sound_at(
         shape,
         at.size,
@@ -79,9 +77,6 @@ pub fn send(
     let mut children = [0u64; 64];
     let mut kept = [0u32; 64];
     let from = stand_in(stand);
-    lent_arrays::known(
-        balance, residual, start, held, lengths, tags, marks, packets, bytes,
-    );
     if !sound::is_sound_at(
         shape,
         from.size,
@@ -96,7 +91,7 @@ pub fn send(
         bytes,
         &mut children,
     ) {
-        return fields::refused(checks::NOT_SOUND);
+        return fields::refused(Refusal::NotSound);
     }
     let went = steps::once::send(
         shape, &children, &mut kept, from, balance, residual, start, held, lengths, tags, marks,

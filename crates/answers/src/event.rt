@@ -11,9 +11,10 @@ ghost use Rattle.steps.specs.Rounds.{Kept};
 ghost use Rattle.answers.specs.Reply.{last_reply};
 ghost use Rattle.answers.specs.Steps.{arrived_with, ArrivesAs, why_nothing, went_replies, DepartsAs, heard_by, Told, Hears};
 
-use crate::Reply;
-use checks::Verdict;
+use crate::{Kind, Reply};
+use checks::{Refusal, Refused, Verdict};
 use plan::EventRead;
+use plan::event::Event;
 use state::Packet;
 use state::mark::since;
 use steps::{Stand, Went};
@@ -47,7 +48,7 @@ pub fn last_reply(verdict: Verdict) -> Reply
     ensures { result ≡ last_reply verdict }
 {
     Reply {
-        kind: 0,
+        kind: Kind::Last,
         verdict,
         class: 0,
         length: 0,
@@ -86,7 +87,7 @@ fn arrives(
 {
     let answer = steps::arrive(
         sound,
-        class as usize,
+        usize::from(class),
         Packet { length: len, tag },
         shape,
         start,
@@ -100,11 +101,11 @@ fn arrives(
     );
     let verdict = answer.verdict;
     Reply {
-        kind: 16,
+        kind: Kind::Arrival,
         verdict,
-        class: class as u64,
-        length: len as u64,
-        tag: tag as u64,
+        class: u64::from(class),
+        length: u64::from(len),
+        tag: u64::from(tag),
         bytes: answer.bytes.0,
         rounds: 0,
     }
@@ -153,9 +154,9 @@ fn refusal(sound: bool) -> Verdict
     ensures { result ≡ why_nothing sound }
 {
     if sound {
-        return Verdict::Refused(checks::NOTHING_WAITS, 0);
+        return Err(Refused(Refusal::NothingWaits, 0));
     }
-    Verdict::Refused(checks::NOT_SOUND, 0)
+    Err(Refused(Refusal::NotSound, 0))
 }
 
 // The reply of a send: the packet that goes, or why none does.
@@ -164,7 +165,7 @@ fn replied(sound: bool, went: Went) -> Reply
 {
     if !went.some {
         return Reply {
-            kind: 17,
+            kind: Kind::Send,
             verdict: refusal(sound),
             class: 0,
             length: 0,
@@ -175,13 +176,13 @@ fn replied(sound: bool, went: Went) -> Reply
     }
     let packet = went.packet;
     let stand = went.stand;
-    let verdict = Verdict::Passed;
+    let verdict = Ok(());
     Reply {
-        kind: 17,
+        kind: Kind::Send,
         verdict,
         class: went.class as u64,
-        length: packet.length as u64,
-        tag: packet.tag as u64,
+        length: u64::from(packet.length),
+        tag: u64::from(packet.tag),
         bytes: since(stand.charged, packet.mark),
         rounds: went.rounds as u64,
     }
@@ -223,8 +224,8 @@ pub fn event(
     let read = plan::event_at(input, place);
     let after = place + plan::used(read);
     match read {
-        EventRead::NoMore => outcome(sound, last_reply(Verdict::Passed), false, place, stand),
-        EventRead::Arrive(a) => {
+        Ok(None) => outcome(sound, last_reply(Ok(())), false, place, stand),
+        Ok(Some(Event::Arrive(a))) => {
             let reply = arrives(
                 sound,
                 a.class,
@@ -242,19 +243,13 @@ pub fn event(
             );
             outcome(sound, reply, true, after, stand)
         }
-        EventRead::SendNext => {
+        Ok(Some(Event::SendNext)) => {
             let went = departs(
                 sound, shape, children, kept, stand, balance, residual, start, held, lengths, tags,
                 marks, packets, bytes,
             );
             outcome(sound, replied(sound, went), true, after, went.stand)
         }
-        EventRead::Fault(n, p) => outcome(
-            sound,
-            last_reply(Verdict::Refused(n, p)),
-            false,
-            place,
-            stand,
-        ),
+        Err(refused) => outcome(sound, last_reply(Err(refused)), false, place, stand),
     }
 }

@@ -8,25 +8,45 @@ pub mod event;
 pub mod lent_arrays;
 pub mod row;
 
-ghost use Rattle.std.specs.Prelude.{true, ◌&&◌, ◌≡◌, ◌+◌, ◌≤◌, leb, length};
+ghost use Rattle.checks.specs.declared.Refusal.TheVariants.{NotSound};
+ghost use Rattle.checks.specs.Check.{refusal_at};
+ghost use Rattle.std.specs.Prelude.{true, ◌&&◌, ◌≡◌, ◌+◌, ◌≤◌, leb, length, Err};
 ghost use Rattle.shape.specs.Shape.{tree_in, Families};
 ghost use Rattle.steps.specs.Fields.{link_at};
-ghost use Rattle.checks.specs.declared.Verdict.TheVariants.{Refused};
 ghost use Rattle.answers.specs.Burst.{stand_in, four_of, link_in, Bursts};
+ghost use Rattle.answers.specs.Reply.{kind_number};
 ghost use Rattle.answers.specs.Steps.{Laid, ended_by, Told, Served};
 
-use checks::Verdict;
+use checks::{Refusal, Refused, Verdict};
 use event::Heard;
 use row::ROW;
 use state::Link;
 use steps::Stand;
 use units::Bytes;
 
-// The answer of a call: 16 for an arrival, 17 for a send; its verdict; the class, the length and the tag of the packet that came or goes;
-// of an arrival the charged bytes then waiting in its leaf, of a send what its packet waited; the rounds opened.
+// The kind of the event that a reply answers, by its number in a row (R339): the last event is no call, for the input ends or its record is
+// malformed.
+#[derive(Clone, Copy, Debug, PartialEq, Eq)]
+pub enum Kind {
+    Last = 0,
+    Arrival = 16,
+    Send = 17,
+}
+
+impl Kind {
+    // Its number.
+    pub fn number(self) -> u64
+        ensures { result ≡ kind_number self }
+    {
+        self as u64
+    }
+}
+
+// The answer of a call: its kind; its verdict; the class, the length and the tag of the packet that came or goes; of an arrival the charged
+// bytes then waiting in its leaf, of a send what its packet waited; the rounds opened.
 #[derive(Clone, Copy)]
 pub struct Reply {
-    pub kind: u64,
+    pub kind: Kind,
     pub verdict: Verdict,
     pub class: u64,
     pub length: u64,
@@ -37,6 +57,7 @@ pub struct Reply {
 
 // What a burst gives: whether all is well, or the number and the place of what ended it; the place that it came to, and how many calls it
 // made.
+// R342: a burst that a malformed record ends tells how far it came; so these stand beside the verdict, and not in a Result.
 #[derive(Drop)]
 pub struct BurstEnd {
     pub verdict: Verdict,
@@ -98,7 +119,7 @@ fn make_calls(
         held.new lengths.new tags.new marks.new packets.new bytes.new) }
 {
     let mut kept = [0u32; 64];
-    let first = event::last_reply(Verdict::Passed);
+    let first = event::last_reply(Ok(()));
     let mut run = event::outcome(true, first, true, place, stand);
     let mut laid: usize = 0;
     while takes_one(run.more, laid, out.len(), ROW) {
@@ -116,7 +137,7 @@ fn ended(run: Heard) -> Verdict
     ensures { result ≡ ended_by run.more run.reply.verdict }
 {
     if run.more {
-        return Verdict::Passed;
+        return Ok(());
     }
     let reply = run.reply;
     reply.verdict
@@ -146,10 +167,10 @@ pub(crate) fn four_of(stand: Stand) -> [u64; 4]
 
 // A burst on a record that is not sound: none is made.
 fn no_burst() -> BurstEnd
-    ensures { result ≡ record { verdict = Refused 11 0; place = 0; replies = 0 } }
+    ensures { result ≡ record { verdict = Err (refusal_at NotSound 0); place = 0; replies = 0 } }
 {
     BurstEnd {
-        verdict: Verdict::Refused(checks::NOT_SOUND, 0),
+        verdict: Err(Refused(Refusal::NotSound, 0)),
         place: 0,
         replies: 0,
     }
@@ -180,9 +201,6 @@ pub fn burst(
 {
     let mut children = [0u64; 64];
     let from = stand_in(stand);
-    lent_arrays::known(
-        balance, residual, start, held, lengths, tags, marks, packets, bytes,
-    );
     if !sound::is_sound_at(
         shape,
         from.size,

@@ -2,24 +2,20 @@
 // these give the rates. No function asks anything but `line`, whose class is a number of the table.
 #![tactic(auto)]
 
-ghost use Rattle.std.specs.Prelude.{◌≡◌, ◌<◌};
-ghost use Rattle.checks.specs.declared.Verdict.TheVariants.{Passed};
-ghost use Rattle.words.specs.declared.Pair.TheVariants.{Asks};
+ghost use Rattle.std.specs.Prelude.{◌≡◌, ◌<◌, Ok};
 ghost use Rattle.words.specs.Word.{word_number, pair_of};
-ghost use Rattle.asked.specs.Asked.{not_asked, begun_by, heeded};
+ghost use Rattle.asked.specs.Asked.{begun_by, requested, heeded};
 ghost use Rattle.asked.specs.Answer.{refused_with, last_of, OfPlan, Answered, line_of};
 
 use allot::Allotted;
-use checks::Verdict;
+use checks::{Refused, Verdict};
 use lines::Line;
 use plan::PlanRead;
 use tree::Tree;
-use words::{Number, Pair};
 
-// What the words so far ask: whether each was taken, the capacity, and a request for each class number.
+// What the words so far ask: the capacity, and a request for each class number.
 #[derive(Drop)]
 pub struct Asked {
-    pub good: bool,
     pub capacity: u64,
     pub requests: [u64; Tree::CLASSES],
 }
@@ -31,64 +27,44 @@ pub struct Answer {
     pub allotted: Allotted,
 }
 
-// No word, or a word that is not taken.
-pub fn nothing() -> Asked
-    ensures { result ≡ not_asked }
-{
-    let requests = [0u64; Tree::CLASSES];
-    Asked {
-        good: false,
-        capacity: 0,
-        requests,
-    }
-}
-
-// The first word: the capacity.
-pub fn open(word: &[u8]) -> Asked
+// The first word: the capacity; nothing is asked where it is not taken.
+pub fn open(word: &[u8]) -> Option<Asked>
     ensures { result ≡ begun_by (word_number word.now) }
 {
-    let number = words::read_number(word);
-    match number {
-        Number::Is(capacity) => {
-            let requests = [capacity; Tree::CLASSES];
-            Asked {
-                good: true,
-                capacity,
-                requests,
-            }
-        }
-        Number::No => nothing(),
-    }
+    let Some(capacity) = words::read_number(word) else {
+        return None;
+    };
+    let requests = [capacity; Tree::CLASSES];
+    Some(Asked { capacity, requests })
 }
 
 // A class requests something else.
 fn requested(mut asked: Asked, class: usize, request: u64) -> Asked
     requires { class < 64 }
-    ensures { result ≡ heeded asked (Asks class request) }
+    ensures { result ≡ requested asked class request }
 {
     asked.requests[class] = request;
     asked
 }
 
-// Each other word: a class and its request.
-pub fn heed(asked: Asked, word: &[u8]) -> Asked
+// Each other word: a class and its request; nothing is asked where it is not taken.
+pub fn heed(asked: Asked, word: &[u8]) -> Option<Asked>
     ensures { result ≡ heeded asked (pair_of word.now) }
 {
-    let pair = words::read_pair(word);
-    match pair {
-        Pair::Asks(class, request) => requested(asked, class, request),
-        Pair::Other => nothing(),
+    match words::read_pair(word) {
+        Some((class, request)) => Some(requested(asked, class, request)),
+        None => None,
     }
 }
 
 // A refusal.
-fn refused(n: u8, p: usize) -> Answer
-    ensures { result ≡ refused_with n p }
+fn refuse(refused: Refused) -> Answer
+    ensures { result ≡ refused_with refused }
 {
     let requests = [0u64; Tree::CLASSES];
     let gets = [0u64; Tree::CLASSES];
     let unallotted = [0u64; Tree::CLASSES];
-    let verdict = Verdict::Refused(n, p);
+    let verdict = Err(refused);
     let allotted = Allotted {
         verdict,
         requests,
@@ -103,14 +79,14 @@ fn last_of(verdict: Verdict, count: usize) -> usize
     ensures { result ≡ last_of verdict count }
 {
     match verdict {
-        Verdict::Passed => count,
-        Verdict::Refused(_, _) => 0,
+        Ok(()) => count,
+        Err(_) => 0,
     }
 }
 
 // The rates of a tree.
 fn of_tree(read: PlanRead, capacity: u64, requests: [u64; Tree::CLASSES]) -> Answer
-    ensures { OfPlan Passed read capacity requests result }
+    ensures { OfPlan (Ok tt) read capacity requests result }
 {
     let tree = read.tree;
     let allotted = allot::rates(tree, capacity, requests);
@@ -125,8 +101,8 @@ fn of_plan(read: PlanRead, capacity: u64, requests: [u64; Tree::CLASSES]) -> Ans
 {
     let verdict = read.verdict;
     match verdict {
-        Verdict::Passed => of_tree(read, capacity, requests),
-        Verdict::Refused(n, p) => refused(n, p),
+        Ok(()) => of_tree(read, capacity, requests),
+        Err(refused) => refuse(refused),
     }
 }
 
@@ -136,8 +112,8 @@ pub fn rates_of(input: &[u8], capacity: u64, requests: [u64; Tree::CLASSES]) -> 
 {
     let long = checks::input_length(input.len());
     match long {
-        Verdict::Passed => of_plan(plan::read_plan(input), capacity, requests),
-        Verdict::Refused(n, p) => refused(n, p),
+        Ok(()) => of_plan(plan::read_plan(input), capacity, requests),
+        Err(refused) => refuse(refused),
     }
 }
 
@@ -149,7 +125,7 @@ pub fn line(answer: Answer, k: usize) -> Line
     let a = answer.allotted;
     let verdict = a.verdict;
     match verdict {
-        Verdict::Passed => Line::Rate(k as u64, a.requests[k], a.gets[k], a.unallotted[k]),
-        Verdict::Refused(n, p) => Line::Stop(n as u64, p as u64),
+        Ok(()) => Line::Rate(k as u64, a.requests[k], a.gets[k], a.unallotted[k]),
+        Err(refused) => Line::Stop(refused.0.number() as u64, refused.1 as u64),
     }
 }

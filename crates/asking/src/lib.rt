@@ -63,20 +63,14 @@ fn with_weight(sum: Weight, weight: Weight, on: bool) -> Weight
     requires { sum.0 + weight.0 < 2 ^ 32 }
     ensures { result.0 ≡ sum.0 + cond on weight.0 0 }
 {
-    if on {
-        return sum.plus(weight);
-    }
-    sum
+    if on { sum.plus(weight) } else { sum }
 }
 
 // Whether a class whose parent is q is an active child of class p.
 fn counts(q: usize, p: usize, on: bool) -> bool
     ensures { result ≡ (eqb q p && on) }
 {
-    if q == p {
-        return on;
-    }
-    false
+    q == p && on
 }
 
 // The weight sum of the active children of class p.
@@ -84,13 +78,10 @@ fn children_sum(shape: &[u64; 195], active: u64, p: usize) -> Weight
     requires { PlanRules (tree_in shape.now) }
     ensures { result.0 ≡ weight_sum (tree_in shape.now) active p }
 {
-    let last = shape::count(shape);
     let mut sum = Weight(0);
-    let mut i: usize = 1;
-    while i <= last {
+    for i in 1..shape::count(shape) + 1 {
         let on = counts(shape::parent(shape, i), p, sets::has(active, i));
         sum = with_weight(sum, shape::weight(shape, i), on);
-        i += 1;
     }
     sum
 }
@@ -101,9 +92,10 @@ fn own_sum(leaf: bool, shape: &[u64; 195], active: u64, i: usize) -> Weight
     ensures { result.0 ≡ weight_sum (tree_in shape.now) active i }
 {
     if leaf {
-        return Weight(0);
+        Weight(0)
+    } else {
+        children_sum(shape, active, i)
     }
-    children_sum(shape, active, i)
 }
 
 // Class i takes its weight times its parent's quota, and its parent's balance falls by it.

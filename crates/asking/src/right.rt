@@ -1,6 +1,6 @@
 // Whether the three clauses on who has asked hold of a record, any record whose tree obeys the plan rules. Named for specs/Right.
 // Serves demand 1: number 11.
-ghost use Rattle.std.specs.Prelude.{◌≡◌, ◌&&◌, ◌*◌, leb, ltb};
+ghost use Rattle.std.specs.Prelude.{◌≡◌, ◌&&◌, ◌*◌, leb};
 ghost use Rattle.checks.specs.Check.{Exactly};
 ghost use Rattle.tree.specs.Rules.{PlanRules};
 ghost use Rattle.published.specs.Second.{means};
@@ -8,7 +8,7 @@ ghost use Rattle.asking.specs.Right.{FlagsRight, YetToAsk, AskedRight};
 
 use active::weight_sums;
 use published::Second;
-use tree::{Tree, wide};
+use tree::Tree;
 use units::Weight;
 
 // What the clauses read of one class.
@@ -27,10 +27,7 @@ pub struct Flags {
 fn can_pay(owed: Weight, quota: u64, balance: u64) -> bool
     ensures { result ≡ leb (owed.0 * quota) balance }
 {
-    if owed.0 == 0 {
-        return true;
-    }
-    quota <= balance / owed.0 as u64
+    owed.0 == 0 || quota <= balance / owed.0 as u64
 }
 
 // The clauses at one class.
@@ -38,41 +35,17 @@ fn flags_right(v: Flags) -> bool
     ensures { Exactly result (FlagsRight v) }
 {
     if v.asked {
-        if !v.pays {
-            return false;
-        }
-        if !v.on {
-            return true;
-        }
-        if !v.class {
-            return true;
-        }
-        return v.up;
+        v.pays && (!v.on || !v.class || v.up)
+    } else {
+        !(v.leaf && v.on && v.behind)
     }
-    if !v.leaf {
-        return true;
-    }
-    if !v.on {
-        return true;
-    }
-    !v.behind
 }
 
 // Is the number that of a class?
 fn is_class(i: usize, count: usize) -> bool
     ensures { result ≡ (leb 1 i && leb i count) }
 {
-    if i < 1 {
-        return false;
-    }
-    i <= count
-}
-
-// Is the class below the place?
-fn is_behind(i: usize, place: usize) -> bool
-    ensures { result ≡ ltb i place }
-{
-    i < place
+    1 <= i && i <= count
 }
 
 // Who is active and has no quota yet.
@@ -95,24 +68,22 @@ pub fn asked_right(second: Second) -> bool
     let shape = shape::shape_of(tree);
     let owed = weight_sums(&shape, yet_to_ask(link.round.active, asked));
     let parent = tree.parent;
-    let mut i: usize = 0;
-    while i < Tree::CLASSES {
+    for i in 0..Tree::CLASSES {
         let a = accounts[i];
         let o = owed[i];
-        let p = wide(parent[i]);
+        let p = usize::from(parent[i]);
         let v = Flags {
             class: is_class(i, tree.count),
             leaf: sets::has(tree.leaves, i),
             on: sets::has(link.round.active, i),
             asked: sets::has(asked, i),
             up: sets::has(asked, p),
-            behind: is_behind(i, link.round.place),
+            behind: i < link.round.place,
             pays: can_pay(o, quotas[i], a.balance.0),
         };
         if !flags_right(v) {
             return false;
         }
-        i += 1;
     }
     true
 }

@@ -5,9 +5,9 @@ use mathlib.Core.List.{List, [], ◌++◌}
 use mathlib.Core.Path.{◌≡◌, refl, sym, ap, subst, ◌∙◌}
 use Prim.Native.Nat.{ℕ, zero, suc, ◌/◌}
 use lib.ListN.{length, get_or, drop}
-use Rattle.plan.specs.declared.EventRead.{EventRead}
-use Rattle.plan.specs.declared.EventRead.TheVariants.{NoMore, Arrive, SendNext, Fault}
-use Rattle.plan.specs.Event.{event_at}
+use Rattle.plan.specs.declared.event.Event.TheVariants.{Arrive, SendNext}
+use Rattle.std.specs.Prelude.{Ok, Err, Some, None}
+use Rattle.plan.specs.Event.{event_at, EventRead}
 use Rattle.state.specs.declared.Link.{Link}
 use Rattle.calls.specs.Run.{Made, last_link, Run}
 use Rattle.calls.proofs.Runs.{rules_run}
@@ -36,10 +36,10 @@ calls_left_lem (suc n) l input place = go (event_at (drop place input) place) (�
   where
     go : (e : EventRead) → ((x : Link) (to : ℕ) → last_link x (calls_from n x input to).made ≡ (calls_from n x input to).link)
         → last_link l (made_by e l place (λ x to. calls_from n x input to)).made ≡ (made_by e l place (λ x to. calls_from n x input to)).link
-    go NoMore rest = refl
-    go (Arrive a) rest = rest _ _
-    go SendNext rest = rest _ _
-    go (Fault k p) rest = refl
+    go (Ok None) rest = refl
+    go (Ok (Some (Arrive a))) rest = rest _ _
+    go (Ok (Some SendNext)) rest = rest _ _
+    go (Err _) rest = refl
 
 -- an exported burst is a run of the library too: its calls, their numbers laid in the buffer, how many they are, and the link that the last
 -- of them left (R349)

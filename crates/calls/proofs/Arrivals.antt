@@ -10,9 +10,10 @@ use lib.Dec.{leb}
 use lib.ListN.{length, get_or, set, length-append, get_or-append}
 use lib.Seq.{get_or-set_same, get_or-set_other, get_or_at}
 use borrow.Author.Tests.{leb-false, ltb-false, not-false}
-use Rattle.checks.specs.declared.Verdict.{Verdict}
-use Rattle.checks.specs.declared.Verdict.TheVariants.{Passed, Refused}
-use Rattle.checks.specs.Check.{check, first_broken, Exactly}
+use Rattle.checks.specs.declared.Refusal.TheVariants.{NotSound, NoLeaf, BadLength, Full}
+use Rattle.checks.specs.declared.Refusal.{Refusal}
+use Rattle.std.specs.Prelude.{Ok, Err}
+use Rattle.checks.specs.Check.{check, first_broken, Exactly, Verdict, refusal_at}
 use Rattle.checks.proofs.Laws.{not_both, not_true_and_false, refused_or_passed, decides, pass_over}
 use Rattle.checks.proofs.Laws.{none_broken, passed_parts, exactly_unique}
 use Rattle.units.specs.Cost.{cost_of}
@@ -44,37 +45,37 @@ use Rattle.calls.specs.Arrival.{arrival_of, Arrives}
 -- ---- what an arrival gives, by its checks
 
 -- on a record that is not sound the number is 11, whatever else is wrong
-pub unsound_number : (s : State) (i : ℕ) (p : Packet) → first_broken (arrival_checks false s i p) ≡ Refused 11 0
+pub unsound_number : (s : State) (i : ℕ) (p : Packet) → first_broken (arrival_checks false s i p) ≡ Err (refusal_at NotSound 0)
 unsound_number s i p = decides _ _ refl
 
 -- on a sound one, of a number that is no leaf, it is 12, whatever the length
-pub no_leaf_number : (s : State) (i : ℕ) (p : Packet) → is_leaf s.tree i ≡ false → first_broken (arrival_checks true s i p) ≡ Refused 12 i
+pub no_leaf_number : (s : State) (i : ℕ) (p : Packet) → is_leaf s.tree i ≡ false → first_broken (arrival_checks true s i p) ≡ Err (refusal_at NoLeaf i)
 unfolding no_leaf
 no_leaf_number s i p f = pass_over _ _ refl ∙ decides _ _ (rw f refl)
 
 -- of a leaf it is 13 where the length is out of range, then 14 where the queue is full, and otherwise it passes
 module _ (s : State) (i : ℕ) (p : Packet) (leaf : is_leaf s.tree i ≡ true) where
-  pub length_number : bad_length s i p ≡ true → first_broken (arrival_checks true s i p) ≡ Refused 13 i
+  pub length_number : bad_length s i p ≡ true → first_broken (arrival_checks true s i p) ≡ Err (refusal_at BadLength i)
   unfolding no_leaf
   length_number bad = pass_over _ _ refl ∙ pass_over _ _ (rw leaf refl) ∙ decides _ _ bad
 
-  pub full_number : bad_length s i p ≡ false → full s i ≡ true → first_broken (arrival_checks true s i p) ≡ Refused 14 i
+  pub full_number : bad_length s i p ≡ false → full s i ≡ true → first_broken (arrival_checks true s i p) ≡ Err (refusal_at Full i)
   unfolding no_leaf
   full_number good many = pass_over _ _ refl ∙ pass_over _ _ (rw leaf refl) ∙ pass_over _ _ good ∙ decides _ _ many
 
-  pub no_number : bad_length s i p ≡ false → full s i ≡ false → first_broken (arrival_checks true s i p) ≡ Passed
+  pub no_number : bad_length s i p ≡ false → full s i ≡ false → first_broken (arrival_checks true s i p) ≡ Ok tt
   unfolding no_leaf
   no_number good few = pass_over _ _ refl ∙ pass_over _ _ (rw leaf refl) ∙ pass_over _ _ good ∙ pass_over _ _ few ∙ none_broken
 
 -- what an arrival gives, by its verdict
-pub arrival_refused : (sound : Bool) (l : Link) (i : ℕ) (p : Packet) {n q : ℕ}
-    → first_broken (arrival_checks sound (meaning l) i p) ≡ Refused n q
-    → arrival_of sound l i p ≡ arrival_leaves (arrival_answer (Refused n q) 0) l
+pub arrival_refused : (sound : Bool) (l : Link) (i : ℕ) (p : Packet) {n : Refusal} {q : ℕ}
+    → first_broken (arrival_checks sound (meaning l) i p) ≡ Err (refusal_at n q)
+    → arrival_of sound l i p ≡ arrival_leaves (arrival_answer (Err (refusal_at n q)) 0) l
 unfolding arrival_of
 arrival_refused sound l i p e = ap (λ (v : Verdict). arrival_gives v l i p) e
 
-pub arrival_taken : (sound : Bool) (l : Link) (i : ℕ) (p : Packet) → first_broken (arrival_checks sound (meaning l) i p) ≡ Passed
-    → arrival_of sound l i p ≡ arrival_leaves (arrival_answer Passed (bytes_after (meaning l) i p))
+pub arrival_taken : (sound : Bool) (l : Link) (i : ℕ) (p : Packet) → first_broken (arrival_checks sound (meaning l) i p) ≡ Ok tt
+    → arrival_of sound l i p ≡ arrival_leaves (arrival_answer (Ok tt) (bytes_after (meaning l) i p))
     (put_last l i (marked_with l.totals.charged p))
 unfolding arrival_of
 arrival_taken sound l i p e = ap (λ (v : Verdict). arrival_gives v l i p) e
@@ -86,8 +87,8 @@ unfolding arrival_of
 arrival_verdict sound l i p = go (first_broken (arrival_checks sound (meaning l) i p))
   where
     go : (v : Verdict) → (arrival_gives v l i p).answer.verdict ≡ v
-    go Passed = refl
-    go (Refused n q) = refl
+    go (Ok _) = refl
+    go (Err _) = refl
 
 -- an arrival that is taken breaks none of the four numbers
 pub record Taken (sound : Bool) (s : State) (i : ℕ) (p : Packet) : Type 0 where
@@ -97,13 +98,13 @@ pub record Taken (sound : Bool) (s : State) (i : ℕ) (p : Packet) : Type 0 wher
   pub high : p.length ≤ longest_of s.tree i
   pub room : length (queue_at s i) < 32
 
-pub taken : (sound : Bool) (s : State) (i : ℕ) (p : Packet) → first_broken (arrival_checks sound s i p) ≡ Passed → Taken sound s i p
+pub taken : (sound : Bool) (s : State) (i : ℕ) (p : Packet) → first_broken (arrival_checks sound s i p) ≡ Ok tt → Taken sound s i p
 unfolding no_leaf bad_length full
 taken sound s i p e =
-    let a = passed_parts (check 11 (not sound) 0) _ e in
-    let b = passed_parts (check 12 (not (is_leaf s.tree i)) i) _ a.1 in
-    let d = passed_parts (check 13 (bad_length s i p) i) _ b.1 in
-    let f = passed_parts (check 14 (leb 32 (length (queue_at s i))) i) [] d.1 in
+    let a = passed_parts (check NotSound (not sound) 0) _ e in
+    let b = passed_parts (check NoLeaf (not (is_leaf s.tree i)) i) _ a.1 in
+    let d = passed_parts (check BadLength (bad_length s i p) i) _ b.1 in
+    let f = passed_parts (check Full (leb 32 (length (queue_at s i))) i) [] d.1 in
     let r = neither_true _ _ d.0 in
     record {
       state = not-false sound a.0;
@@ -119,8 +120,8 @@ pub no_leaf_refused : (sound : Bool) (l : Link) (i : ℕ) (p : Packet) → is_le
 unfolding arrival_of no_leaf
 no_leaf_refused sound l i p f = go (refused_or_passed (first_broken (arrival_checks sound (meaning l) i p)))
   where
-    go : (first_broken (arrival_checks sound (meaning l) i p) ≡ Passed)
-        ⊎ ((n : ℕ) × (q : ℕ) × (first_broken (arrival_checks sound (meaning l) i p) ≡ Refused n q))
+    go : (first_broken (arrival_checks sound (meaning l) i p) ≡ Ok tt)
+        ⊎ ((n : Refusal) × (q : ℕ) × (first_broken (arrival_checks sound (meaning l) i p) ≡ Err (refusal_at n q)))
         → arrival_gives (first_broken (arrival_checks sound (meaning l) i p)) l i p
         ≡ arrival_leaves (arrival_answer (first_broken (arrival_checks sound (meaning l) i p)) 0) l
     go (inl e) = absurd (not_true_and_false (taken sound (meaning l) i p e).leaf f)
@@ -230,10 +231,10 @@ arrival_means l i p shape sound leaf room =
     }) room
 
 -- an accepted arrival's class is one of the 64 class numbers
-pub taken_number : (s : State) (i : ℕ) (p : Packet) → Sound s → first_broken (arrival_checks true s i p) ≡ Passed → i < 64
+pub taken_number : (s : State) (i : ℕ) (p : Packet) → Sound s → first_broken (arrival_checks true s i p) ≡ Ok tt → i < 64
 taken_number s i p sound e = leaf_number s.tree i sound.fits.tree (taken true s i p e).leaf
 
-pub arrival_sound : (l : Link) (i : ℕ) (p : Packet) → Shaped l → SoundLink l → first_broken (arrival_checks true (meaning l) i p) ≡ Passed
+pub arrival_sound : (l : Link) (i : ℕ) (p : Packet) → Shaped l → SoundLink l → first_broken (arrival_checks true (meaning l) i p) ≡ Ok tt
     → SoundLink (put_last l i (marked_with l.totals.charged p))
 arrival_sound l i p shape sound e =
     let t = taken true (meaning l) i p e in
@@ -251,8 +252,8 @@ unfolding arrival_of
 arrival_shaped sound l i p shape = go (first_broken (arrival_checks sound (meaning l) i p))
   where
     go : (v : Verdict) → Shaped (arrival_gives v l i p).link
-    go Passed = shaped_put l i (marked_with l.totals.charged p) shape
-    go (Refused n q) = shape
+    go (Ok _) = shaped_put l i (marked_with l.totals.charged p) shape
+    go (Err _) = shape
 
 -- ---- the contract determines the answer
 
@@ -265,7 +266,7 @@ pub arrives_as : (l : Link) (i : ℕ) (p : Packet) (r : AfterArrival) → SoundL
 arrives_as l i p r sound x = x.answer ∙ ap (λ (s : Bool). arrival_of s l i p) (x.exactly.complete sound)
 
 -- an accepted arrival was on a sound record
-pub accepted_sound : (l : Link) (i : ℕ) (p : Packet) (r : AfterArrival) → Arrives l i p r → r.answer.verdict ≡ Passed → SoundLink l
+pub accepted_sound : (l : Link) (i : ℕ) (p : Packet) (r : AfterArrival) → Arrives l i p r → r.answer.verdict ≡ Ok tt → SoundLink l
 accepted_sound l i p r x accepted = x.exactly.sound (go x.sound refl)
   where
     go : (b : Bool) → x.sound ≡ b → b ≡ true
@@ -280,7 +281,7 @@ accepted_sound l i p r x accepted = x.exactly.sound (go x.sound refl)
 
 -- those that an accepted one answers are what the link after it counts at its leaf: one read
 pub bytes_read : (l : Link) (i : ℕ) (p : Packet) → length l.totals.bytes ≡ 64 → SoundLink l
-    → first_broken (arrival_checks true (meaning l) i p) ≡ Passed
+    → first_broken (arrival_checks true (meaning l) i p) ≡ Ok tt
     → get_or (put_last l i (marked_with l.totals.charged p)).totals.bytes i 0 ≡ bytes_after (meaning l) i p
 bytes_read l i p long sound passes =
     let t = taken true (meaning l) i p passes in
@@ -298,11 +299,11 @@ bytes_read l i p long sound passes =
     omega (arith, here, before, after)
 
 -- an accepted one answers those of its leaf's queue then
-module _ (l : Link) (i : ℕ) (p : Packet) (r : AfterArrival) (x : Arrives l i p r) (accepted : r.answer.verdict ≡ Passed) where
+module _ (l : Link) (i : ℕ) (p : Packet) (r : AfterArrival) (x : Arrives l i p r) (accepted : r.answer.verdict ≡ Ok tt) where
   on_sound : SoundLink l
   on_sound = accepted_sound l i p r x accepted
 
-  passes : first_broken (arrival_checks true (meaning l) i p) ≡ Passed
+  passes : first_broken (arrival_checks true (meaning l) i p) ≡ Ok tt
   passes =
       sym (arrival_verdict true l i p)
       ∙ ap (λ (a : AfterArrival). a.answer.verdict) (sym (arrives_as l i p r on_sound x))
@@ -313,10 +314,10 @@ module _ (l : Link) (i : ℕ) (p : Packet) (r : AfterArrival) (x : Arrives l i p
 
 -- on a record that is not sound every arrival gives 11 at 0, and the very record
 pub unsound_refused : (l : Link) (i : ℕ) (p : Packet) (r : AfterArrival) → (SoundLink l → ⊥) → Arrives l i p r
-    → r ≡ arrival_leaves (arrival_answer (Refused 11 0) 0) l
+    → r ≡ arrival_leaves (arrival_answer (Err (refusal_at NotSound 0)) 0) l
 unsound_refused l i p r not_sound x = x.answer ∙ go x.sound refl
   where
-    go : (b : Bool) → x.sound ≡ b → arrival_of x.sound l i p ≡ arrival_leaves (arrival_answer (Refused 11 0) 0) l
+    go : (b : Bool) → x.sound ≡ b → arrival_of x.sound l i p ≡ arrival_leaves (arrival_answer (Err (refusal_at NotSound 0)) 0) l
     go true e = absurd (not_sound (x.exactly.sound e))
     go false e = rw e (arrival_refused false l i p (unsound_number (meaning l) i p))
 
@@ -335,8 +336,8 @@ arrives_by l i p flag r shape exactly e = record {
       (go sound (refused_or_passed (first_broken (arrival_checks true (meaning l) i p))));
 }
   where
-    go : SoundLink l → (first_broken (arrival_checks true (meaning l) i p) ≡ Passed)
-        ⊎ ((n : ℕ) × (q : ℕ) × (first_broken (arrival_checks true (meaning l) i p) ≡ Refused n q))
+    go : SoundLink l → (first_broken (arrival_checks true (meaning l) i p) ≡ Ok tt)
+        ⊎ ((n : Refusal) × (q : ℕ) × (first_broken (arrival_checks true (meaning l) i p) ≡ Err (refusal_at n q)))
         → SoundLink (arrival_of true l i p).link
     go sound (inl passed) =
         subst (λ (a : AfterArrival). SoundLink a.link) (sym (arrival_taken true l i p passed))

@@ -4,9 +4,9 @@ use mathlib.Core.Bool.{Bool, true, false, not}
 use mathlib.Core.Path.{◌≡◌, refl, sym, ap, subst, ◌∙◌}
 use Prim.Native.Nat.{◌≤◌}
 use native.Mathlib.Omega.{arith}
-use Rattle.checks.specs.declared.Verdict.{Verdict}
-use Rattle.checks.specs.declared.Verdict.TheVariants.{Refused}
-use Rattle.checks.specs.Check.{check, first_broken, Exactly}
+use Rattle.checks.specs.declared.Refusal.TheVariants.{NotSound, NothingWaits}
+use Rattle.std.specs.Prelude.{Err}
+use Rattle.checks.specs.Check.{check, first_broken, Exactly, Verdict, refusal_at}
 use Rattle.checks.proofs.Laws.{not_both, pass_over, decides, exactly_unique}
 use Rattle.state.specs.declared.Link.{Link}
 use Rattle.state.specs.Queue.{Shaped}
@@ -23,15 +23,15 @@ use Rattle.calls.specs.Send.{departs, send_gives, send_of, Sends}
 
 -- ---- what a send gives, by its checks
 
-pub send_unsound : (l : Link) → send_of false l ≡ send_gives (Refused 11 0) l
+pub send_unsound : (l : Link) → send_of false l ≡ send_gives (Err (refusal_at NotSound 0)) l
 unfolding send_of
-send_unsound l = ap (λ (v : Verdict). send_gives v l) (decides (check 11 true 0) _ refl)
+send_unsound l = ap (λ (v : Verdict). send_gives v l) (decides (check NotSound true 0) _ refl)
 
-pub send_nothing : (l : Link) → some_waits (meaning l) ≡ false → send_of true l ≡ send_gives (Refused 15 0) l
+pub send_nothing : (l : Link) → some_waits (meaning l) ≡ false → send_of true l ≡ send_gives (Err (refusal_at NothingWaits 0)) l
 unfolding send_of
 send_nothing l none =
     ap (λ (v : Verdict). send_gives v l)
-    (pass_over (check 11 false 0) _ refl ∙ decides (check 15 (not (some_waits (meaning l))) 0) _ (ap not none))
+    (pass_over (check NotSound false 0) _ refl ∙ decides (check NothingWaits (not (some_waits (meaning l))) 0) _ (ap not none))
 
 -- while a packet waits, a send on a sound link sends one
 pub send_goes : (l : Link) → some_waits (meaning l) ≡ true → send_of true l ≡ departs l (trace_of (meaning l))
@@ -39,7 +39,7 @@ unfolding send_of first_broken
 send_goes l some = rw some
 
 -- 15 exactly when none waits
-pub nothing_exactly : (l : Link) → (send_of true l).answer.verdict ≡ Refused 15 0 → some_waits (meaning l) ≡ false
+pub nothing_exactly : (l : Link) → (send_of true l).answer.verdict ≡ Err (refusal_at NothingWaits 0) → some_waits (meaning l) ≡ false
 nothing_exactly l e = go (some_waits (meaning l)) refl
   where
     go : (b : Bool) → some_waits (meaning l) ≡ b → some_waits (meaning l) ≡ false
@@ -107,9 +107,9 @@ sends_by_lem l flag r shape exactly e = record {
 }
 
 -- on a link that is not sound a send gives 11 and the very same record
-pub unsound_sends_none : (l : Link) (r : AfterSend) → (SoundLink l → ⊥) → Sends l r → r ≡ send_gives (Refused 11 0) l
+pub unsound_sends_none : (l : Link) (r : AfterSend) → (SoundLink l → ⊥) → Sends l r → r ≡ send_gives (Err (refusal_at NotSound 0)) l
 unsound_sends_none l r not_sound x = x.answer ∙ go x.sound refl
   where
-    go : (b : Bool) → x.sound ≡ b → send_of x.sound l ≡ send_gives (Refused 11 0) l
+    go : (b : Bool) → x.sound ≡ b → send_of x.sound l ≡ send_gives (Err (refusal_at NotSound 0)) l
     go true e = absurd (not_sound (x.exactly.sound e))
     go false e = ap (λ (b : Bool). send_of b l) e ∙ send_unsound l

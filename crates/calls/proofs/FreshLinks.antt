@@ -7,7 +7,9 @@ use native.Mathlib.Decide.{dec_lt, ℕ_discrete}
 use native.Mathlib.Omega.{arith}
 use lib.ListN.{length, replicate, length-replicate, get_or-replicate, get_or-eq_default}
 use lib.Seq.{get_or-set_same, get_or-set_other}
-use Rattle.checks.specs.declared.Verdict.TheVariants.{Refused}
+use Rattle.checks.specs.declared.Refusal.TheVariants.{NotSound}
+use Rattle.checks.specs.Check.{refusal_at}
+use Rattle.std.specs.Prelude.{Err}
 use Rattle.checks.proofs.Laws.{not_true_and_false, exactly_unique}
 use Rattle.sets.proofs.Laws.{has_empty}
 use Rattle.tree.specs.declared.Tree.{Tree}
@@ -117,5 +119,5 @@ fresh_one_answer t a b x y =
 
 -- so every arrival on it gives 11 at 0
 pub none_refuses : (i : ℕ) (p : Packet) (r : AfterArrival) → Arrives no_link i p r → r
-    ≡ arrival_leaves (arrival_answer (Refused 11 0) 0) no_link
+    ≡ arrival_leaves (arrival_answer (Err (refusal_at NotSound 0)) 0) no_link
 none_refuses i p r = unsound_refused no_link i p r none_not_sound

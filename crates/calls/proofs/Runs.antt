@@ -6,9 +6,9 @@ use mathlib.Core.Path.{◌≡◌, refl, sym, ap, ap₂, subst, ◌∙◌}
 use Prim.Native.Nat.{ℕ, zero, suc, ◌<◌}
 use native.Mathlib.Omega.{arith}
 use lib.ListN.{length, take}
-use Rattle.checks.specs.declared.Verdict.{Verdict}
-use Rattle.checks.specs.declared.Verdict.TheVariants.{Passed, Refused}
-use Rattle.checks.specs.Check.{first_broken, Exactly}
+use Rattle.checks.specs.declared.Refusal.{Refusal}
+use Rattle.std.specs.Prelude.{Ok, Err}
+use Rattle.checks.specs.Check.{first_broken, Exactly, Verdict, refusal_at}
 use Rattle.checks.proofs.Laws.{exactly_yes, exactly_unique}
 use Rattle.state.specs.declared.Link.{Link}
 use Rattle.state.specs.declared.Packet.{Packet}
@@ -32,10 +32,10 @@ use Rattle.calls.proofs.Departures.{send_goes, send_shaped, send_means, sends_as
 
 -- on a sound link a refused arrival leaves the very link, and an accepted one a link that means the state with the packet last
 module _ (l : Link) (i : ℕ) (p : Packet) (a : AfterArrival) (sound : SoundLink l) (x : Arrives l i p a) where
-  pub left_refused : {n q : ℕ} → first_broken (arrival_checks true (meaning l) i p) ≡ Refused n q → a.link ≡ l
+  pub left_refused : {n : Refusal} {q : ℕ} → first_broken (arrival_checks true (meaning l) i p) ≡ Err (refusal_at n q) → a.link ≡ l
   left_refused e = ap (λ (r : AfterArrival). r.link) (arrives_as l i p a sound x ∙ arrival_refused true l i p e)
 
-  pub left_taken : first_broken (arrival_checks true (meaning l) i p) ≡ Passed → meaning a.link ≡ arrived (meaning l) i p
+  pub left_taken : first_broken (arrival_checks true (meaning l) i p) ≡ Ok tt → meaning a.link ≡ arrived (meaning l) i p
   left_taken e =
       let u = taken_number (meaning l) i p sound.state e in
       let t = taken true (meaning l) i p e in
@@ -79,8 +79,8 @@ unfolding send_of
 rounds_closed sound l = go (first_broken (send_checks sound (meaning l)))
   where
     go : (v : Verdict) → length (turns_by (send_gives v l).answer.verdict l) ≡ (send_gives v l).answer.rounds
-    go Passed = refl
-    go (Refused n q) = refl
+    go (Ok _) = refl
+    go (Err _) = refl
 
 -- ---- a run
 

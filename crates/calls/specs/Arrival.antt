@@ -1,8 +1,7 @@
 -- An arrival on any link record (R153 to R158, R162). Demands 1 and 2.
-use Rattle.std.specs.Prelude.{Bool, ◌||◌, not, List, [], ◌∷◌, ◌++◌, ◌≡◌, ℕ, leb, ltb, length}
-use Rattle.checks.specs.declared.Verdict.{Verdict}
-use Rattle.checks.specs.declared.Verdict.TheVariants.{Passed, Refused}
-use Rattle.checks.specs.Check.{Check, check, first_broken, Exactly}
+use Rattle.checks.specs.declared.Refusal.TheVariants.{NotSound, NoLeaf, BadLength, Full}
+use Rattle.std.specs.Prelude.{Bool, ◌||◌, not, List, [], ◌∷◌, ◌++◌, ◌≡◌, ℕ, leb, ltb, length, Ok, Err}
+use Rattle.checks.specs.Check.{Check, check, first_broken, Exactly, Verdict}
 use Rattle.tree.specs.Class.{longest_of, is_leaf}
 use Rattle.state.specs.declared.Link.{Link}
 use Rattle.state.specs.declared.Packet.{Packet}
@@ -28,7 +27,7 @@ full s class = leb 32 (length (queue_at s class))
 -- an arrival is checked in the order 11, 12, 13, 14; 11 at 0, the others at the class (R153 to R157)
 abbrev pub arrival_checks : Bool → State → ℕ → Packet → List Check
 arrival_checks sound s class p =
-    check 11 (not sound) 0 ∷ check 12 (no_leaf s class) class ∷ check 13 (bad_length s class p) class ∷ check 14 (full s class) class ∷ []
+    check NotSound (not sound) 0 ∷ check NoLeaf (no_leaf s class) class ∷ check BadLength (bad_length s class p) class ∷ check Full (full s class) class ∷ []
 
 -- an accepted packet waits last in its leaf's queue, marked with the running total, and nothing else changes: not even the active set
 -- (R144, R158, R309)
@@ -50,9 +49,9 @@ arrival_leaves answer link = record { answer = answer; link = link }
 -- a refused arrival gives the very same record, and 0 bytes; an accepted one puts the packet last (R158, R162, R163, R197, R283; `put_last`
 -- means `arrived`: proofs/Arrivals)
 abbrev pub arrival_gives : Verdict → Link → ℕ → Packet → AfterArrival
-arrival_gives Passed l class p =
-    arrival_leaves (arrival_answer Passed (bytes_after (meaning l) class p)) (put_last l class (marked_with l.totals.charged p))
-arrival_gives (Refused n q) l class p = arrival_leaves (arrival_answer (Refused n q) 0) l
+arrival_gives (Ok _) l class p =
+    arrival_leaves (arrival_answer (Ok tt) (bytes_after (meaning l) class p)) (put_last l class (marked_with l.totals.charged p))
+arrival_gives (Err e) l class p = arrival_leaves (arrival_answer (Err e) 0) l
 
 unfoldable pub arrival_of : Bool → Link → ℕ → Packet → AfterArrival
 arrival_of sound l class p = arrival_gives (first_broken (arrival_checks sound (meaning l) class p)) l class p

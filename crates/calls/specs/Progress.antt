@@ -1,6 +1,7 @@
 -- What a send does to the queues (R200): while a packet waits, a send on a sound state sends one. Demand 2.
-use Rattle.std.specs.Prelude.{true, false, ◌∷◌, ◌≡◌, ℕ, ◌+◌}
-use Rattle.checks.specs.declared.Verdict.TheVariants.{Passed, Refused}
+use Rattle.checks.specs.declared.Refusal.TheVariants.{NothingWaits}
+use Rattle.checks.specs.Check.{refusal_at}
+use Rattle.std.specs.Prelude.{true, false, ◌∷◌, ◌≡◌, ℕ, ◌+◌, Ok, Err}
 use Rattle.tree.specs.Class.{is_leaf}
 use Rattle.state.specs.declared.Link.{Link}
 use Rattle.units.specs.Cost.{cost_of}
@@ -19,7 +20,7 @@ packet_of d = record { length = d.length; tag = d.tag }
 -- a send sends: it passes, its class is a leaf of the plan, its packet is the first of that leaf's queue, which loses it, and no other
 -- queue changes (R200); its charge joins the running total, which it answers less the packet's mark (R310, R311)
 pub record SendsFirst (l : Link) (d : AfterSend) : Type 0 where
-  pub passes : d.answer.verdict ≡ Passed
+  pub passes : d.answer.verdict ≡ Ok tt
   pub leaf : is_leaf l.tree d.answer.class ≡ true
   pub packet : Waiting
   pub answered : packet_of d.answer ≡ unmarked packet
@@ -31,5 +32,5 @@ pub record SendsFirst (l : Link) (d : AfterSend) : Type 0 where
 -- while a packet waits, a send sends one; 15 exactly when none waits (R200)
 pub record Progress (l : Link) (d : AfterSend) : Type 0 where
   pub sends : some_waits (meaning l) ≡ true → SendsFirst l d
-  pub none : some_waits (meaning l) ≡ false → d.answer.verdict ≡ Refused 15 0
-  pub only_then : d.answer.verdict ≡ Refused 15 0 → some_waits (meaning l) ≡ false
+  pub none : some_waits (meaning l) ≡ false → d.answer.verdict ≡ Err (refusal_at NothingWaits 0)
+  pub only_then : d.answer.verdict ≡ Err (refusal_at NothingWaits 0) → some_waits (meaning l) ≡ false

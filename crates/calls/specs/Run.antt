@@ -1,8 +1,7 @@
 -- The calls on a link, what they answer, and a run: calls one after the other, each on the link that the last one left. What else speaks
 -- of a run, the bounded wait, the marked cases and the lines, is read off this. Demands 1 to 3.
-use Rattle.std.specs.Prelude.{Bool, List, [], ◌∷◌, ◌++◌, map, ℕ, get_or}
-use Rattle.checks.specs.declared.Verdict.{Verdict}
-use Rattle.checks.specs.declared.Verdict.TheVariants.{Passed, Refused}
+use Rattle.checks.specs.Check.{Verdict}
+use Rattle.std.specs.Prelude.{Bool, List, [], ◌∷◌, ◌++◌, map, ℕ, get_or, Ok, Err}
 use Rattle.state.specs.declared.Link.{Link}
 use Rattle.state.specs.declared.Packet.{Packet}
 use Rattle.state.specs.State.{State, meaning}
@@ -42,8 +41,8 @@ makes sound l send = made send (send_of sound l).answer (send_of sound l).link
 -- the rounds that closed in a call on a link, each with the round that opened in its place: those of the trace of a send that goes; no
 -- other call has any
 abbrev pub turns_by : Verdict → Link → List Turn
-turns_by Passed l = (trace_of (meaning l)).turns
-turns_by (Refused n q) l = []
+turns_by (Ok _) l = (trace_of (meaning l)).turns
+turns_by (Err _) l = []
 
 abbrev pub turns_in : Link → Made → List Turn
 turns_in l (made (arrival class p) answer after) = []

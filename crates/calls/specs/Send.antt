@@ -1,8 +1,7 @@
 -- A send on any link record (R153, R159 to R163). Demands 1 and 2.
-use Rattle.std.specs.Prelude.{Bool, not, List, [], ◌∷◌, ◌≡◌, ℕ, length}
-use Rattle.checks.specs.declared.Verdict.{Verdict}
-use Rattle.checks.specs.declared.Verdict.TheVariants.{Passed, Refused}
-use Rattle.checks.specs.Check.{Check, check, first_broken, Exactly}
+use Rattle.checks.specs.declared.Refusal.TheVariants.{NotSound, NothingWaits}
+use Rattle.std.specs.Prelude.{Bool, not, List, [], ◌∷◌, ◌≡◌, ℕ, length, Ok, Err}
+use Rattle.checks.specs.Check.{Check, check, first_broken, Exactly, Verdict}
 use Rattle.state.specs.declared.Link.{Link}
 use Rattle.state.specs.declared.Waiting.{Waiting}
 use Rattle.state.specs.Mark.{since}
@@ -17,12 +16,12 @@ use Rattle.calls.specs.declared.AfterSend.{AfterSend}
 
 -- a send is checked in the order 11, 15, both at 0; 15: no packet waits (R153, R159, R160)
 abbrev pub send_checks : Bool → State → List Check
-send_checks sound s = check 11 (not sound) 0 ∷ check 15 (not (some_waits s)) 0 ∷ []
+send_checks sound s = check NotSound (not sound) 0 ∷ check NothingWaits (not (some_waits s)) 0 ∷ []
 
 -- the answer: class, length, tag, the number of rounds opened in the call (R161), and the running total then, less the packet's mark (R311)
 abbrev pub goes : ℕ → Waiting → ℕ → ℕ → Departure
 goes class p rounds total = record {
-  verdict = Passed;
+  verdict = Ok tt;
   class = class;
   length = p.length;
   tag = p.tag;
@@ -46,8 +45,8 @@ departs l trace =
 
 -- a refused send gives the very same record (R162, R163, R197)
 abbrev pub send_gives : Verdict → Link → AfterSend
-send_gives Passed l = departs l (trace_of (meaning l))
-send_gives (Refused n q) l = send_leaves (refused_send (Refused n q)) l
+send_gives (Ok _) l = departs l (trace_of (meaning l))
+send_gives (Err e) l = send_leaves (refused_send (Err e)) l
 
 unfoldable pub send_of : Bool → Link → AfterSend
 send_of sound l = send_gives (first_broken (send_checks sound (meaning l))) l

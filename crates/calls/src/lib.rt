@@ -7,6 +7,7 @@ use state::{Link, Totals};
 use units::Bytes;
 
 // What a fresh link asked of a tree gives: a verdict and the link.
+// R163: the link of a refused one is the link of zeros; so it stands beside the verdict, and not in a Result.
 #[derive(Drop)]
 pub struct AfterFresh {
     pub verdict: Verdict,
@@ -14,6 +15,7 @@ pub struct AfterFresh {
 }
 
 // What an arrival answers: its verdict, and the charged bytes that wait in its leaf then, the new packet included; 0 where it is refused.
+// R163: in an answer that refuses every further number is 0; so they stand beside the verdict, and not in a Result.
 #[derive(Clone, Copy)]
 pub struct Arrival {
     pub verdict: Verdict,
@@ -29,6 +31,7 @@ pub struct AfterArrival {
 
 // What a send answers: a verdict, the packet that goes with its class, the rounds opened in the call, and the bytes charged on the link
 // from the packet's acceptance to its end. All numbers of a refused one are 0.
+// R163: in an answer that refuses every further number is 0; so they stand beside the verdict, and not in a Result.
 #[derive(Clone, Copy)]
 pub struct Departure {
     pub verdict: Verdict,
@@ -47,6 +50,7 @@ pub struct AfterSend {
 }
 
 // What the panel is told of a link: a verdict, and the totals of every class number, all 0 where it is refused.
+// R163: in an answer that refuses every further number is 0; so they stand beside the verdict, and not in a Result.
 #[derive(Drop)]
 pub struct PanelTotals {
     pub verdict: Verdict,

@@ -2,60 +2,71 @@
 use mathlib.Core.Bool.{Bool, true, false}
 use mathlib.Core.List.{List, [], ◌∷◌, ◌++◌}
 use mathlib.Core.Logic.{◌⊎◌, inl, inr}
-use mathlib.Core.Path.{◌≡◌, refl, sym, ap₂, ◌∙◌}
-use Prim.Native.Nat.{ℕ, zero, suc, ◌+◌, ◌≤◌, ◌<◌}
+use mathlib.Core.Path.{◌≡◌, refl, sym, ap, ap₂, ◌∙◌}
+use Prim.Native.Nat.{ℕ, zero, suc, ◌+◌, ◌-◌, ◌≤◌, ◌<◌}
 use native.Mathlib.Decide.{dec_le}
 use native.Mathlib.Omega.{arith}
-use Rattle.checks.specs.declared.Verdict.{Verdict}
-use Rattle.checks.specs.declared.Verdict.TheVariants.{Passed, Refused}
-use Rattle.checks.specs.Check.{Check, first_broken, class_by_class, Exactly}
+use Rattle.checks.specs.declared.Refusal.{Refusal}
+use Rattle.checks.specs.declared.Refusal.TheVariants.{Cut, UnknownKind, TooMany, BadParent, BadWeight, BadLongest, TooHeavy, Childless, NoClass, TooLong, NotSound}
+use Rattle.checks.specs.declared.Refusal.TheVariants.{NoLeaf, BadLength, Full, NothingWaits, NoRoom, BadRule, LateRule, Unpaired, BadCapacity, BadRequest, NeedsMore}
+use Rattle.checks.specs.declared.Refused.{Refused}
+use Rattle.std.specs.Prelude.{Ok, Err, slice_index_or}
+use Rattle.checks.specs.Check.{number, Check, first_broken, class_by_class, Exactly, Verdict, refusal_at}
 
 -- a verdict is one or the other, and not both
-pub not_both : {v : Verdict} {n p : ℕ} → v ≡ Passed → v ≡ Refused n p → ⊥
+pub not_both : {v : Verdict} {n : Refusal} {p : ℕ} → v ≡ Ok tt → v ≡ Err (refusal_at n p) → ⊥
 not_both {v} {n} {p} a b = let z : ◌≡◌ {A = ℕ} 0 1 = cc in omega arith
 
-pub refused_or_passed : (v : Verdict) → (v ≡ Passed) ⊎ ((n : ℕ) × (p : ℕ) × (v ≡ Refused n p))
-refused_or_passed Passed = inl refl
-refused_or_passed (Refused n p) = inr (n, p, refl)
+-- equal verdicts refuse the same
+abbrev refused_in : Refused → Verdict → Refused
+refused_in d (Ok _) = d
+refused_in d (Err e) = e
+
+pub same_refusal : {e f : Refused} → ◌≡◌ {A = Verdict} (Err e) (Err f) → e ≡ f
+same_refusal {e} {f} q = ap (refused_in e) q
+
+pub refused_or_passed : (v : Verdict) → (v ≡ Ok tt) ⊎ ((n : Refusal) × (p : ℕ) × (v ≡ Err (refusal_at n p)))
+refused_or_passed (Ok _) = inl refl
+refused_or_passed (Err e) = inr (e.0, e.1, refl)
 
 -- a check that is not broken is passed over; a broken one decides
 pub pass_over : (c : Check) (cs : List Check) → c.broken ≡ false → first_broken (c ∷ cs) ≡ first_broken cs
 unfolding first_broken
 pass_over c cs e = rw e
 
-pub decides : (c : Check) (cs : List Check) → c.broken ≡ true → first_broken (c ∷ cs) ≡ Refused c.number c.place
+pub decides : (c : Check) (cs : List Check) → c.broken ≡ true → first_broken (c ∷ cs) ≡ Err (refusal_at c.refusal c.place)
 unfolding first_broken
 decides c cs e = rw e
 
-pub none_broken : first_broken [] ≡ Passed
+pub none_broken : first_broken [] ≡ Ok tt
 unfolding first_broken
 none_broken = refl
 
 -- where all passed, so did the first check and the others
-pub passed_parts : (c : Check) (cs : List Check) → first_broken (c ∷ cs) ≡ Passed → (c.broken ≡ false) × (first_broken cs ≡ Passed)
+pub passed_parts : (c : Check) (cs : List Check) → first_broken (c ∷ cs) ≡ Ok tt → (c.broken ≡ false) × (first_broken cs ≡ Ok tt)
 passed_parts c cs e = go c.broken refl
   where
-    go : (b : Bool) → c.broken ≡ b → (c.broken ≡ false) × (first_broken cs ≡ Passed)
+    go : (b : Bool) → c.broken ≡ b → (c.broken ≡ false) × (first_broken cs ≡ Ok tt)
     go true h = absurd (not_both e (decides c cs h))
     go false h = (h, sym (pass_over c cs h) ∙ e)
 
 -- one list of checks after another
-pub after_passed : (xs ys : List Check) → first_broken xs ≡ Passed → first_broken (xs ++ ys) ≡ first_broken ys
+pub after_passed : (xs ys : List Check) → first_broken xs ≡ Ok tt → first_broken (xs ++ ys) ≡ first_broken ys
 after_passed [] ys e = refl
 after_passed (c ∷ xs) ys e =
     let h = passed_parts c xs e in
     pass_over c (xs ++ ys) h.0 ∙ after_passed xs ys h.1
 
-pub refused_before : (xs ys : List Check) {n p : ℕ} → first_broken xs ≡ Refused n p → first_broken (xs ++ ys) ≡ Refused n p
+pub refused_before : (xs ys : List Check) {n : Refusal} {p : ℕ} → first_broken xs ≡ Err (refusal_at n p) → first_broken (xs ++ ys) ≡ Err (refusal_at n p)
 refused_before [] ys e = absurd (not_both none_broken e)
 refused_before (c ∷ xs) ys {n} {p} e = go c.broken refl (λ h. refused_before xs ys h)
   where
-    go : (b : Bool) → c.broken ≡ b → (first_broken xs ≡ Refused n p → first_broken (xs ++ ys) ≡ Refused n p)
-        → first_broken (c ∷ xs ++ ys) ≡ Refused n p
+    go : (b : Bool) → c.broken ≡ b → (first_broken xs ≡ Err (refusal_at n p) → first_broken (xs ++ ys) ≡ Err (refusal_at n p))
+        → first_broken (c ∷ xs ++ ys) ≡ Err (refusal_at n p)
     go true h ih = decides c (xs ++ ys) h ∙ sym (decides c xs h) ∙ e
     go false h ih = pass_over c (xs ++ ys) h ∙ ih (sym (pass_over c xs h) ∙ e)
 
-pub passed_both : (xs ys : List Check) → first_broken (xs ++ ys) ≡ Passed → (first_broken xs ≡ Passed) × (first_broken ys ≡ Passed)
+pub passed_both : (xs ys : List Check) → first_broken (xs ++ ys) ≡ Ok tt → (first_broken xs ≡ Ok tt) × (first_broken ys ≡ Ok tt)
 passed_both [] ys e = (none_broken, e)
 passed_both (c ∷ xs) ys e =
     let h = passed_parts c (xs ++ ys) e in
@@ -63,44 +74,44 @@ passed_both (c ∷ xs) ys e =
     (pass_over c xs h.0 ∙ r.0, r.1)
 
 -- the check that decides: broken, with no broken one before it
-pub data FirstBroken : List Check → ℕ → ℕ → Type 0 where
-  here : {c : Check} {cs : List Check} → c.broken ≡ true → FirstBroken (c ∷ cs) c.number c.place
-  later : {c : Check} {cs : List Check} {n p : ℕ} → c.broken ≡ false → FirstBroken cs n p → FirstBroken (c ∷ cs) n p
+pub data FirstBroken : List Check → Refusal → ℕ → Type 0 where
+  here : {c : Check} {cs : List Check} → c.broken ≡ true → FirstBroken (c ∷ cs) c.refusal c.place
+  later : {c : Check} {cs : List Check} {n : Refusal} {p : ℕ} → c.broken ≡ false → FirstBroken cs n p → FirstBroken (c ∷ cs) n p
 
 -- checks refuse with a number and a place exactly where the first broken one has them
-pub refused_by_first : {cs : List Check} {n p : ℕ} → FirstBroken cs n p → first_broken cs ≡ Refused n p
+pub refused_by_first : {cs : List Check} {n : Refusal} {p : ℕ} → FirstBroken cs n p → first_broken cs ≡ Err (refusal_at n p)
 refused_by_first (here {c = c} {cs = cs} b) = decides c cs b
 refused_by_first (later {c = c} {cs = cs} b f) = pass_over c cs b ∙ refused_by_first f
 
 -- class by class
-pub classes_passed : (f : ℕ → List Check) (n : ℕ) → ((i : ℕ) → 1 ≤ i → i ≤ n → first_broken (f i) ≡ Passed)
-    → first_broken (class_by_class f n) ≡ Passed
+pub classes_passed : (f : ℕ → List Check) (n : ℕ) → ((i : ℕ) → 1 ≤ i → i ≤ n → first_broken (f i) ≡ Ok tt)
+    → first_broken (class_by_class f n) ≡ Ok tt
 unfolding class_by_class
 classes_passed f zero h = none_broken
 classes_passed f (suc n) h =
     after_passed (class_by_class f n) (f (suc n)) (classes_passed f n (λ i l u. h i l (omega arith))) ∙ h (suc n) (omega arith) (omega arith)
 
-pub classes_refused : (f : ℕ → List Check) (n i : ℕ) {a p : ℕ} → 1 ≤ i → i ≤ n → ((j : ℕ) → 1 ≤ j → j < i → first_broken (f j) ≡ Passed)
-    → first_broken (f i) ≡ Refused a p → first_broken (class_by_class f n) ≡ Refused a p
+pub classes_refused : (f : ℕ → List Check) (n i : ℕ) {a : Refusal} {p : ℕ} → 1 ≤ i → i ≤ n → ((j : ℕ) → 1 ≤ j → j < i → first_broken (f j) ≡ Ok tt)
+    → first_broken (f i) ≡ Err (refusal_at a p) → first_broken (class_by_class f n) ≡ Err (refusal_at a p)
 unfolding class_by_class
 classes_refused f zero i l u h e = absurd (omega arith)
 classes_refused f (suc n) i {a} {p} l u h e = go (dec_le i n) (λ m. classes_refused f n i l m h e)
   where
-    go : Dec (i ≤ n) → (i ≤ n → first_broken (class_by_class f n) ≡ Refused a p) → first_broken (class_by_class f n ++ f (suc n)) ≡ Refused a p
+    go : Dec (i ≤ n) → (i ≤ n → first_broken (class_by_class f n) ≡ Err (refusal_at a p)) → first_broken (class_by_class f n ++ f (suc n)) ≡ Err (refusal_at a p)
     go (yes m) ih = refused_before (class_by_class f n) (f (suc n)) (ih m)
     go (no m) ih =
         let s : i ≡ suc n = omega arith in
         after_passed (class_by_class f n) (f (suc n)) (classes_passed f n (λ j a b. h j a (omega arith))) ∙ (rw s at e)
 
 -- what was passed class by class was passed at each class
-pub classes_each : (f : ℕ → List Check) (n : ℕ) → first_broken (class_by_class f n) ≡ Passed → (i : ℕ) → 1 ≤ i → i ≤ n
-    → first_broken (f i) ≡ Passed
+pub classes_each : (f : ℕ → List Check) (n : ℕ) → first_broken (class_by_class f n) ≡ Ok tt → (i : ℕ) → 1 ≤ i → i ≤ n
+    → first_broken (f i) ≡ Ok tt
 unfolding class_by_class
 classes_each f zero e i l u = absurd (omega arith)
 classes_each f (suc n) e i l u = go (refused_or_passed (first_broken (class_by_class f n))) (dec_le i n) (λ h m. classes_each f n h i l m)
   where
-    go : (first_broken (class_by_class f n) ≡ Passed) ⊎ ((a : ℕ) × (p : ℕ) × (first_broken (class_by_class f n) ≡ Refused a p)) → Dec (i ≤ n)
-        → (first_broken (class_by_class f n) ≡ Passed → i ≤ n → first_broken (f i) ≡ Passed) → first_broken (f i) ≡ Passed
+    go : (first_broken (class_by_class f n) ≡ Ok tt) ⊎ ((a : Refusal) × (p : ℕ) × (first_broken (class_by_class f n) ≡ Err (refusal_at a p))) → Dec (i ≤ n)
+        → (first_broken (class_by_class f n) ≡ Ok tt → i ≤ n → first_broken (f i) ≡ Ok tt) → first_broken (f i) ≡ Ok tt
     go (inl h) (yes m) ih = ih h m
     go (inl h) (no m) ih =
         let s : i ≡ suc n = omega arith in
@@ -108,16 +119,16 @@ classes_each f (suc n) e i l u = go (refused_or_passed (first_broken (class_by_c
     go (inr r) d ih = absurd (not_both e (refused_before (class_by_class f n) (f (suc n)) r.2))
 
 -- and a refusal comes from one class, with every class below it passed
-pub classes_which : (f : ℕ → List Check) (n : ℕ) {a p : ℕ} → first_broken (class_by_class f n) ≡ Refused a p
-    → (i : ℕ) × (1 ≤ i) × (i ≤ n) × ((j : ℕ) → 1 ≤ j → j < i → first_broken (f j) ≡ Passed) × (first_broken (f i) ≡ Refused a p)
+pub classes_which : (f : ℕ → List Check) (n : ℕ) {a : Refusal} {p : ℕ} → first_broken (class_by_class f n) ≡ Err (refusal_at a p)
+    → (i : ℕ) × (1 ≤ i) × (i ≤ n) × ((j : ℕ) → 1 ≤ j → j < i → first_broken (f j) ≡ Ok tt) × (first_broken (f i) ≡ Err (refusal_at a p))
 unfolding class_by_class
 classes_which f zero e = absurd (not_both none_broken e)
 classes_which f (suc n) {a} {p} e = go (refused_or_passed (first_broken (class_by_class f n))) (λ b q h. classes_which f n h)
   where
-    go : (first_broken (class_by_class f n) ≡ Passed) ⊎ ((b : ℕ) × (q : ℕ) × (first_broken (class_by_class f n) ≡ Refused b q))
-        → ((b q : ℕ) → first_broken (class_by_class f n) ≡ Refused b q
-        → (i : ℕ) × (1 ≤ i) × (i ≤ n) × ((j : ℕ) → 1 ≤ j → j < i → first_broken (f j) ≡ Passed) × (first_broken (f i) ≡ Refused b q))
-        → (i : ℕ) × (1 ≤ i) × (i ≤ suc n) × ((j : ℕ) → 1 ≤ j → j < i → first_broken (f j) ≡ Passed) × (first_broken (f i) ≡ Refused a p)
+    go : (first_broken (class_by_class f n) ≡ Ok tt) ⊎ ((b : Refusal) × (q : ℕ) × (first_broken (class_by_class f n) ≡ Err (refusal_at b q)))
+        → ((b : Refusal) (q : ℕ) → first_broken (class_by_class f n) ≡ Err (refusal_at b q)
+        → (i : ℕ) × (1 ≤ i) × (i ≤ n) × ((j : ℕ) → 1 ≤ j → j < i → first_broken (f j) ≡ Ok tt) × (first_broken (f i) ≡ Err (refusal_at b q)))
+        → (i : ℕ) × (1 ≤ i) × (i ≤ suc n) × ((j : ℕ) → 1 ≤ j → j < i → first_broken (f j) ≡ Ok tt) × (first_broken (f i) ≡ Err (refusal_at a p))
     go (inl h) ih = (
       suc n,
       omega arith,
@@ -167,11 +178,46 @@ exactly_unique {a} {b} x y = go a b refl refl
     go false false e f = e ∙ sym f
 
 -- a refusal comes from the first check, or from one after it
-pub broken_or_later : (c : Check) (cs : List Check) {n p : ℕ} → first_broken (c ∷ cs) ≡ Refused n p
-    → ((c.broken ≡ true) × (Refused c.number c.place ≡ Refused n p)) ⊎ ((c.broken ≡ false) × (first_broken cs ≡ Refused n p))
+pub broken_or_later : (c : Check) (cs : List Check) {n : Refusal} {p : ℕ} → first_broken (c ∷ cs) ≡ Err (refusal_at n p)
+    → ((c.broken ≡ true) × (refusal_at c.refusal c.place ≡ refusal_at n p)) ⊎ ((c.broken ≡ false) × (first_broken cs ≡ Err (refusal_at n p)))
 broken_or_later c cs {n} {p} e = go c.broken refl
   where
-    go : (b : Bool) → c.broken ≡ b → ((c.broken ≡ true) × (Refused c.number c.place ≡ Refused n p))
-        ⊎ ((c.broken ≡ false) × (first_broken cs ≡ Refused n p))
-    go true h = inl (h, sym (decides c cs h) ∙ e)
+    go : (b : Bool) → c.broken ≡ b → ((c.broken ≡ true) × (refusal_at c.refusal c.place ≡ refusal_at n p))
+        ⊎ ((c.broken ≡ false) × (first_broken cs ≡ Err (refusal_at n p)))
+    go true h = inl (h, same_refusal (sym (decides c cs h) ∙ e))
     go false h = inr (h, sym (pass_over c cs h) ∙ e)
+
+-- a number tells its refusal: no two have the same (R4)
+all_refusals : List Refusal
+all_refusals = Cut ∷ UnknownKind ∷ TooMany ∷ BadParent ∷ BadWeight ∷ BadLongest ∷ TooHeavy ∷ Childless ∷ NoClass ∷ TooLong ∷ NotSound ∷ NoLeaf ∷ BadLength ∷ Full ∷ NothingWaits ∷ NoRoom ∷ BadRule ∷ LateRule ∷ Unpaired ∷ BadCapacity ∷ BadRequest ∷ NeedsMore ∷ []
+
+with_number : ℕ → Refusal
+with_number n = slice_index_or all_refusals (n - 1) Cut
+
+told_by_number : (r : Refusal) → with_number (number r) ≡ r
+unfolding with_number all_refusals
+told_by_number Cut = refl
+told_by_number UnknownKind = refl
+told_by_number TooMany = refl
+told_by_number BadParent = refl
+told_by_number BadWeight = refl
+told_by_number BadLongest = refl
+told_by_number TooHeavy = refl
+told_by_number Childless = refl
+told_by_number NoClass = refl
+told_by_number TooLong = refl
+told_by_number NotSound = refl
+told_by_number NoLeaf = refl
+told_by_number BadLength = refl
+told_by_number Full = refl
+told_by_number NothingWaits = refl
+told_by_number NoRoom = refl
+told_by_number BadRule = refl
+told_by_number LateRule = refl
+told_by_number Unpaired = refl
+told_by_number BadCapacity = refl
+told_by_number BadRequest = refl
+told_by_number NeedsMore = refl
+
+pub one_number : {r s : Refusal} → number r ≡ number s → r ≡ s
+one_number {r} {s} e = sym (told_by_number r) ∙ ap with_number e ∙ told_by_number s

@@ -3,67 +3,79 @@
 #![tactic(auto)]
 
 ghost use Rattle.std.specs.Prelude.{◌≡◌};
-ghost use Rattle.checks.specs.Check.{number_of, place_of, first_broken, input_checks};
+ghost use Rattle.checks.specs.Check.{number, number_of, place_of, first_broken, input_checks};
 
-// What checks say: all passed, or the number and the place of the first that failed.
-#[derive(Clone, Copy)]
-pub enum Verdict {
-    Passed,
-    Refused(u8, usize),
+// What is refused; each has the number that docs/refusals.md tells of (R7).
+#[derive(Clone, Copy, Debug, PartialEq, Eq)]
+pub enum Refusal {
+    // The input ends before the kind byte, or inside a body.
+    Cut = 1,
+    UnknownKind = 2,
+    // A 64th class record.
+    TooMany = 3,
+    // Parent not lower than the class, or a leaf.
+    BadParent = 4,
+    // Weight outside its range.
+    BadWeight = 5,
+    // Longest outside its range.
+    BadLongest = 6,
+    // Children's weights exceed their inner parent's.
+    TooHeavy = 7,
+    // Inner class without a child.
+    Childless = 8,
+    // No class at all.
+    NoClass = 9,
+    // The program's input exceeds 65,536 bytes.
+    TooLong = 10,
+    // The state is not sound.
+    NotSound = 11,
+    // The class is not a leaf of the plan.
+    NoLeaf = 12,
+    // Length 0 or above the leaf's longest.
+    BadLength = 13,
+    // That leaf already holds 32 packets.
+    Full = 14,
+    // Send, and no packet waits.
+    NothingWaits = 15,
+    // The buffer is shorter than the plan.
+    NoRoom = 16,
+    // Rule byte not 1 or 2.
+    BadRule = 17,
+    // A rule record anywhere but first.
+    LateRule = 18,
+    // A send of a recording without its claim, or a claim without its send.
+    Unpaired = 19,
+    // The capacity is outside its range.
+    BadCapacity = 20,
+    // A leaf's request is outside its range.
+    BadRequest = 21,
+    // An inner class would need a weight above its range to be mended.
+    NeedsMore = 22,
 }
 
-// The input ends before the kind byte, or inside a body.
-pub const CUT: u8 = 1;
-// Unknown kind.
-pub const UNKNOWN_KIND: u8 = 2;
-// A 64th class record.
-pub const TOO_MANY: u8 = 3;
-// Parent not lower than the class, or a leaf.
-pub const PARENT: u8 = 4;
-// Weight outside its range.
-pub const WEIGHT: u8 = 5;
-// Longest outside its range.
-pub const LONGEST: u8 = 6;
-// Children's weights exceed their inner parent's.
-pub const TOO_HEAVY: u8 = 7;
-// Inner class without a child.
-pub const CHILDLESS: u8 = 8;
-// No class at all.
-pub const NO_CLASS: u8 = 9;
-// The program's input exceeds 65,536 bytes.
-pub const TOO_LONG: u8 = 10;
-// The state is not sound.
-pub const NOT_SOUND: u8 = 11;
-// The class is not a leaf of the plan.
-pub const NO_LEAF: u8 = 12;
-// Length 0 or above the leaf's longest.
-pub const LENGTH: u8 = 13;
-// That leaf already holds 32 packets.
-pub const FULL: u8 = 14;
-// Send, and no packet waits.
-pub const NOTHING_WAITS: u8 = 15;
-// The buffer is shorter than the plan.
-pub const NO_ROOM: u8 = 16;
-// Rule byte not 1 or 2.
-pub const RULE: u8 = 17;
-// A rule record anywhere but first.
-pub const LATE_RULE: u8 = 18;
-// A send of a recording without its claim, or a claim without its send.
-pub const CLAIM: u8 = 19;
-// The capacity is outside its range.
-pub const CAPACITY: u8 = 20;
-// A leaf's request is outside its range.
-pub const REQUEST: u8 = 21;
-// An inner class would need a weight above its range to be mended.
-pub const NEEDS_MORE: u8 = 22;
+// What is refused, and the place of what breaks the rule.
+#[derive(Clone, Copy, Debug, PartialEq, Eq)]
+pub struct Refused(pub Refusal, pub usize);
+
+// What checks say: all passed, or the first that failed.
+pub type Verdict = Result<(), Refused>;
+
+impl Refusal {
+    // Its number.
+    pub fn number(self) -> u8
+        ensures { result ≡ number self }
+    {
+        self as u8
+    }
+}
 
 // The number of a verdict: 0 where all passed.
 pub fn number(v: Verdict) -> u8
     ensures { result ≡ number_of v }
 {
     match v {
-        Verdict::Passed => 0,
-        Verdict::Refused(n, _) => n,
+        Ok(()) => 0,
+        Err(Refused(refusal, _)) => refusal.number(),
     }
 }
 
@@ -72,8 +84,8 @@ pub fn place(v: Verdict) -> usize
     ensures { result ≡ place_of v }
 {
     match v {
-        Verdict::Passed => 0,
-        Verdict::Refused(_, p) => p,
+        Ok(()) => 0,
+        Err(Refused(_, place)) => place,
     }
 }
 
@@ -85,7 +97,7 @@ pub fn input_length(n: usize) -> Verdict
     ensures { result ≡ first_broken (input_checks n) }
 {
     if MOST_INPUT < n {
-        return Verdict::Refused(TOO_LONG, MOST_INPUT);
+        return Err(Refused(Refusal::TooLong, MOST_INPUT));
     }
-    Verdict::Passed
+    Ok(())
 }

@@ -7,24 +7,22 @@ use native.Mathlib.Omega.{arith}
 use borrow.Author.Tests.{eqb-true, not-false}
 use lib.ListN.{length, get_or, take, drop, length-drop}
 use lib.Seq.{get_or-drop, drop-cons, drop-drop}
+use Rattle.plan.specs.declared.entry.Entry.TheVariants.{Arrives, Claims}
+use Rattle.checks.specs.declared.Refusal.TheVariants.{Cut, UnknownKind, Unpaired}
+use Rattle.checks.specs.Check.{Verdict, refusal_at}
+use Rattle.std.specs.Prelude.{Ok, Err, Some, None}
 use Rattle.checks.proofs.Laws.{not_true_and_false}
-use Rattle.plan.specs.declared.Claim.{Claim}
-use Rattle.plan.specs.declared.Claim.TheVariants.{Sent, Idle}
-use Rattle.plan.specs.declared.EntryRead.{EntryRead}
-use Rattle.plan.specs.declared.EntryRead.TheVariants.{Ended, Arrives, Claims, Stops}
 use Rattle.plan.specs.declared.kind.RecordKind.{RecordKind}
 use Rattle.plan.specs.declared.kind.Section.{Section}
 use Rattle.plan.specs.declared.kind.Section.TheVariants.{Recordings, AfterSend}
 use Rattle.plan.specs.Kind.{record_kind, stands_in, gives_arrival, gives_claim, gives_sent}
 use Rattle.plan.specs.Record.{byte_at, kind_at, missing, unknown, cut, body_of}
 use Rattle.plan.specs.Event.{arrived_of}
-use Rattle.plan.specs.Entry.{claim_in, claim_after, entry_at, claim_uses}
+use Rattle.plan.specs.Entry.{claim_in, claim_after, entry_at, claim_uses, EntryRead, Claim}
 use Rattle.plan.proofs.Records.{kind_cases, whole_length, arrival_body, sent_body}
 use Rattle.plan.proofs.EntryLaws.{claim_sent, claim_idle, after_none, after_strange, after_cut, after_whole}
 use Rattle.plan.proofs.EntryLaws.{entry_arrives, entry_sends, entry_end, entry_unknown, entry_cut, entry_alone, entry_whole}
 use Rattle.plan.proofs.EntryLaws.{within_by}
-use Rattle.checks.specs.declared.Verdict.{Verdict}
-use Rattle.checks.specs.declared.Verdict.TheVariants.{Passed, Refused}
 use Rattle.plan.specs.Reader.{plan_of}
 use Rattle.state.specs.declared.Link.{Link}
 use Rattle.state.specs.State.{fresh_link}
@@ -145,10 +143,10 @@ empty (b ∷ s) e = absurd (omega (arith, e))
 
 -- an entry that was read, as it was written
 Written : List ℕ → EntryRead → Type 0
-Written rest Ended = rest ≡ []
-Written rest (Arrives a) = rest ≡ 16 ∷ (body_bytes a ++ drop 8 rest)
-Written rest (Claims c) = rest ≡ 17 ∷ (claim_bytes c ++ drop (1 + claim_uses c) rest)
-Written rest (Stops n k) = Unit {0}
+Written rest (Ok None) = rest ≡ []
+Written rest (Ok (Some (Arrives a))) = rest ≡ 16 ∷ (body_bytes a ++ drop 8 rest)
+Written rest (Ok (Some (Claims c))) = rest ≡ 17 ∷ (claim_bytes c ++ drop (1 + claim_uses c) rest)
+Written rest (Err _) = Unit {0}
 
 entry_written : (rest : List ℕ) → Bytes rest → Written rest (entry_at rest)
 unfolding Written
@@ -162,34 +160,34 @@ entry_written rest bytes =
     by e same w = subst (Written rest) (sym same) w
 
     sent : (b : Bool) → gives_sent (kind_at next) ≡ b → gives_claim (kind_at next) ≡ true → cut next ≡ false → rest ≡ 17 ∷ next
-        → entry_at rest ≡ Claims (claim_in next) → Written rest (entry_at rest)
+        → entry_at rest ≡ Ok (Some (Claims (claim_in next))) → Written rest (entry_at rest)
     sent true s c k first same =
         let a = arrived_of (body_of next) in
         let is = eight next (bytes_drop 1 rest bytes) (omega (arith, whole_length next k, sent_body next s)) 18 (kind_eighteen next s)
         (sent_body next s) in
-        by (Claims (Sent a)) (same ∙ ap Claims (claim_sent next s))
+        by (Ok (Some (Claims (Some a)))) (same ∙ ap (λ a. Ok (Some (Claims a))) (claim_sent next s))
         (first ∙ ap (λ (t : List ℕ). 17 ∷ t) (is ∙ ap (λ (t : List ℕ). 18 ∷ (body_bytes a ++ t)) (drop-drop 8 1 rest)))
     sent false s c k first same =
         let is = drop-cons next 0 0 (omega (arith, whole_length next k)) ∙ ap (λ (x : ℕ). x ∷ drop 1 next) (kind_nineteen next c s) in
-        by (Claims Idle) (same ∙ ap Claims (claim_idle next s))
+        by (Ok (Some (Claims None))) (same ∙ ap (λ a. Ok (Some (Claims a))) (claim_idle next s))
         (first ∙ ap (λ (t : List ℕ). 17 ∷ t) (is ∙ ap (λ (t : List ℕ). 19 ∷ t) (drop-drop 1 1 rest)))
 
     after : (a : Bool) → missing next ≡ a → (b : Bool) → unknown AfterSend next ≡ b → (d : Bool) → cut next ≡ d
         → rest ≡ 17 ∷ next → entry_at rest ≡ claim_after next → Written rest (entry_at rest)
-    after true m b u d k first same = by (Stops 19 0) (same ∙ after_none next m) tt
-    after false m true u d k first same = by (Stops 19 0) (same ∙ after_strange next m u) tt
-    after false m false u true k first same = by (Stops 1 1) (same ∙ after_cut next m u k) tt
+    after true m b u d k first same = by (Err (refusal_at Unpaired 0)) (same ∙ after_none next m) tt
+    after false m true u d k first same = by (Err (refusal_at Unpaired 0)) (same ∙ after_strange next m u) tt
+    after false m false u true k first same = by (Err (refusal_at Cut 1)) (same ∙ after_cut next m u k) tt
     after false m false u false k first same =
         sent (gives_sent (kind_at next)) refl (stands next AfterSend u) k first (same ∙ after_whole next m u k)
 
     go : (a : Bool) → missing rest ≡ a → (b : Bool) → unknown Recordings rest ≡ b → (d : Bool) → cut rest ≡ d
         → (f : Bool) → gives_claim (kind_at rest) ≡ f → (g : Bool) → gives_arrival (kind_at rest) ≡ g → Written rest (entry_at rest)
-    go true m b u d k f c g a = by Ended (entry_end rest m) (empty rest (missing_length rest m))
-    go false m true u d k f c g a = by (Stops 2 0) (entry_unknown rest m u) tt
-    go false m false u true k f c g a = by (Stops 1 0) (entry_cut rest m u k) tt
-    go false m false u false k true c g a = by (Stops 19 0) (entry_alone rest m u k c) tt
+    go true m b u d k f c g a = by (Ok None) (entry_end rest m) (empty rest (missing_length rest m))
+    go false m true u d k f c g a = by (Err (refusal_at UnknownKind 0)) (entry_unknown rest m u) tt
+    go false m false u true k f c g a = by (Err (refusal_at Cut 0)) (entry_cut rest m u k) tt
+    go false m false u false k true c g a = by (Err (refusal_at Unpaired 0)) (entry_alone rest m u k c) tt
     go false m false u false k false c true a =
-        by (Arrives (arrived_of (body_of rest))) (entry_whole rest m u k c ∙ entry_arrives rest a)
+        by (Ok (Some (Arrives (arrived_of (body_of rest))))) (entry_whole rest m u k c ∙ entry_arrives rest a)
         (eight rest bytes (omega (arith, whole_length rest k, arrival_body rest a)) 16 (kind_sixteen rest a) (arrival_body rest a))
     go false m false u false k false c false a =
         after (missing next) refl (unknown AfterSend next) refl (cut next) refl
@@ -203,12 +201,12 @@ entry_written rest bytes =
 abbrev good_count : Judged → ℕ
 good_count (Good n) = n
 good_count (FalseAt p) = 0
-good_count (Stop n p) = 0
+good_count (Stop e) = 0
 
 abbrev is_good : Judged → Bool
 is_good (Good n) = true
 is_good (FalseAt p) = false
-is_good (Stop n p) = false
+is_good (Stop e) = false
 
 -- the rules' run of some calls from a link, as it was made
 abbrev pub run_by : Link → List Call → List Made
@@ -269,7 +267,7 @@ follows (suc n) l place claims rest g bytes few e = go (entry_at rest) refl (ent
         (omega (arith, length-drop used rest, few, some, within))
         (subst (λ (i : ℕ). (takes n true (record { at = goes_on l' (place + used) claims'; rest = drop i rest })).at.judged ≡ Good g) k h)
 
-    claim : (c : Claim) → entry_at rest ≡ Claims c → rest ≡ 17 ∷ (claim_bytes c ++ drop (1 + claim_uses c) rest) → Follows n
+    claim : (c : Claim) → entry_at rest ≡ Ok (Some (Claims c)) → rest ≡ 17 ∷ (claim_bytes c ++ drop (1 + claim_uses c) rest) → Follows n
         → (h : Bool) → same_claim c (true_claim (send_of true l).answer) ≡ h
         → (takes n true (moved place rest (claim_gives h (send_of true l).link c place claims))).at.judged ≡ Good g
         → (claims ≤ g) × RecordingOf l rest (g - claims)
@@ -277,48 +275,48 @@ follows (suc n) l place claims rest g bytes few e = go (entry_at rest) refl (ent
         absurd (not_true_and_false refl (ap is_good (sym (decided (FalseAt (place + 1)) (send_of true l).link j))))
     claim c same written later true held j =
         let is = same_only c (true_claim (send_of true l).answer) held in
-        let on = onto (send_of true l).link (1 + claim_uses c) (claims + 1) (omega arith) (within_by rest (Claims c) same) later j in (
+        let on = onto (send_of true l).link (1 + claim_uses c) (claims + 1) (omega arith) (within_by rest (Ok (Some (Claims c))) same) later j in (
           omega (arith, on.0),
           of_next l send (drop (1 + claim_uses c) rest) rest (g - (claims + 1)) (g - claims)
               (written ∙ ap (λ (x : Claim). 17 ∷ (claim_bytes x ++ drop (1 + claim_uses c) rest)) is) (omega (arith, on.0)) on.1,
         )
 
     go : (x : EntryRead) → entry_at rest ≡ x → Written rest (entry_at rest) → Follows n → (claims ≤ g) × RecordingOf l rest (g - claims)
-    go Ended same written later =
-        let same_count : claims ≡ g = ap good_count (decided (Good claims) l (judged_on Ended same)) in
+    go (Ok None) same written later =
+        let same_count : claims ≡ g = ap good_count (decided (Good claims) l (judged_on (Ok None) same)) in
         (omega (arith, same_count), of_none l rest (g - claims) (subst (Written rest) same written) (omega (arith, same_count)))
-    go (Arrives a) same written later =
+    go (Ok (Some (Arrives a))) same written later =
         let call = arrival a.class (record { length = a.length; tag = a.tag }) in
-        let on = onto (link_left (makes true l call)) 8 claims (omega arith) (within_by rest (Arrives a) same) later
+        let on = onto (link_left (makes true l call)) 8 claims (omega arith) (within_by rest (Ok (Some (Arrives a))) same) later
         (subst (λ (c : Checked). (takes n true (moved place rest c)).at.judged ≡ Good g) (arrival_on l a place claims)
-        (judged_on (Arrives a) same)) in (
+        (judged_on (Ok (Some (Arrives a))) same)) in (
           on.0,
           of_next l call (drop 8 rest) rest (g - claims) (g - claims) (subst (Written rest) same written) (omega arith)
               on.1,
         )
-    go (Claims c) same written later =
+    go (Ok (Some (Claims c))) same written later =
         claim c same (subst (Written rest) same written) later (same_claim c (true_claim (send_of true l).answer)) refl
-        (judged_on (Claims c) same)
-    go (Stops k p) same written later =
-        absurd (not_true_and_false refl (ap is_good (sym (decided (Stop k (place + p)) l (judged_on (Stops k p) same)))))
+        (judged_on (Ok (Some (Claims c))) same)
+    go (Err e) same written later =
+        absurd (not_true_and_false refl (ap is_good (sym (decided (Stop (refusal_at e.0 (place + e.1))) l (judged_on (Err e) same)))))
 
 -- a recording is judged good only where its plan is accepted and the bytes after it are the recording of a run by our rules, from the
 -- plan's fresh link, with as many sends as claims were counted; so it is accepted exactly when every claim is what our rules send
 -- (the other way: `our_run_is_good`, Recordings)
 pub good_is_a_run : (s : List ℕ) (g : ℕ) → Bytes s → judged_of s ≡ Good g
-    → ((plan_of s).verdict ≡ Passed) × RecordingOf (fresh_link (plan_of s).tree) (drop (plan_of s).used s) g
+    → ((plan_of s).verdict ≡ Ok tt) × RecordingOf (fresh_link (plan_of s).tree) (drop (plan_of s).used s) g
 unfolding Follows part_of
 good_is_a_run s g bytes good = go (plan_of s).verdict refl
   where
     go : (v : Verdict) → (plan_of s).verdict ≡ v
-        → ((plan_of s).verdict ≡ Passed) × RecordingOf (fresh_link (plan_of s).tree) (drop (plan_of s).used s) g
-    go Passed e =
+        → ((plan_of s).verdict ≡ Ok tt) × RecordingOf (fresh_link (plan_of s).tree) (drop (plan_of s).used s) g
+    go (Ok _) e =
         let rest = drop (plan_of s).used s in
         let z : g - 0 ≡ g = omega arith in (
           e,
           subst (RecordingOf (fresh_link (plan_of s).tree) rest) z
               (follows (suc (length rest)) (fresh_link (plan_of s).tree) (plan_of s).used 0 rest g (bytes_drop (plan_of s).used s bytes)
               (omega arith)
-              (judged_by s (plan_of s) Passed refl e ∙ good)).1,
+              (judged_by s (plan_of s) (Ok tt) refl e ∙ good)).1,
         )
-    go (Refused n p) e = absurd (not_true_and_false refl (ap is_good (sym (judged_by s (plan_of s) (Refused n p) refl e ∙ good))))
+    go (Err r) e = absurd (not_true_and_false refl (ap is_good (sym (judged_by s (plan_of s) (Err r) refl e ∙ good))))

@@ -8,8 +8,7 @@ use borrow.Author.Tests.{leb-true}
 use lib.ListN.{length}
 use lib.Seq.{drop-append-le}
 use Rattle.tree.proofs.Classes.{both_true}
-use Rattle.plan.specs.declared.EntryRead.{EntryRead}
-use Rattle.plan.specs.Entry.{entry_at, longest_entry}
+use Rattle.plan.specs.Entry.{entry_at, longest_entry, EntryRead}
 use Rattle.plan.proofs.EntryLaws.{entry_extends}
 use Rattle.claims.specs.Recording.{entry_gives, Way, moved, onward, takes_one, takes, part_of}
 use Rattle.claims.proofs.Checking.{takes_done, takes_one_lem, onward_moves, onward_rest}

@@ -7,11 +7,10 @@ use native.Mathlib.Omega.{arith}
 use borrow.Author.Tests.{le-leb}
 use lib.ListN.{length, drop, length-drop, length-append}
 use lib.Seq.{drop-drop, drop-append-le}
+use Rattle.plan.specs.declared.entry.Entry.TheVariants.{Arrives, Claims}
+use Rattle.std.specs.Prelude.{Ok, Err, Some, None}
 use Rattle.checks.proofs.Laws.{exactly_yes, exactly_unique, not_true_and_false}
-use Rattle.plan.specs.declared.EntryRead.{EntryRead}
-use Rattle.plan.specs.declared.EntryRead.TheVariants.{Ended, Arrives, Claims, Stops}
-use Rattle.plan.specs.declared.Claim.{Claim}
-use Rattle.plan.specs.Entry.{entry_at}
+use Rattle.plan.specs.Entry.{entry_at, EntryRead, Claim}
 use Rattle.plan.specs.declared.PlanRead.{PlanRead}
 use Rattle.plan.proofs.Longer.{plan_window}
 use Rattle.state.specs.declared.Link.{Link}
@@ -41,11 +40,11 @@ claim_so_far false after c place claims = λ m. absurd (not_true_and_false m ref
 
 entry_so_far : (l : Link) (place claims : ℕ) (e : EntryRead) → SoFar (entry_gives l place claims e)
 unfolding SoFar
-entry_so_far l place claims Ended = λ m. absurd (not_true_and_false m refl)
-entry_so_far l place claims (Arrives a) = subst SoFar (sym (arrival_on l a place claims)) (λ m. refl)
-entry_so_far l place claims (Claims c) =
+entry_so_far l place claims (Ok None) = λ m. absurd (not_true_and_false m refl)
+entry_so_far l place claims (Ok (Some (Arrives a))) = subst SoFar (sym (arrival_on l a place claims)) (λ m. refl)
+entry_so_far l place claims (Ok (Some (Claims c))) =
     claim_so_far (same_claim c (true_claim (send_of true l).answer)) (send_of true l).link c place claims
-entry_so_far l place claims (Stops n k) = λ m. absurd (not_true_and_false m refl)
+entry_so_far l place claims (Err _) = λ m. absurd (not_true_and_false m refl)
 
 -- a part that has come from one way to another
 record Along (w v : Way) : Type 0 where

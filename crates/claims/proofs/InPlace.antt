@@ -3,13 +3,11 @@ use mathlib.Core.Bool.{Bool, true, false, cond}
 use mathlib.Core.List.{List}
 use mathlib.Core.Path.{◌≡◌, refl, sym, ap, ap₂, subst, ◌∙◌}
 use Prim.Native.Nat.{ℕ, ◌+◌}
+use Rattle.plan.specs.declared.entry.Entry.TheVariants.{Arrives, Claims}
+use Rattle.std.specs.Prelude.{Ok, Some, None}
 use Rattle.checks.proofs.Laws.{exactly_yes}
 use Rattle.plan.specs.declared.Arrived.{Arrived}
-use Rattle.plan.specs.declared.Claim.{Claim}
-use Rattle.plan.specs.declared.Claim.TheVariants.{Sent, Idle}
-use Rattle.plan.specs.declared.EntryRead.{EntryRead}
-use Rattle.plan.specs.declared.EntryRead.TheVariants.{Arrives, Claims}
-use Rattle.plan.specs.Entry.{entry_at}
+use Rattle.plan.specs.Entry.{entry_at, EntryRead, Claim}
 use Rattle.state.specs.declared.Link.{Link}
 use Rattle.state.specs.declared.Packet.{Packet}
 use Rattle.state.specs.declared.Waiting.{Waiting}
@@ -40,7 +38,7 @@ use Rattle.claims.specs.Steps.{claim_of, did_go_on, did_decide, claim_did, check
 -- ---- what has gone is what the call answers
 
 abbrev claim_where : Bool → ℕ → Waiting → Claim
-claim_where some class p = cond some (Sent (record { class = class; length = p.length; tag = p.tag })) Idle
+claim_where some class p = cond some (Some (record { class = class; length = p.length; tag = p.tag })) None
 
 went_claim : (l : Link) (w : Went) (after : Link) → Departs l w after → claim_of w ≡ true_claim (send_of true l).answer
 went_claim l w after d = ap (λ (s : Gone). claim_where w.some s.class s.packet) d.sent ∙ go w.some d.some
@@ -81,21 +79,21 @@ module _ (l : Link) (place claims : ℕ) (rest : List ℕ) (sound : SoundLink l)
     on = record { sound = sound; shape = shape };
   }
 
-  pub arrival_in_place : (a : Arrived) (answer : Arrival) (after : Link) (class : ℕ) (stand : Stand) → entry_at rest ≡ Arrives a
+  pub arrival_in_place : (a : Arrived) (answer : Arrival) (after : Link) (class : ℕ) (stand : Stand) → entry_at rest ≡ Ok (Some (Arrives a))
       → class ≡ a.class → ArrivesOn true l class (record { length = a.length; tag = a.tag }) answer after
       → Enters l place claims (entry_at rest) (did_go_on (place + 8) claims stand) after
   arrival_in_place a answer after class stand told wide is =
       let p : Packet = record { length = a.length; tag = a.tag } in
       let left : after ≡ (call_gives l a).link = ap (λ (x : AfterArrival). x.link) is ∙ ap (λ (i : ℕ). (arrival_of true l i p).link) wide in
-      called (arrival a.class p) (Arrives a) (did_go_on (place + 8) claims stand) after told left
+      called (arrival a.class p) (Ok (Some (Arrives a))) (did_go_on (place + 8) claims stand) after told left
       (arrival_shaped true l a.class p shape)
       (ap (λ (k : Link). goes_on k (place + 8) claims) left ∙ sym (arrival_on l a place claims))
 
-  pub claim_in_place : (c : Claim) (w : Went) (after : Link) → entry_at rest ≡ Claims c → Departs l w after
+  pub claim_in_place : (c : Claim) (w : Went) (after : Link) → entry_at rest ≡ Ok (Some (Claims c)) → Departs l w after
       → Enters l place claims (entry_at rest) (claim_did (same_claim c (claim_of w)) c w place claims) after
   claim_in_place c w after told d =
       let left = went_link l w after d in
-      called send (Claims c) (claim_did (same_claim c (claim_of w)) c w place claims) after told left (send_shaped l shape sound)
+      called send (Ok (Some (Claims c))) (claim_did (same_claim c (claim_of w)) c w place claims) after told left (send_shaped l shape sound)
       (go (same_claim c (claim_of w))
       ∙ ap₂ (λ (x : Claim) (k : Link). claim_gives (same_claim c x) k c place claims) (went_claim l w after d) left)
     where

@@ -9,18 +9,15 @@ use native.Mathlib.Nat.{zero-add}
 use borrow.Author.Tests.{le-ltb, ne_eqb, eq-eqb, eqb-true}
 use lib.Dec.{eqb}
 use lib.ListN.{length, drop, length-append}
-use Rattle.checks.specs.declared.Verdict.TheVariants.{Passed}
+use Rattle.plan.specs.declared.entry.Entry.TheVariants.{Arrives, Claims}
+use Rattle.std.specs.Prelude.{Ok, Some, None}
 use Rattle.checks.proofs.Laws.{not_true_and_false}
 use Rattle.tree.proofs.Classes.{both_true}
 use Rattle.plan.specs.declared.Arrived.{Arrived}
-use Rattle.plan.specs.declared.Claim.{Claim}
-use Rattle.plan.specs.declared.Claim.TheVariants.{Sent, Idle}
-use Rattle.plan.specs.declared.EntryRead.{EntryRead}
-use Rattle.plan.specs.declared.EntryRead.TheVariants.{Ended, Arrives, Claims}
 use Rattle.plan.specs.Kind.{record_kind}
 use Rattle.plan.specs.Record.{kind_at, missing, unknown, cut, body_of}
 use Rattle.plan.specs.Event.{arrived_of}
-use Rattle.plan.specs.Entry.{claim_after, entry_at, claim_uses}
+use Rattle.plan.specs.Entry.{claim_after, entry_at, claim_uses, EntryRead, Claim}
 use Rattle.plan.proofs.EntryLaws.{claim_sent, claim_idle, after_whole, entry_arrives, entry_sends, entry_end, entry_whole}
 use Rattle.plan.specs.Reader.{plan_of}
 use Rattle.plan.proofs.Numbers.{plan_rules}
@@ -59,13 +56,13 @@ arrival_whole : (a : Arrived) (more : List ℕ) → cut (16 ∷ (body_bytes a ++
 unfolding cut kind_at record_kind
 arrival_whole a more = le-ltb (length (16 ∷ (body_bytes a ++ more))) 8 (omega arith)
 
-arrival_read : (a : Arrived) (more : List ℕ) → entry_at (16 ∷ (body_bytes a ++ more)) ≡ Arrives a
+arrival_read : (a : Arrived) (more : List ℕ) → entry_at (16 ∷ (body_bytes a ++ more)) ≡ Ok (Some (Arrives a))
 unfolding unknown kind_at record_kind body_of
 arrival_read a more =
     let s : List ℕ = 16 ∷ (body_bytes a ++ more) in
     entry_whole s (there 16 (body_bytes a ++ more)) refl (arrival_whole a more) refl
     ∙ entry_arrives s refl
-    ∙ ap Arrives (body_read a)
+    ∙ ap (λ a. Ok (Some (Arrives a))) (body_read a)
 
 sent_whole : (a : Arrived) (more : List ℕ) → cut (18 ∷ (body_bytes a ++ more)) ≡ false
 unfolding cut kind_at record_kind
@@ -75,22 +72,22 @@ idle_whole : (more : List ℕ) → cut (19 ∷ more) ≡ false
 unfolding cut kind_at record_kind
 idle_whole more = le-ltb (length (19 ∷ more)) 1 (omega arith)
 
-claim_read : (c : Claim) (more : List ℕ) → claim_after (claim_bytes c ++ more) ≡ Claims c
+claim_read : (c : Claim) (more : List ℕ) → claim_after (claim_bytes c ++ more) ≡ Ok (Some (Claims c))
 unfolding unknown kind_at record_kind body_of
-claim_read (Sent a) more =
+claim_read (Some a) more =
     let s : List ℕ = 18 ∷ (body_bytes a ++ more) in
     after_whole s (there 18 (body_bytes a ++ more)) refl (sent_whole a more)
-    ∙ ap Claims (claim_sent s refl ∙ ap Sent (body_read a))
-claim_read Idle more =
+    ∙ ap (λ a. Ok (Some (Claims a))) (claim_sent s refl ∙ ap Some (body_read a))
+claim_read None more =
     let s : List ℕ = 19 ∷ more in
     after_whole s (there 19 more) refl (idle_whole more)
-    ∙ ap Claims (claim_idle s refl)
+    ∙ ap (λ a. Ok (Some (Claims a))) (claim_idle s refl)
 
 send_whole : (more : List ℕ) → cut (17 ∷ more) ≡ false
 unfolding cut kind_at record_kind
 send_whole more = le-ltb (length (17 ∷ more)) 1 (omega arith)
 
-send_read : (c : Claim) (more : List ℕ) → entry_at (17 ∷ (claim_bytes c ++ more)) ≡ Claims c
+send_read : (c : Claim) (more : List ℕ) → entry_at (17 ∷ (claim_bytes c ++ more)) ≡ Ok (Some (Claims c))
 unfolding unknown kind_at record_kind
 send_read c more =
     let s : List ℕ = 17 ∷ (claim_bytes c ++ more) in
@@ -101,21 +98,21 @@ send_read c more =
 -- ---- two claims that are the same are one
 
 pub same_self : (c : Claim) → same_claim c c ≡ true
-same_self (Sent a) = rw (eq-eqb a.class a.class refl, eq-eqb a.length a.length refl, eq-eqb a.tag a.tag refl) refl
-same_self Idle = refl
+same_self (Some a) = rw (eq-eqb a.class a.class refl, eq-eqb a.length a.length refl, eq-eqb a.tag a.tag refl) refl
+same_self None = refl
 
 pub same_only : (c d : Claim) → same_claim c d ≡ true → c ≡ d
-same_only (Sent a) (Sent b) h =
+same_only (Some a) (Some b) h =
     let fields = both_true (eqb a.class b.class) _ h in
     let later = both_true (eqb a.length b.length) _ fields.1 in
     let class : a.class ≡ b.class = eqb-true a.class b.class fields.0 in
     let length : a.length ≡ b.length = eqb-true a.length b.length later.0 in
     let tag : a.tag ≡ b.tag = eqb-true a.tag b.tag later.1 in
-    ap Sent (ap (λ (x : ℕ). record { class = x; length = a.length; tag = a.tag }) class
+    ap Some (ap (λ (x : ℕ). record { class = x; length = a.length; tag = a.tag }) class
     ∙ ap₂ (λ (x y : ℕ). record { class = b.class; length = x; tag = y }) length tag)
-same_only (Sent a) Idle h = absurd (not_true_and_false h refl)
-same_only Idle (Sent b) h = absurd (not_true_and_false h refl)
-same_only Idle Idle h = refl
+same_only (Some a) None h = absurd (not_true_and_false h refl)
+same_only None (Some b) h = absurd (not_true_and_false h refl)
+same_only None None h = refl
 
 -- ---- entry after entry
 
@@ -127,12 +124,12 @@ onward_by l place claims rest e same = ap (λ (x : EntryRead). moved place rest 
 
 -- the bytes of a claim
 claim_length : (c : Claim) → length (17 ∷ claim_bytes c) ≡ 1 + claim_uses c
-claim_length (Sent a) = refl
-claim_length Idle = refl
+claim_length (Some a) = refl
+claim_length None = refl
 
 claim_dropped : (c : Claim) (more : List ℕ) → drop (1 + claim_uses c) (17 ∷ (claim_bytes c ++ more)) ≡ more
-claim_dropped (Sent a) more = refl
-claim_dropped Idle more = refl
+claim_dropped (Some a) more = refl
+claim_dropped None more = refl
 
 -- a call that the rules make, recorded, is judged good, and the check goes on after it with the link that the call left
 onward_call : (l : Link) (place claims : ℕ) (call : Call) (more : List ℕ)
@@ -144,7 +141,7 @@ onward_call l place claims (arrival class p) more =
     let m = makes true l (arrival class p) in
     let k : place + 8 - place ≡ 8 = omega arith in
     let z : claims + 0 ≡ claims = omega arith in
-    onward_by l place claims (16 ∷ (body_bytes a ++ more)) (Arrives a) (arrival_read a more)
+    onward_by l place claims (16 ∷ (body_bytes a ++ more)) (Ok (Some (Arrives a))) (arrival_read a more)
     ∙ ap (moved place (16 ∷ (body_bytes a ++ more))) (arrival_on l a place claims)
     ∙ ap (λ (n : ℕ). record { at = goes_on (link_left m) (place + 8) claims; rest = drop n (16 ∷ (body_bytes a ++ more)) }) k
     ∙ ap (λ (n : ℕ). way_from (link_left m) (place + 8) n more) (sym z)
@@ -152,7 +149,7 @@ onward_call l place claims send more =
     let d = send_of true l in
     let c = true_claim d.answer in
     let k : place + (1 + claim_uses c) - place ≡ 1 + claim_uses c = omega arith in
-    onward_by l place claims (17 ∷ (claim_bytes c ++ more)) (Claims c) (send_read c more)
+    onward_by l place claims (17 ∷ (claim_bytes c ++ more)) (Ok (Some (Claims c))) (send_read c more)
     ∙ ap (λ (h : Bool). moved place (17 ∷ (claim_bytes c ++ more)) (claim_gives h d.link c place claims)) (same_self c)
     ∙ ap (λ (rest : List ℕ). way_from d.link (place + (1 + claim_uses c)) (claims + 1) rest)
     (ap (λ (n : ℕ). drop n (17 ∷ (claim_bytes c ++ more))) k ∙ claim_dropped c more)
@@ -194,8 +191,8 @@ unfolding missing
 nothing_left l place claims =
     ap (λ (w : Way). w.at.judged)
     (part_next true (way_from l place claims []) refl
-    ∙ ap (part_of true) (onward_by l place claims [] Ended (entry_end [] refl))
-    ∙ part_none true (moved place [] (entry_gives l place claims Ended)) refl)
+    ∙ ap (part_of true) (onward_by l place claims [] (Ok None) (entry_end [] refl))
+    ∙ part_none true (moved place [] (entry_gives l place claims (Ok None))) refl)
 
 -- a claim that does not hold decides, at its own place
 not_held : (l : Link) (place claims : ℕ) (c : Claim) (more : List ℕ) → same_claim c (true_claim (send_of true l).answer) ≡ false
@@ -205,18 +202,18 @@ not_held l place claims c more e =
     let to = decides (FalseAt (place + 1)) (send_of true l).link place claims in
     ap (λ (w : Way). w.at.judged)
     (part_next true (way_from l place claims s) refl
-    ∙ ap (part_of true) (onward_by l place claims s (Claims c) (send_read c more)
+    ∙ ap (part_of true) (onward_by l place claims s (Ok (Some (Claims c))) (send_read c more)
     ∙ ap (λ (h : Bool). moved place s (claim_gives h (send_of true l).link c place claims)) e)
     ∙ part_none true (moved place s to) refl)
 
 -- the packet of a claim, and whether it has one
 claimed : Claim → Arrived
-claimed (Sent a) = a
-claimed Idle = record { class = 0; length = 0; tag = 0 }
+claimed (Some a) = a
+claimed None = record { class = 0; length = 0; tag = 0 }
 
 is_sent : Claim → Bool
-is_sent (Sent a) = true
-is_sent Idle = false
+is_sent (Some a) = true
+is_sent None = false
 
 other_claim : (c d : Claim) → (c ≡ d → ⊥) → same_claim c d ≡ false
 other_claim c d other = go (same_claim c d) refl
@@ -227,13 +224,13 @@ other_claim c d other = go (same_claim c d) refl
 
 -- a packet's claim with another class, another length or another tag is another claim, and so is nothing waiting
 pub other_field : (a b : Arrived) → ((b.class ≡ a.class) → ⊥) ⊎ (((b.length ≡ a.length) → ⊥) ⊎ ((b.tag ≡ a.tag) → ⊥))
-    → Sent b ≡ Sent a → ⊥
+    → Some b ≡ Some a → ⊥
 unfolding claimed
 other_field a b (inl other) e = other (ap (λ (c : Claim). (claimed c).class) e)
 other_field a b (inr (inl other)) e = other (ap (λ (c : Claim). (claimed c).length) e)
 other_field a b (inr (inr other)) e = other (ap (λ (c : Claim). (claimed c).tag) e)
 
-pub other_kind : (a : Arrived) → Sent a ≡ Idle → ⊥
+pub other_kind : (a : Arrived) → Some a ≡ None → ⊥
 unfolding is_sent
 other_kind a e = not_true_and_false refl (ap is_sent e)
 
@@ -249,7 +246,7 @@ run_first l answer after later run = run.0
 
 -- the answer of a send that was made; of an arrival none
 answer_of : Made → Departure
-answer_of (made (arrival i p) answer after) = refused_send Passed
+answer_of (made (arrival i p) answer after) = refused_send (Ok tt)
 answer_of (made send answer after) = answer
 
 last_sound : (ms : List Made) (l : Link) → SoundLink l → Run l ms → SoundLink (last_link l ms)
@@ -260,7 +257,7 @@ last_sound (m ∷ ms) l sound run = last_sound ms (link_left m) (meets_keeps l m
 -- ---- the theorems
 
 -- an input whose plan is accepted, and what follows it
-module _ (s : List ℕ) (accepted : (plan_of s).verdict ≡ Passed) where
+module _ (s : List ℕ) (accepted : (plan_of s).verdict ≡ Ok tt) where
   abbrev pub begins : Link
   begins = fresh_link (plan_of s).tree
 
@@ -270,7 +267,7 @@ module _ (s : List ℕ) (accepted : (plan_of s).verdict ≡ Passed) where
   pub judged_from_lem : (rest : List ℕ) → drop (plan_of s).used s ≡ rest
       → judged_of s ≡ (part_of true (way_from begins (plan_of s).used 0 rest)).at.judged
   judged_from_lem rest same =
-      sym (judged_by s (plan_of s) Passed refl accepted)
+      sym (judged_by s (plan_of s) (Ok tt) refl accepted)
       ∙ ap (λ (r : List ℕ). (part_of true (way_from begins (plan_of s).used 0 r)).at.judged) same
 
   -- a recording made from a run of the library is good, with as many claims as it has sends

@@ -7,9 +7,9 @@ use native.Mathlib.Omega.{arith}
 use borrow.Author.Tests.{leb-true}
 use lib.Dec.{leb}
 use lib.ListN.{length, drop}
-use Rattle.checks.specs.declared.Verdict.{Verdict}
-use Rattle.checks.specs.declared.Verdict.TheVariants.{Passed, Refused}
-use Rattle.checks.specs.Check.{Exactly}
+use Rattle.checks.specs.declared.Refusal.TheVariants.{NotSound}
+use Rattle.std.specs.Prelude.{Ok, Err}
+use Rattle.checks.specs.Check.{Exactly, Verdict, refusal_at}
 use Rattle.checks.proofs.Laws.{exactly_unique, not_true_and_false}
 use Rattle.tree.proofs.Classes.{both_true}
 use Rattle.plan.specs.declared.PlanRead.{PlanRead}
@@ -44,19 +44,19 @@ module _ (s : List ℕ) where
   begun_ended off = go (plan_of s).verdict refl
     where
       go : (v : Verdict) → (plan_of s).verdict ≡ v → (check_begins s).judged ≡ judged_of s
-      go Passed e = absurd (not_true_and_false (sym (ap (λ (c : Checked). c.more) (begun_by_lem s (plan_of s) Passed refl e))) off)
-      go (Refused n p) e =
-          ap (λ (c : Checked). c.judged) (sym (begun_by_lem s (plan_of s) (Refused n p) refl e)) ∙ judged_by s (plan_of s) (Refused n p) refl e
+      go (Ok _) e = absurd (not_true_and_false (sym (ap (λ (c : Checked). c.more) (begun_by_lem s (plan_of s) (Ok tt) refl e))) off)
+      go (Err r) e =
+          ap (λ (c : Checked). c.judged) (sym (begun_by_lem s (plan_of s) (Err r) refl e)) ∙ judged_by s (plan_of s) (Err r) refl e
 
-  pub begun_accepted : (check_begins s).more ≡ true → (plan_of s).verdict ≡ Passed
+  pub begun_accepted : (check_begins s).more ≡ true → (plan_of s).verdict ≡ Ok tt
   begun_accepted on = go (plan_of s).verdict refl
     where
-      go : (v : Verdict) → (plan_of s).verdict ≡ v → (plan_of s).verdict ≡ Passed
-      go Passed e = e
-      go (Refused n p) e = absurd (not_true_and_false on (ap (λ (c : Checked). c.more) (sym (begun_by_lem s (plan_of s) (Refused n p) refl e))))
+      go : (v : Verdict) → (plan_of s).verdict ≡ v → (plan_of s).verdict ≡ Ok tt
+      go (Ok _) e = e
+      go (Err r) e = absurd (not_true_and_false on (ap (λ (c : Checked). c.more) (sym (begun_by_lem s (plan_of s) (Err r) refl e))))
 
   pub begun_on : (check_begins s).more ≡ true → check_begins s ≡ goes_on (fresh_link (plan_of s).tree) (plan_of s).used 0
-  begun_on on = sym (begun_by_lem s (plan_of s) Passed refl (begun_accepted on))
+  begun_on on = sym (begun_by_lem s (plan_of s) (Ok tt) refl (begun_accepted on))
 
   pub begun_sound : (check_begins s).more ≡ true → SoundLink (check_begins s).link
   begun_sound on =
@@ -67,14 +67,14 @@ module _ (s : List ℕ) where
   begun_inside = go (plan_of s).verdict refl
     where
       go : (v : Verdict) → (plan_of s).verdict ≡ v → (check_begins s).place ≤ length s
-      go Passed e = subst (λ (c : Checked). c.place ≤ length s) (begun_by_lem s (plan_of s) Passed refl e) (plan_inside s e)
-      go (Refused n p) e = subst (λ (c : Checked). c.place ≤ length s) (begun_by_lem s (plan_of s) (Refused n p) refl e) (omega arith)
+      go (Ok _) e = subst (λ (c : Checked). c.place ≤ length s) (begun_by_lem s (plan_of s) (Ok tt) refl e) (plan_inside s e)
+      go (Err r) e = subst (λ (c : Checked). c.place ≤ length s) (begun_by_lem s (plan_of s) (Err r) refl e) (omega arith)
 
   -- the entries after the plan then judge it
   pub judged_on : (check_begins s).more ≡ true
       → judged_of s ≡ (part_of true (way_from (check_begins s).link (check_begins s).place 0 (drop (check_begins s).place s))).at.judged
   judged_on on =
-      sym (judged_by s (plan_of s) Passed refl (begun_accepted on))
+      sym (judged_by s (plan_of s) (Ok tt) refl (begun_accepted on))
       ∙ ap (λ (c : Checked). (part_of true (way_from c.link c.place 0 (drop c.place s))).at.judged) (sym (begun_on on))
 
 -- ---- a part
@@ -87,7 +87,7 @@ fits_room place claims n e p c =
     (omega (arith, leb-true n (most - place) both.0, p), omega (arith, leb-true n (most - claims) both.1, c))
 
 module _ (last : Bool) (l : Link) (place claims : ℕ) (part : List ℕ) (r : Checked) where
-  pub part_unsound : Exactly false (SoundLink l) → r ≡ decides (Stop 11 0) l place claims → JudgesPart last l place claims part r
+  pub part_unsound : Exactly false (SoundLink l) → r ≡ decides (Stop (refusal_at NotSound 0)) l place claims → JudgesPart last l place claims part r
   part_unsound x d = record {
     sound = false;
     exactly = x;

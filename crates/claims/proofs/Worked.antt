@@ -3,7 +3,8 @@
 use mathlib.Core.List.{List, [], ◌∷◌, ◌++◌, map}
 use mathlib.Core.Path.{◌≡◌, refl}
 use Prim.Native.Nat.{ℕ}
-use Rattle.checks.specs.Check.{first_broken, class_by_class}
+use Rattle.checks.specs.declared.Refusal.TheVariants.{Cut, NoClass, UnknownKind, Unpaired}
+use Rattle.checks.specs.Check.{first_broken, class_by_class, refusal_at}
 use Rattle.sets.specs.Set.{has, with, without}
 use Rattle.units.specs.Cost.{cost_of}
 use Rattle.tree.specs.Class.{is_class, is_leaf, is_inner, is_child, of_child, children_sum, children_weight, has_child}
@@ -82,19 +83,19 @@ cases =
     ∷ is (tree_p ++ sent ++ claims 4 10 4) (FalseAt 32)
     ∷ is (loaded ++ first_send_of_p ++ sent ++ claims 3 10 2) (FalseAt 73)
     -- a send at the very end, before a send, before an unknown kind
-    ∷ is (loaded ++ sent) (Stop 19 63)
-    ∷ is (loaded ++ sent ++ sent ++ idle) (Stop 19 63)
-    ∷ is (loaded ++ sent ++ (0 ∷ [])) (Stop 19 63)
+    ∷ is (loaded ++ sent) (Stop (refusal_at Unpaired 63))
+    ∷ is (loaded ++ sent ++ sent ++ idle) (Stop (refusal_at Unpaired 63))
+    ∷ is (loaded ++ sent ++ (0 ∷ [])) (Stop (refusal_at Unpaired 63))
     -- a claim first, and after a claim; one that is cut, after a send and first
-    ∷ is (tree_p ++ idle) (Stop 19 31)
-    ∷ is (loaded ++ first_send_of_p ++ idle) (Stop 19 72)
-    ∷ is (loaded ++ sent ++ (18 ∷ 4 ∷ 0 ∷ [])) (Stop 1 64)
-    ∷ is (tree_p ++ (18 ∷ 4 ∷ 0 ∷ [])) (Stop 1 31)
+    ∷ is (tree_p ++ idle) (Stop (refusal_at Unpaired 31))
+    ∷ is (loaded ++ first_send_of_p ++ idle) (Stop (refusal_at Unpaired 72))
+    ∷ is (loaded ++ sent ++ (18 ∷ 4 ∷ 0 ∷ [])) (Stop (refusal_at Cut 64))
+    ∷ is (tree_p ++ (18 ∷ 4 ∷ 0 ∷ [])) (Stop (refusal_at Cut 31))
     -- an unknown kind, a cut arrival, plans that are refused
-    ∷ is (loaded ++ first_send_of_p ++ (2 ∷ [])) (Stop 2 72)
-    ∷ is (tree_p ++ (16 ∷ 4 ∷ [])) (Stop 1 31)
-    ∷ is [] (Stop 1 0)
-    ∷ is (0 ∷ []) (Stop 9 0)
+    ∷ is (loaded ++ first_send_of_p ++ (2 ∷ [])) (Stop (refusal_at UnknownKind 72))
+    ∷ is (tree_p ++ (16 ∷ 4 ∷ [])) (Stop (refusal_at Cut 31))
+    ∷ is [] (Stop (refusal_at Cut 0))
+    ∷ is (0 ∷ []) (Stop (refusal_at NoClass 0))
     ∷ []
 
 computed : map (λ (c : Case). judged_of c.bytes) cases ≡ map (λ (c : Case). c.judged) cases

@@ -1,9 +1,8 @@
 -- A recording in parts (R303 to R305): how a check begins, what a part on any record gives, and parts one after the other. However an input
 -- is cut into parts, it is judged as the whole is: proofs/InParts. Demands 1 and 2.
-use Rattle.std.specs.Prelude.{Bool, true, false, cond, ◌&&◌, List, [], ◌∷◌, ◌++◌, ◌≡◌, ℕ, ◌-◌, leb, length, drop}
-use Rattle.checks.specs.declared.Verdict.{Verdict}
-use Rattle.checks.specs.declared.Verdict.TheVariants.{Passed, Refused}
-use Rattle.checks.specs.Check.{Exactly}
+use Rattle.checks.specs.declared.Refusal.TheVariants.{NotSound}
+use Rattle.std.specs.Prelude.{Bool, true, false, cond, ◌&&◌, List, [], ◌∷◌, ◌++◌, ◌≡◌, ℕ, ◌-◌, leb, length, drop, Ok, Err}
+use Rattle.checks.specs.Check.{Exactly, Verdict, refusal_at}
 use Rattle.plan.specs.declared.PlanRead.{PlanRead}
 use Rattle.plan.specs.Reader.{plan_of}
 use Rattle.state.specs.declared.Link.{Link}
@@ -17,8 +16,8 @@ use Rattle.claims.specs.Recording.{goes_on, decides, way_from, part_of}
 
 -- a check begins with the plan: where it is refused that decides; else it goes on with a fresh link, after the plan (R305)
 abbrev pub begins_with : Verdict → PlanRead → Checked
-begins_with Passed read = goes_on (fresh_of true read.tree).link read.used 0
-begins_with (Refused n p) read = decides (Stop n p) no_link 0 0
+begins_with (Ok _) read = goes_on (fresh_of true read.tree).link read.used 0
+begins_with (Err e) read = decides (Stop e) no_link 0 0
 
 unfoldable pub check_begins : List ℕ → Checked
 check_begins window = begins_with (plan_of window).verdict (plan_of window)
@@ -32,7 +31,7 @@ fits place claims n = leb n (most - place) && leb n (most - claims)
 
 -- what a part gives: 11 at 0 on a link that is not sound; else entry after entry, where the numbers fit (R304)
 abbrev pub part_gives : Bool → Bool → Link → ℕ → ℕ → List ℕ → Checked
-part_gives false last l place claims part = decides (Stop 11 0) l place claims
+part_gives false last l place claims part = decides (Stop (refusal_at NotSound 0)) l place claims
 part_gives true last l place claims part =
     cond (fits place claims (length part)) (part_of last (way_from l place claims part)).at (goes_on l place claims)
 

@@ -1,8 +1,7 @@
 -- How a run is written as a recording (R301): each call that was made, a send with the claim that its answer makes true. Demand 2.
-use Rattle.std.specs.Prelude.{List, [], ◌∷◌, ◌++◌, ℕ, ◌+◌, ◌/◌, ◌%◌}
+use Rattle.plan.specs.Entry.{Claim}
+use Rattle.std.specs.Prelude.{List, [], ◌∷◌, ◌++◌, ℕ, ◌+◌, ◌/◌, ◌%◌, Some, None}
 use Rattle.plan.specs.declared.Arrived.{Arrived}
-use Rattle.plan.specs.declared.Claim.{Claim}
-use Rattle.plan.specs.declared.Claim.TheVariants.{Sent, Idle}
 use Rattle.calls.specs.Run.{arrival, send, Made, made}
 use Rattle.claims.specs.Recording.{true_claim}
 
@@ -15,8 +14,8 @@ body_bytes a =
 
 -- a claim: kind 18 and a packet, or kind 19 (R301)
 abbrev pub claim_bytes : Claim → List ℕ
-claim_bytes (Sent a) = 18 ∷ body_bytes a
-claim_bytes Idle = 19 ∷ []
+claim_bytes (Some a) = 18 ∷ body_bytes a
+claim_bytes None = 19 ∷ []
 
 -- a call that was made: kind 16 and its packet, taken or refused; or kind 17 and the claim that its answer makes true (R301)
 abbrev pub call_bytes : Made → List ℕ

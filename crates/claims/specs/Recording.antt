@@ -1,15 +1,11 @@
 -- What a recording is judged to be (R295 to R300, R303, R307): a plan, then entry after entry by our rules, from a fresh link; the first
 -- that is malformed or a false claim decides. Demands 1 and 2.
-use Rattle.std.specs.Prelude.{Bool, true, false, cond, ◌&&◌, ◌||◌, List, ℕ, zero, suc, ◌+◌, ◌-◌, eqb, leb, length, drop}
-use Rattle.checks.specs.declared.Verdict.{Verdict}
-use Rattle.checks.specs.declared.Verdict.TheVariants.{Passed, Refused}
+use Rattle.plan.specs.declared.entry.Entry.TheVariants.{Arrives, Claims}
+use Rattle.checks.specs.Check.{Verdict, refusal_at}
+use Rattle.std.specs.Prelude.{Bool, true, false, cond, ◌&&◌, ◌||◌, List, ℕ, zero, suc, ◌+◌, ◌-◌, eqb, leb, length, drop, Ok, Err, Some, None}
 use Rattle.plan.specs.declared.Arrived.{Arrived}
-use Rattle.plan.specs.declared.Claim.{Claim}
-use Rattle.plan.specs.declared.Claim.TheVariants.{Sent, Idle}
-use Rattle.plan.specs.declared.EntryRead.{EntryRead}
-use Rattle.plan.specs.declared.EntryRead.TheVariants.{Ended, Arrives, Claims, Stops}
 use Rattle.plan.specs.declared.PlanRead.{PlanRead}
-use Rattle.plan.specs.Entry.{entry_at, claim_uses, longest_entry}
+use Rattle.plan.specs.Entry.{entry_at, claim_uses, longest_entry, EntryRead, Claim}
 use Rattle.plan.specs.Reader.{plan_of}
 use Rattle.state.specs.declared.Link.{Link}
 use Rattle.calls.specs.declared.AfterArrival.{AfterArrival}
@@ -25,8 +21,8 @@ use Rattle.claims.specs.declared.Checked.{Checked}
 
 -- the claim that a send's answer makes true: its class, length and tag, or nothing waiting (R295)
 abbrev pub claim_by : Verdict → Departure → Claim
-claim_by Passed d = Sent (record { class = d.class; length = d.length; tag = d.tag })
-claim_by (Refused n q) d = Idle
+claim_by (Ok _) d = Some (record { class = d.class; length = d.length; tag = d.tag })
+claim_by (Err _) d = None
 
 abbrev pub true_claim : Departure → Claim
 true_claim d = claim_by d.verdict d
@@ -36,10 +32,10 @@ abbrev pub same_packet : Arrived → Arrived → Bool
 same_packet a b = eqb a.class b.class && (eqb a.length b.length && eqb a.tag b.tag)
 
 abbrev pub same_claim : Claim → Claim → Bool
-same_claim (Sent a) (Sent b) = same_packet a b
-same_claim (Sent a) Idle = false
-same_claim Idle (Sent b) = false
-same_claim Idle Idle = true
+same_claim (Some a) (Some b) = same_packet a b
+same_claim (Some a) None = false
+same_claim None (Some b) = false
+same_claim None None = true
 
 -- ---- one entry
 
@@ -63,16 +59,16 @@ call_gives l a = arrival_of true l a.class (record { length = a.length; tag = a.
 
 -- an arrival that our rules take goes on with the link after it; one that they refuse is passed over and alters nothing (R297)
 abbrev pub after_arrival : Verdict → Link → Link → ℕ → ℕ → Checked
-after_arrival Passed l after place claims = goes_on after (place + 8) claims
-after_arrival (Refused n q) l after place claims = goes_on l (place + 8) claims
+after_arrival (Ok _) l after place claims = goes_on after (place + 8) claims
+after_arrival (Err _) l after place claims = goes_on l (place + 8) claims
 
 -- what an entry at a place gives, on a sound link: an arrival is made as a call; a send is made and its claim compared with what it
 -- answers; the end of input is good; a malformed entry decides (R297 to R299)
 abbrev pub entry_gives : Link → ℕ → ℕ → EntryRead → Checked
-entry_gives l place claims Ended = decides (Good claims) l place claims
-entry_gives l place claims (Arrives a) = after_arrival (call_gives l a).answer.verdict l (call_gives l a).link place claims
-entry_gives l place claims (Claims c) = claim_gives (same_claim c (true_claim (send_of true l).answer)) (send_of true l).link c place claims
-entry_gives l place claims (Stops n k) = decides (Stop n (place + k)) l place claims
+entry_gives l place claims (Ok None) = decides (Good claims) l place claims
+entry_gives l place claims (Ok (Some (Arrives a))) = after_arrival (call_gives l a).answer.verdict l (call_gives l a).link place claims
+entry_gives l place claims (Ok (Some (Claims c))) = claim_gives (same_claim c (true_claim (send_of true l).answer)) (send_of true l).link c place claims
+entry_gives l place claims (Err e) = decides (Stop (refusal_at e.0 (place + e.1))) l place claims
 
 -- ---- entry after entry
 
@@ -110,8 +106,8 @@ part_of last w = takes (suc (length w.rest)) last w
 
 -- a refused plan is refused as the reader gives it; else the entries after it are judged from a fresh link, as one last part (R300)
 abbrev pub plan_judges : Verdict → PlanRead → List ℕ → Judged
-plan_judges Passed read input = (part_of true (way_from (fresh_of true read.tree).link read.used 0 (drop read.used input))).at.judged
-plan_judges (Refused n p) read input = Stop n p
+plan_judges (Ok _) read input = (part_of true (way_from (fresh_of true read.tree).link read.used 0 (drop read.used input))).at.judged
+plan_judges (Err e) read input = Stop e
 
 -- what a recording is judged to be: good, with the number of its claims; or the place of its first false claim; or a refusal's number and
 -- place (R300)

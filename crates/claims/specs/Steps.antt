@@ -1,10 +1,7 @@
 -- What the inner steps of a check in place say; no rule of its own.
-use Rattle.std.specs.Prelude.{Bool, true, false, cond, ◌≡◌, List, ℕ, ◌+◌}
+use Rattle.std.specs.Prelude.{Bool, true, false, cond, ◌≡◌, List, ℕ, ◌+◌, Some, None}
 use Rattle.plan.specs.declared.Arrived.{Arrived}
-use Rattle.plan.specs.declared.Claim.{Claim}
-use Rattle.plan.specs.declared.Claim.TheVariants.{Sent, Idle}
-use Rattle.plan.specs.declared.EntryRead.{EntryRead}
-use Rattle.plan.specs.Entry.{claim_uses}
+use Rattle.plan.specs.Entry.{claim_uses, EntryRead, Claim}
 use Rattle.state.specs.declared.Link.{Link}
 use Rattle.state.specs.Queue.{Shaped}
 use Rattle.sound.specs.Sound.{SoundLink}
@@ -21,7 +18,7 @@ abbrev pub packet_of : Went → Arrived
 packet_of w = record { class = w.class; length = w.packet.length; tag = w.packet.tag }
 
 abbrev pub claim_of : Went → Claim
-claim_of w = cond w.some (Sent (packet_of w)) Idle
+claim_of w = cond w.some (Some (packet_of w)) None
 
 -- an entry beside the arrays: the check goes on, or it has been decided
 abbrev pub did_go_on : ℕ → ℕ → Stand → Did

@@ -10,6 +10,8 @@ ghost use Rattle.claims.specs.Recording.{same_packet, same_claim};
 ghost use Rattle.claims.specs.Steps.{packet_of, claim_of, did_go_on, did_decide, claim_did, Enterable, Enters, PartDone};
 
 use crate::{Checked, Judged};
+use checks::Refused;
+use plan::entry::Entry;
 use plan::{Arrived, Claim, EntryRead};
 use state::{Link, Packet, Round, Totals};
 use steps::{Stand, Went};
@@ -29,9 +31,8 @@ pub struct Did {
 fn goes_on(place: usize, claims: usize, stand: Stand) -> Did
     ensures { result ≡ did_go_on place claims stand }
 {
-    let judged = Judged::Good(claims);
     Did {
-        judged,
+        judged: Judged::Good(claims),
         more: true,
         place,
         claims,
@@ -52,25 +53,12 @@ fn decides(judged: Judged, place: usize, claims: usize, stand: Stand) -> Did
     }
 }
 
-// A class number, wide.
-fn wide(class: u8) -> usize
-    ensures { result ≡ class }
-{
-    class as usize
-}
-
 // Whether a packet's claim names the class, the length and the tag of what has gone.
 fn same_packet(a: Arrived, went: Went) -> bool
     ensures { result ≡ same_packet a (packet_of went) }
 {
     let packet = went.packet;
-    if wide(a.class) != went.class {
-        return false;
-    }
-    if a.length != packet.length {
-        return false;
-    }
-    a.tag == packet.tag
+    usize::from(a.class) == went.class && a.length == packet.length && a.tag == packet.tag
 }
 
 // Whether a claim is the one that a send makes true.
@@ -79,8 +67,8 @@ fn same_claim(claim: Claim, went: Went) -> bool
 {
     let some = went.some;
     match claim {
-        Claim::Sent(a) => some && same_packet(a, went),
-        Claim::Idle => !some,
+        Some(a) => some && same_packet(a, went),
+        None => !some,
     }
 }
 
@@ -89,8 +77,8 @@ fn claim_uses(claim: Claim) -> usize
     ensures { result ≡ 1 + claim_uses claim }
 {
     match claim {
-        Claim::Sent(_) => 9,
-        Claim::Idle => 2,
+        Some(_) => 9,
+        None => 2,
     }
 }
 
@@ -141,14 +129,15 @@ fn entry(
     let stand = did.stand;
     let read = plan::read_entry(rest);
     match read {
-        EntryRead::Ended => decides(Judged::Good(claims), place, claims, stand),
-        EntryRead::Arrives(a) => {
-            let len = a.length;
-            let tag = a.tag;
-            let packet = Packet { length: len, tag };
-            let answer = steps::arrive(
+        Ok(None) => decides(Judged::Good(claims), place, claims, stand),
+        Ok(Some(Entry::Arrives(a))) => {
+            let packet = Packet {
+                length: a.length,
+                tag: a.tag,
+            };
+            steps::arrive(
                 true,
-                wide(a.class),
+                usize::from(a.class),
                 packet,
                 shape,
                 start,
@@ -162,14 +151,18 @@ fn entry(
             );
             goes_on(place + 8, claims, stand)
         }
-        EntryRead::Claims(c) => {
+        Ok(Some(Entry::Claims(c))) => {
             let went = steps::send(
                 shape, children, kept, stand, balance, residual, start, held, lengths, tags, marks,
                 packets, bytes,
             );
             compared(c, went, place, claims)
         }
-        EntryRead::Stops(n, k) => decides(Judged::Stop(n, place + k), place, claims, stand),
+        Err(refused) => {
+            let Refused(refusal, k) = refused;
+            let stop = Judged::Stop(Refused(refusal, place + k));
+            decides(stop, place, claims, stand)
+        },
     }
 }
 
@@ -185,8 +178,7 @@ pub fn entries(link: Link, part: &[u8], place: usize, claims: usize, last: bool)
     requires { SoundLink link × (place + length part.now < 2 ^ 64) × (claims + length part.now < 2 ^ 64) }
     ensures { PartDone last link place claims part.now result }
 {
-    let tree = link.tree;
-    let shape = shape::shape_of(tree);
+    let shape = shape::shape_of(link.tree);
     let children = shape::families(&shape);
     let mut kept = [0u32; 64];
     let before = link.round.accounts;
@@ -200,10 +192,9 @@ pub fn entries(link: Link, part: &[u8], place: usize, claims: usize, last: bool)
     let counted = link.totals;
     let mut packets = counted.packets;
     let mut bytes = counted.bytes;
-    let size = link.round.size;
     let stand = Stand {
         known: 0,
-        size,
+        size: link.round.size,
         active: link.round.active,
         place: link.round.place,
         charged: counted.charged,
@@ -231,9 +222,7 @@ pub fn entries(link: Link, part: &[u8], place: usize, claims: usize, last: bool)
     let accounts = state::lent_accounts::zipped(&balance, &residual);
     totals::work_out(true, &shape, &children, &mut packets, &mut bytes);
     let then = s.stand;
-    let size_after = then.size;
     let after = Link {
-        tree,
         lengths,
         tags,
         marks,
@@ -245,15 +234,15 @@ pub fn entries(link: Link, part: &[u8], place: usize, claims: usize, last: bool)
             charged: then.charged,
         },
         round: Round {
-            size: size_after,
+            size: then.size,
             active: then.active,
             place: then.place,
             accounts,
         },
+        ..link
     };
-    let judged = s.judged;
     Checked {
-        judged,
+        judged: s.judged,
         more: s.more,
         link: after,
         place: s.place,

@@ -5,23 +5,23 @@
 
 mod in_place;
 
-ghost use Rattle.std.specs.Prelude.{◌≡◌};
-ghost use Rattle.checks.specs.declared.Verdict.TheVariants.{Passed};
+ghost use Rattle.std.specs.Prelude.{◌≡◌, Ok};
 ghost use Rattle.tree.specs.Rules.{PlanRules};
 ghost use Rattle.claims.specs.Recording.{decides, goes_on, judged_of};
 ghost use Rattle.claims.specs.Parts.{begins_with, check_begins, fits, JudgesPart};
 
-use checks::Verdict;
+use checks::{Refusal, Refused};
 use plan::PlanRead;
 use state::Link;
 
 // What a recording is judged to be: good, with the number of its claims; the place of the first false claim; or a refusal's number and
 // place.
+// Three answers, one of them a refusal: a Result round the other two would be taken apart in each match that reads them.
 #[derive(Clone, Copy)]
 pub enum Judged {
     Good(usize),
     FalseAt(usize),
-    Stop(u8, usize),
+    Stop(Refused),
 }
 
 // How far a check has come: what the recording is judged to be so far, whether the check goes on, with which link, at which place, and how
@@ -39,9 +39,8 @@ pub struct Checked {
 fn goes_on(link: Link, place: usize, claims: usize) -> Checked
     ensures { result ≡ goes_on link place claims }
 {
-    let judged = Judged::Good(claims);
     Checked {
-        judged,
+        judged: Judged::Good(claims),
         more: true,
         link,
         place,
@@ -78,7 +77,12 @@ pub fn part(link: Link, place: usize, claims: usize, bytes: &[u8], last: bool) -
     ensures { JudgesPart last link place claims bytes.now result }
 {
     if !sound::is_sound(link) {
-        return decides(Judged::Stop(checks::NOT_SOUND, 0), link, place, claims);
+        return decides(
+            Judged::Stop(Refused(Refusal::NotSound, 0)),
+            link,
+            place,
+            claims,
+        );
     }
     if !fits(place, claims, bytes.len()) {
         return goes_on(link, place, claims);
@@ -89,7 +93,7 @@ pub fn part(link: Link, place: usize, claims: usize, bytes: &[u8], last: bool) -
 // The fresh link of an accepted plan, and the place after it.
 fn after_plan(read: PlanRead) -> Checked
     requires { PlanRules read.tree }
-    ensures { result ≡ begins_with Passed read }
+    ensures { result ≡ begins_with (Ok tt) read }
 {
     let tree = read.tree;
     let fresh = link::fresh(tree);
@@ -104,8 +108,8 @@ pub fn begin(input: &[u8]) -> Checked
     let read = plan::read_plan(input);
     let verdict = read.verdict;
     match verdict {
-        Verdict::Passed => after_plan(read),
-        Verdict::Refused(n, p) => decides(Judged::Stop(n, p), Link::none(), 0, 0),
+        Ok(()) => after_plan(read),
+        Err(refused) => decides(Judged::Stop(refused), Link::none(), 0, 0),
     }
 }
 

@@ -4,9 +4,10 @@ use mathlib.Core.List.{List, [], ◌∷◌}
 use mathlib.Core.Path.{◌≡◌, refl, sym, ap, ap₂, subst, ◌∙◌}
 use Prim.Native.Nat.{ℕ}
 use lib.ListN.{length, length-set, length-replicate, replicate}
-use Rattle.checks.specs.declared.Verdict.{Verdict}
-use Rattle.checks.specs.declared.Verdict.TheVariants.{Passed, Refused}
-use Rattle.checks.specs.Check.{check, Exactly, number_of}
+use Rattle.checks.specs.declared.Refusal.TheVariants.{NotSound}
+use Rattle.checks.specs.declared.Refusal.{Refusal}
+use Rattle.std.specs.Prelude.{Ok, Err}
+use Rattle.checks.specs.Check.{check, Exactly, number_of, Verdict, refusal_at}
 use Rattle.checks.proofs.Laws.{decides}
 use Rattle.tree.specs.declared.Tree.{Tree}
 use Rattle.tree.specs.Rules.{PlanRules}
@@ -110,15 +111,15 @@ module _ {l : Link} {class n : ℕ} {answer : Arrival} {after : Link}
   }
 
   -- one that is refused is offered nothing
-  pub offers_none : {k p : ℕ} → answer.verdict ≡ Refused k p
+  pub offers_none : {k : Refusal} {p : ℕ} → answer.verdict ≡ Err (refusal_at k p)
       → Offers l class n (record { verdict = answer.verdict; bytes = answer.bytes; wait = record { 0 = 0 } })
   offers_none refused = offers_by 0 (sym (ap (λ (v : Verdict). wait_by v l class answer.bytes.0) refused))
 
   -- one that is accepted is on a link whose tree obeys the plan rules, and its wait is the promise of that tree
-  pub accepted_rules : answer.verdict ≡ Passed → PlanRules l.tree
+  pub accepted_rules : answer.verdict ≡ Ok tt → PlanRules l.tree
   accepted_rules accepted = (sound l class (of_length n) (arrival_leaves answer after) arrives accepted).state.fits.tree
 
-  pub accepted_wait : {t : Tree} → t ≡ l.tree → answer.verdict ≡ Passed → (r : Promised) → Promises t class answer.bytes.0 r
+  pub accepted_wait : {t : Tree} → t ≡ l.tree → answer.verdict ≡ Ok tt → (r : Promised) → Promises t class answer.bytes.0 r
       → r.bytes.0 ≡ wait_by answer.verdict l class answer.bytes.0
   accepted_wait is accepted r promises =
       promise_is_bound l class n (arrival_leaves answer after) arrives accepted r
@@ -133,9 +134,9 @@ shape_arrays s = record { parents = table_length _ 64; weights = table_length _ 
 
 -- of one that breaks the plan rules nothing is
 pub shape_refused : (s before : List ℕ) → Exactly false (PlanRules (tree_in s))
-    → Writes (tree_in s) before (nothing_written (Refused 11 0)) before
+    → Writes (tree_in s) before (nothing_written (Err (refusal_at NotSound 0))) before
 shape_refused s before exactly =
-    let first = decides (check 11 (not false) 0) _ refl in
+    let first = decides (check NotSound (not false) 0) _ refl in
     record {
       shape = shape_arrays s;
       obeys = false;

@@ -7,7 +7,7 @@ use mathlib.Core.Path.{◌≡◌, refl, sym, ap, ◌∙◌}
 use Prim.Native.Nat.{ℕ}
 use native.Mathlib.Omega.{arith}
 use lib.ListN.{length}
-use Rattle.checks.specs.declared.Verdict.TheVariants.{Passed}
+use Rattle.std.specs.Prelude.{Ok}
 use Rattle.checks.specs.Check.{number_of}
 use Rattle.checks.proofs.Laws.{exactly_yes, exactly_unique}
 use Rattle.state.specs.declared.Link.{Link}
@@ -23,7 +23,7 @@ use Rattle.calls.proofs.Arrivals.{arrival_one_answer}
 use Rattle.calls.proofs.Departures.{send_one_answer}
 use Rattle.offered.specs.declared.Offered.{Offered}
 use Rattle.offered.proofs.Offering.{offer_one_answer}
-use Rattle.reasons.specs.declared.Silence.{Silence}
+use Rattle.reasons.specs.Answer.{Silence}
 use Rattle.reasons.specs.Answer.{told_verdict}
 use Rattle.reasons.proofs.OneReason as reasons
 use Rattle.answers.specs.Reply.{reply_to, row_of}
@@ -93,12 +93,12 @@ zero_sound n false e zero = absurd (omega (arith, e, zero))
 -- its marks are (R350)
 pub totals_told : {f : List ℕ → List ℕ → Link} {n : ℕ} → CallTotals f n → n ≡ 0 → (tags marks : List ℕ)
     → length (f tags marks).totals.packets ≡ 64 → length (f tags marks).totals.bytes ≡ 64
-    → TellsTotals (f tags marks) (record { verdict = Passed; totals = (f tags marks).totals })
+    → TellsTotals (f tags marks) (record { verdict = Ok tt; totals = (f tags marks).totals })
 totals_told {f = f} {n = n} is zero tags marks packets bytes =
     let on = zero_sound n is.sound is.answers zero in
     let sound = (is.exactly tags marks).sound on in
     record {
       sound = true;
       exactly = exactly_yes sound;
-      answer = ap (λ (t : Totals). record { verdict = Passed; totals = t }) (sound_totals (f tags marks) sound packets bytes);
+      answer = ap (λ (t : Totals). record { verdict = Ok tt; totals = t }) (sound_totals (f tags marks) sound packets bytes);
     }

@@ -14,7 +14,7 @@ use Rattle.calls.specs.Send.{Sends, send_leaves}
 use Rattle.calls.specs.Run.{arrival, send, made}
 use Rattle.offered.specs.declared.Offered.{Offered}
 use Rattle.offered.specs.Offer.{Offers}
-use Rattle.reasons.specs.declared.Silence.{Silence}
+use Rattle.reasons.specs.Answer.{Silence}
 use Rattle.reasons.specs.Answer.{told_verdict, SaysWhy}
 use Rattle.answers.specs.Reply.{reply_to, row_of}
 use Rattle.page_calls.specs.Kept.{said_of}

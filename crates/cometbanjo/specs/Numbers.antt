@@ -1,12 +1,11 @@
 -- What the numbers of the exported calls mean: a link's bytes, a length, an offer, a reason (R348, R351, R352). Demands 1 to 3.
-use Rattle.std.specs.Prelude.{List, [], ◌∷◌, ℕ, ◌+◌, ◌*◌, min}
-use Rattle.checks.specs.Check.{number_of, place_of}
+use Rattle.std.specs.Prelude.{List, [], ◌∷◌, ℕ, ◌+◌, ◌*◌, min, Ok, Err}
+use Rattle.checks.specs.Check.{number, number_of, place_of}
 use Rattle.state.specs.declared.Packet.{Packet}
 use Rattle.offered.specs.declared.Offered.{Offered}
 use Rattle.reasons.specs.declared.Reason.{Reason}
 use Rattle.reasons.specs.declared.Reason.TheVariants.{Empty, Waits, Short, Due}
-use Rattle.reasons.specs.declared.Silence.{Silence}
-use Rattle.reasons.specs.declared.Silence.TheVariants.{Because, NotTold}
+use Rattle.reasons.specs.Answer.{Silence}
 
 -- the bytes of a link in its arrays: of 8 bytes the shape, where it stands, four tables by class and the marks; of 4 the tags, of 2 the
 -- lengths, of 1 two tables by class (R352)
@@ -39,5 +38,5 @@ lacking_of Due = 0
 
 -- why a class is silent: its refusal, or 0 and 0, the reason and the bytes lacking (R351)
 abbrev pub why_said : Silence → List ℕ
-why_said (Because reason) = 0 ∷ 0 ∷ reason_number reason ∷ lacking_of reason ∷ []
-why_said (NotTold n p) = n ∷ p ∷ 0 ∷ 0 ∷ []
+why_said (Ok reason) = 0 ∷ 0 ∷ reason_number reason ∷ lacking_of reason ∷ []
+why_said (Err e) = number e.0 ∷ e.1 ∷ 0 ∷ 0 ∷ []

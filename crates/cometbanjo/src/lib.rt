@@ -16,6 +16,7 @@ ghost use Rattle.cometbanjo.specs.Numbers.{link_bytes};
 ghost use Rattle.cometbanjo.specs.Calls.{CallOpens, CallArrives, CallSends, CallTotals, CallOffers, CallWhy};
 
 use answers::call;
+use checks::Refusal;
 use numbers::{
     arrival_row, four_of, number_of, offer_said, packet_of, said_of, send_row, why_number, why_said,
 };
@@ -223,7 +224,7 @@ pub extern "C" fn cb_totals_fields(
     ) {
         return 0;
     }
-    checks::NOT_SOUND as u64
+    Refusal::NotSound.number() as u64
 }
 
 // What a packet would be promised if it came now: the refusal's number; number, place, D and the bound.

@@ -9,8 +9,9 @@ ghost use Rattle.answers.specs.Reply.{reply_to, row_of};
 ghost use Rattle.page_calls.specs.Kept.{said_of};
 ghost use Rattle.cometbanjo.specs.Numbers.{met_length, packet_of, offer_said, reason_number, lacking_of, why_said};
 
+use answers::Kind;
 use calls::{Arrival, Departure};
-use checks::Verdict;
+use checks::{Refused, Verdict};
 use offered::Offered;
 use reasons::{Reason, Silence};
 use state::Packet;
@@ -71,7 +72,7 @@ pub(crate) fn arrival_row(class: usize, packet: Packet, came: Arrival) -> [u64; 
     let place = checks::place(verdict) as u64;
     let bytes = came.bytes;
     [
-        16,
+        Kind::Arrival.number(),
         number,
         place,
         class as u64,
@@ -89,7 +90,7 @@ pub(crate) fn send_row(went: Departure) -> [u64; 8]
     let n = number_of(verdict);
     let p = checks::place(verdict) as u64;
     [
-        17,
+        Kind::Send.number(),
         n,
         p,
         went.class as u64,
@@ -140,8 +141,11 @@ pub(crate) fn why_said(silence: Silence) -> [u64; 4]
     ensures { result ≡ why_said silence }
 {
     match silence {
-        Silence::Because(reason) => [0, 0, reason_number(reason), lacking(reason)],
-        Silence::NotTold(n, p) => [n as u64, p as u64, 0, 0],
+        Ok(reason) => [0, 0, reason_number(reason), lacking(reason)],
+        Err(refused) => {
+            let Refused(refusal, place) = refused;
+            [refusal.number() as u64, place as u64, 0, 0]
+        },
     }
 }
 
@@ -149,7 +153,7 @@ pub(crate) fn why_number(silence: Silence) -> u64
     ensures { result ≡ number_of (told_verdict silence) }
 {
     match silence {
-        Silence::Because(_) => 0,
-        Silence::NotTold(n, _) => n as u64,
+        Ok(_) => 0,
+        Err(refused) => refused.0.number() as u64,
     }
 }

@@ -4,7 +4,6 @@ ghost use Rattle.answers.specs.Burst.{link_in};
 ghost use Rattle.offered.specs.Offer.{Offers};
 
 use answers::call;
-use checks::Verdict;
 use offered::Offered;
 use state::Packet;
 use units::Bytes;
@@ -51,7 +50,7 @@ pub(crate) fn if_accepted(
     );
     let verdict = answer.verdict;
     let bytes = answer.bytes;
-    if let Verdict::Passed = verdict {
+    if let Ok(()) = verdict {
         let tree = shape::tree_of(shape);
         let promise = promised::longest_wait(tree, class, bytes);
         let wait = promise.bytes;

@@ -5,7 +5,7 @@ ghost use Rattle.written.specs.Writing.{Writes};
 ghost use Rattle.page_calls.specs.Calls.{WritesTree, MendsPlan, RatesOf, WaitsOf, BoundOf};
 
 use crate::numbers::{number_of, said_of};
-use checks::Verdict;
+use checks::{Refusal, Refused};
 use written::Written;
 
 // The rates of a plan: the leaves' requests in; the refusal's number; number, place and the last class; requests, gets and left out.
@@ -61,9 +61,8 @@ fn write_shape(shape: &[u64; 195], out: &mut [u8]) -> Written
     ensures { Writes (tree_in shape.now) out.old result out.new }
 {
     let mut children = [0u64; 64];
-    let judged = shape::plan_size_at(shape, &mut children);
-    if !judged.right {
-        let verdict = Verdict::Refused(checks::NOT_SOUND, 0);
+    if shape::plan_size_at(shape, &mut children).is_none() {
+        let verdict = Err(Refused(Refusal::NotSound, 0));
         return Written { verdict, used: 0 };
     }
     let tree = shape::tree_of(shape);

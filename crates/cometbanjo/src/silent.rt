@@ -11,10 +11,10 @@ ghost use Rattle.shape.specs.Shape.{tree_in};
 ghost use Rattle.answers.specs.Burst.{link_in};
 
 use answers::lent_arrays;
+use checks::{Refusal, Refused};
 use reasons::{Reason, Silence};
 use state::lent_accounts::account_of;
 use state::queue::slot;
-use tree::wide;
 
 // The reason that is true of a leaf.
 fn reason_in(
@@ -46,7 +46,7 @@ fn reason_in(
     if stand[2] as usize <= class {
         return Reason::Due;
     }
-    let at = slot(class, wide(start[class]));
+    let at = slot(class, usize::from(start[class]));
     let account = account_of(class, balance, residual);
     let lacks = reasons::shortfall(account.balance, lengths[at]);
     Reason::Short(lacks)
@@ -77,13 +77,13 @@ pub(crate) fn why(
     if !crate::sound_in(
         shape, stand, balance, residual, start, held, lengths, packets, bytes,
     ) {
-        return Silence::NotTold(checks::NOT_SOUND, 0);
+        return Err(Refused(Refusal::NotSound, 0));
     }
     if !sets::holds(shape::leaves(shape), class) {
-        return Silence::NotTold(checks::NO_LEAF, class);
+        return Err(Refused(Refusal::NoLeaf, class));
     }
     let reason = reason_in(
         shape, stand, balance, residual, start, held, lengths, tags, marks, packets, bytes, class,
     );
-    Silence::Because(reason)
+    Ok(reason)
 }

@@ -5,10 +5,10 @@ use mathlib.Core.Path.{◌≡◌, refl, sym, ap, ap₂, ◌∙◌}
 use Prim.Native.Nat.{ℕ, zero, suc, ◌+◌, ◌≤◌, ◌<◌}
 use native.Mathlib.Omega.{arith}
 use lib.ListN.{length, drop}
+use Rattle.plan.specs.declared.event.Event.TheVariants.{Arrive, SendNext}
+use Rattle.std.specs.Prelude.{Ok, Err, Some, None}
 use Rattle.checks.proofs.Laws.{not_true_and_false}
-use Rattle.plan.specs.declared.EventRead.{EventRead}
-use Rattle.plan.specs.declared.EventRead.TheVariants.{NoMore, Arrive, SendNext, Fault}
-use Rattle.plan.specs.Event.{event_at}
+use Rattle.plan.specs.Event.{event_at, EventRead}
 use Rattle.tree.proofs.Classes.{both_true}
 use Rattle.state.specs.declared.Link.{Link}
 use Rattle.sound.specs.Sound.{SoundLink}
@@ -70,10 +70,10 @@ module _ (input : List ℕ) where
   -- an event that ends a run leaves it where it was
   last_there : (l : Link) (place : ℕ) (e : EventRead) → (event_gives true l place e).more ≡ false
       → ((event_gives true l place e).link ≡ l) × ((event_gives true l place e).place ≡ place)
-  last_there l place NoMore m = (refl, refl)
-  last_there l place (Arrive a) m = absurd (not_true_and_false refl m)
-  last_there l place SendNext m = absurd (not_true_and_false refl m)
-  last_there l place (Fault n p) m = (refl, refl)
+  last_there l place (Ok None) m = (refl, refl)
+  last_there l place (Ok (Some (Arrive a))) m = absurd (not_true_and_false refl m)
+  last_there l place (Ok (Some SendNext)) m = absurd (not_true_and_false refl m)
+  last_there l place (Err _) m = (refl, refl)
 
   -- one event more, and the run ends as it would have
   ends_on : (l : Link) (place : ℕ)

@@ -1,13 +1,13 @@
 -- The line of a class (R218): why it is silent, or that it is no leaf. Demand 2.
-use Rattle.std.specs.Prelude.{◌≡◌, ℕ}
+use Rattle.checks.specs.Check.{number}
+use Rattle.std.specs.Prelude.{◌≡◌, ℕ, Ok, Err}
 use Rattle.state.specs.declared.Link.{Link}
 use Rattle.reasons.specs.declared.Reason.{Reason}
 use Rattle.reasons.specs.declared.Reason.TheVariants.{Empty, Waits, Short, Due}
-use Rattle.reasons.specs.declared.Silence.{Silence}
-use Rattle.reasons.specs.declared.Silence.TheVariants.{Because, NotTold}
+use Rattle.reasons.specs.Answer.{Silence}
 use Rattle.reasons.specs.Answer.{SaysWhy}
 use Rattle.lines.specs.declared.Line.{Line}
-use Rattle.lines.specs.declared.Line.TheVariants.{Silent, NotTold as NotToldLine}
+use Rattle.lines.specs.declared.Line.TheVariants.{Silent, NotTold}
 use Rattle.lines.specs.declared.Why.TheVariants.{Empty as EmptyWord, Waits as WaitsWord, Short as ShortWord, Due as DueWord}
 
 -- `silent` class reason bytes, the bytes 0 but for a leaf that is short (R218)
@@ -19,8 +19,8 @@ reason_line class Due = Silent class DueWord 0
 
 -- or `no` class number (R218)
 abbrev pub silence_line : ℕ → Silence → Line
-silence_line class (Because reason) = reason_line class reason
-silence_line class (NotTold n p) = NotToldLine class n
+silence_line class (Ok reason) = reason_line class reason
+silence_line class (Err e) = NotTold class (number e.0)
 
 -- the line of a class, on any record: that of what `reasons::why` answers (R218)
 pub record Tells (l : Link) (class : ℕ) (r : Line) : Type 0 where

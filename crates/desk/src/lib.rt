@@ -7,6 +7,7 @@ ghost use Rattle.sound.specs.Sound.{SoundLink};
 ghost use Rattle.desk.specs.Ending.{end_in, run_end};
 ghost use Rattle.desk.specs.Told.{reason_line, Tells};
 
+use checks::Refused;
 use lines::{Line, Why};
 use parts::PartRun;
 use reasons::{Reason, Silence};
@@ -63,7 +64,7 @@ pub fn line(link: Link, class: usize) -> Line
 {
     let silence = reasons::why(link, class);
     match silence {
-        Silence::Because(reason) => reason_line(class, reason),
-        Silence::NotTold(n, _) => Line::NotTold(class as u64, n as u64),
+        Ok(reason) => reason_line(class, reason),
+        Err(refused) => Line::NotTold(class as u64, refused.0.number() as u64),
     }
 }

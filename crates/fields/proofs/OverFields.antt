@@ -3,8 +3,9 @@
 use mathlib.Core.Bool.{Bool, true}
 use mathlib.Core.Path.{◌≡◌, sym, ap, ◌∙◌}
 use Prim.Native.Nat.{ℕ}
-use Rattle.checks.specs.declared.Verdict.TheVariants.{Refused}
-use Rattle.checks.specs.Check.{Exactly}
+use Rattle.checks.specs.declared.Refusal.TheVariants.{NotSound}
+use Rattle.std.specs.Prelude.{Err}
+use Rattle.checks.specs.Check.{Exactly, refusal_at}
 use Rattle.checks.proofs.Laws.{exactly_unique}
 use Rattle.state.specs.declared.Link.{Link}
 use Rattle.state.specs.declared.Packet.{Packet}
@@ -48,8 +49,8 @@ send_fields_one_answer l r s x y =
 
 module _ (l : Link) (flag : Bool) (exactly : Exactly flag (SoundLink l)) (r : Changed) where
   -- a refused send changes no field
-  pub stays_sends : send_of flag l ≡ send_gives (Refused 11 0) l
-      → r ≡ changed_to (refused_send (Refused 11 0)) l.start l.held l.totals l.round
+  pub stays_sends : send_of flag l ≡ send_gives (Err (refusal_at NotSound 0)) l
+      → r ≡ changed_to (refused_send (Err (refusal_at NotSound 0))) l.start l.held l.totals l.round
       → SendsIn l r
   stays_sends gives said = record {
     sound = flag;

@@ -7,7 +7,9 @@ use native.Mathlib.Omega.{arith}
 use lib.Dec.{ltb}
 use lib.ListN.{length, get_or}
 use borrow.Author.Tests.{lt-ltb, le-ltb}
-use Rattle.checks.specs.declared.Verdict.TheVariants.{Passed, Refused}
+use Rattle.checks.specs.declared.Refusal.TheVariants.{NotSound}
+use Rattle.checks.specs.Check.{refusal_at}
+use Rattle.std.specs.Prelude.{Ok, Err}
 use Rattle.tree.specs.Sum.{table}
 use Rattle.tree.proofs.Tables.{table_at}
 use Rattle.state.specs.declared.Link.{Link}
@@ -39,12 +41,12 @@ zero_entry i = go (dec_lt 63 i)
 class_of : (sound : Bool) (l : Link) (i : ℕ) → (sound ≡ true → SoundLink l) → class_in (panel_gives sound l) i ≡ class_gives sound l i
 unfolding counts_of
 class_of true l i is = λ k. record {
-  verdict = Passed;
+  verdict = Ok tt;
   packets = entry (waiting_below length l.tree (meaning l).queues) i (wide_none l (is refl) length i) k;
   bytes = record { 0 = entry (waiting_below bytes_in l.tree (meaning l).queues) i (wide_none l (is refl) bytes_in i) k };
 }
 class_of false l i is = λ k. record {
-  verdict = Refused 11 0;
+  verdict = Err (refusal_at NotSound 0);
   packets = zero_entry i k;
   bytes = record { 0 = zero_entry i k };
 }

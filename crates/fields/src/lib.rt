@@ -3,9 +3,10 @@
 // Serves demand 1 (numbers 11 to 15, a refused call hands the record back unaltered) and demand 2.
 #![tactic(auto)]
 
-ghost use Rattle.std.specs.Prelude.{List, ◌≡◌, ℕ};
+ghost use Rattle.checks.specs.declared.Refusal.TheVariants.{NotSound};
+ghost use Rattle.checks.specs.Check.{refusal_at};
+ghost use Rattle.std.specs.Prelude.{List, ◌≡◌, ℕ, Err};
 ghost use Rattle.calls.specs.Panel.{TellsTotals, TellsClass};
-ghost use Rattle.checks.specs.declared.Verdict.TheVariants.{Refused};
 ghost use Rattle.state.specs.State.{link_of};
 ghost use Rattle.calls.specs.Send.{refused_send};
 ghost use Rattle.shape.specs.Shape.{tree_in, Families};
@@ -14,7 +15,7 @@ ghost use Rattle.steps.specs.Rounds.{InFields, went_answers};
 ghost use Rattle.fields.specs.Fields.{ArrivesIn, changed_to, GoesIn, SendsIn, class_in};
 
 pub use calls::{Arrival, ClassTotals, Departure, PanelTotals};
-use checks::Verdict;
+use checks::{Refusal, Refused};
 use state::lent_accounts::{balances, residuals, zipped};
 use state::mark::since;
 use state::{Link, Packet, Round, Totals};
@@ -115,22 +116,22 @@ fn stays(
     totals: Totals,
     round: Round,
 ) -> Changed
-    ensures { result ≡ changed_to (refused_send (Refused 11 0)) start held totals round }
+    ensures { result ≡ changed_to (refused_send (Err (refusal_at NotSound 0))) start held totals round }
 {
     Changed {
         start,
         held,
         totals,
-        answer: refused(checks::NOT_SOUND),
+        answer: refused(Refusal::NotSound),
         round,
     }
 }
 
 // What a refused send answers: its number, and all other numbers 0.
-pub fn refused(number: u8) -> Departure
-    ensures { result ≡ refused_send (Refused number 0) }
+pub fn refused(refusal: Refusal) -> Departure
+    ensures { result ≡ refused_send (Err (refusal_at refusal 0)) }
 {
-    let verdict = Verdict::Refused(number, 0);
+    let verdict = Err(Refused(refusal, 0));
     Departure {
         verdict,
         class: 0,
@@ -146,11 +147,11 @@ pub fn answered(went: Went) -> Departure
     ensures { result ≡ went_answers went }
 {
     if !went.some {
-        return refused(checks::NOTHING_WAITS);
+        return refused(Refusal::NothingWaits);
     }
     let packet = went.packet;
     let stand = went.stand;
-    let verdict = Verdict::Passed;
+    let verdict = Ok(());
     Departure {
         verdict,
         class: went.class,
@@ -292,13 +293,13 @@ pub fn totals_of(
         → TellsTotals (link_of tree lengths.now tags marks start held totals round) result }
 {
     if !sound::is_sound_of(tree, start, held, totals, round, lengths) {
-        let verdict = Verdict::Refused(checks::NOT_SOUND, 0);
+        let verdict = Err(Refused(Refusal::NotSound, 0));
         return PanelTotals {
             verdict,
             totals: Totals::none(),
         };
     }
-    let verdict = Verdict::Passed;
+    let verdict = Ok(());
     PanelTotals { verdict, totals }
 }
 

@@ -3,9 +3,9 @@
 use mathlib.Core.Path.{◌≡◌, sym, ap, ◌∙◌}
 use Prim.Native.Nat.{ℕ}
 use native.Mathlib.Omega.{arith}
-use Rattle.checks.specs.Check.{first_broken}
-use Rattle.checks.specs.declared.Verdict.TheVariants.{Passed, Refused}
-use Rattle.checks.specs.declared.Verdict.{Verdict}
+use Rattle.checks.specs.declared.Refusal.{Refusal}
+use Rattle.std.specs.Prelude.{Ok, Err}
+use Rattle.checks.specs.Check.{first_broken, Verdict, refusal_at}
 use Rattle.state.specs.declared.Link.{Link}
 use Rattle.state.specs.declared.Packet.{Packet}
 use Rattle.calls.specs.declared.Arrival.{Arrival}
@@ -33,26 +33,26 @@ send_one_outcome l d c m n x y =
 
 -- a verdict that passes is no refusal
 abbrev passes : Verdict → ℕ
-passes Passed = 1
-passes (Refused n q) = 0
+passes (Ok _) = 1
+passes (Err _) = 0
 
 -- a refused arrival leaves the record as it was, to the last free place
-pub refused_arrival_keeps : (l : Link) (i : ℕ) (p : Packet) (a : Arrival) (n q : ℕ) (m : Link) → a.verdict ≡ Refused n q
+pub refused_arrival_keeps : (l : Link) (i : ℕ) (p : Packet) (a : Arrival) (n : Refusal) (q : ℕ) (m : Link) → a.verdict ≡ Err (refusal_at n q)
     → Arrives l i p (arrival_leaves a m) → m ≡ l
 unfolding arrival_of
 refused_arrival_keeps l i p a n q m refused x = go (first_broken (arrival_checks x.sound (meaning l) i p)) x.answer
   where
     go : (v : Verdict) → arrival_leaves a m ≡ arrival_gives v l i p → m ≡ l
-    go Passed e = let z : ◌≡◌ {A = ℕ} 0 1 = sym (ap passes refused) ∙ ap (λ (r : AfterArrival). passes r.answer.verdict) e in
+    go (Ok _) e = let z : ◌≡◌ {A = ℕ} 0 1 = sym (ap passes refused) ∙ ap (λ (r : AfterArrival). passes r.answer.verdict) e in
         absurd (omega (arith, z))
-    go (Refused j k) e = ap (λ (r : AfterArrival). r.link) e
+    go (Err _) e = ap (λ (r : AfterArrival). r.link) e
 
 -- and so does a refused send
-pub refused_send_keeps : (l : Link) (d : Departure) (n q : ℕ) (m : Link) → d.verdict ≡ Refused n q → Sends l (send_leaves d m) → m ≡ l
+pub refused_send_keeps : (l : Link) (d : Departure) (n : Refusal) (q : ℕ) (m : Link) → d.verdict ≡ Err (refusal_at n q) → Sends l (send_leaves d m) → m ≡ l
 unfolding send_of
 refused_send_keeps l d n q m refused x = go (first_broken (send_checks x.sound (meaning l))) x.answer
   where
     go : (v : Verdict) → send_leaves d m ≡ send_gives v l → m ≡ l
-    go Passed e = let z : ◌≡◌ {A = ℕ} 0 1 = sym (ap passes refused) ∙ ap (λ (r : AfterSend). passes r.answer.verdict) e in
+    go (Ok _) e = let z : ◌≡◌ {A = ℕ} 0 1 = sym (ap passes refused) ∙ ap (λ (r : AfterSend). passes r.answer.verdict) e in
         absurd (omega (arith, z))
-    go (Refused j k) e = ap (λ (r : AfterSend). r.link) e
+    go (Err _) e = ap (λ (r : AfterSend). r.link) e

@@ -5,49 +5,34 @@
 ghost use Rattle.std.specs.Prelude.{◌≡◌, true, ◌+◌, ◌≤◌, length};
 ghost use Rattle.io.specs.Counts.{IsPrefixLen};
 ghost use Rattle.lines.specs.Line.{line_room};
-ghost use Rattle.run.specs.Event.{last_line};
 ghost use Rattle.parts.specs.Part.{Parts};
 ghost use Rattle.parts.specs.Steps.{Taken};
-ghost use Rattle.lent_parts.specs.Turns.{plain_turn, turn_at, Follows, Ends};
+ghost use Rattle.lent_parts.specs.Turns.{call_at, turn_at, Called, Follows, Ends};
 
 use lines::Line;
 use parts::PartRun;
-use plan::{Arrived, EventRead};
+use plan::EventRead;
+use plan::event::Event;
 use state::{Link, Packet};
 
-// A turn of the loop: whether a call is made, and which; the class and the packet of an arrival, and the arrival as it was read; where the
-// next line is laid; the event's place, the place after it, and the event as it was read.
+// A turn of the loop: the call that is made, if any; where the next line is laid; the event's place, the place after it, and the event as
+// it was read.
 #[derive(Drop)]
 pub struct Turn {
-    pub takes: bool,
-    pub arrives: bool,
-    pub class: usize,
-    pub packet: Packet,
-    pub arrived: Arrived,
+    pub call: Option<Event>,
     pub laid: usize,
     pub place: usize,
     pub after: usize,
     pub read: EventRead,
 }
 
-// A turn with no arrival.
-fn plain(takes: bool, laid: usize, place: usize, after: usize, read: EventRead) -> Turn
-    ensures { result ≡ plain_turn takes laid place after read }
+// The call of an event that was read: it is made where its line fits.
+fn call_of(read: EventRead, fits: bool) -> Option<Event>
+    ensures { result ≡ call_at fits read }
 {
-    Turn {
-        takes,
-        arrives: false,
-        class: 0,
-        packet: Packet { length: 0, tag: 0 },
-        arrived: Arrived {
-            class: 0,
-            length: 0,
-            tag: 0,
-        },
-        laid,
-        place,
-        after,
-        read,
+    match read {
+        Ok(event) => { if fits { event } else { None } }
+        Err(_) => None,
     }
 }
 
@@ -58,26 +43,33 @@ fn turn_at(input: &[u8], place: usize, laid: usize, room: usize) -> Turn
 {
     let rest = plan::events_after(input, place);
     let read = plan::read_event(rest, place);
-    let after = place + plan::used(read);
     let fits = parts::takes_one(true, laid, room);
-    match read {
-        EventRead::NoMore => plain(false, laid, place, after, read),
-        EventRead::Arrive(a) => Turn {
-            takes: fits,
-            arrives: true,
-            class: a.class as usize,
-            packet: Packet {
+    Turn {
+        call: call_of(read, fits),
+        laid,
+        place,
+        after: place + plan::used(read),
+        read,
+    }
+}
+
+// A call on the lent record, and its line.
+fn called(event: Event, link: &mut Link) -> Line
+    ensures { Called link.old event result link.new }
+{
+    match event {
+        Event::Arrive(a) => {
+            let packet = Packet {
                 length: a.length,
                 tag: a.tag,
-            },
-            arrived: a,
-            laid,
-            place,
-            after,
-            read,
-        },
-        EventRead::SendNext => plain(fits, laid, place, after, read),
-        EventRead::Fault(_, _) => plain(false, laid, place, after, read),
+            };
+            let answer = lent::arrive(link, a.class as usize, packet);
+            run::arrival_line(answer, a)
+        }
+        Event::SendNext => {
+            let answer = lent::send(link);
+            run::send_line(answer)
+        }
     }
 }
 
@@ -89,18 +81,6 @@ fn next_turn(line: Line, turn: Turn, input: &[u8], out: &mut [u8]) -> Turn
     let room = out.len();
     let laid = lines::lay_at(line, turn.laid, out);
     turn_at(input, turn.after, laid, room)
-}
-
-// The last line, of an event that is no call.
-fn last_line(read: EventRead, link: Link) -> Line
-    ensures { result ≡ last_line read link }
-{
-    match read {
-        EventRead::NoMore => run::end_line(link),
-        EventRead::Arrive(_) => run::end_line(link),
-        EventRead::SendNext => run::end_line(link),
-        EventRead::Fault(n, p) => Line::Stop(n as u64, p as u64),
-    }
 }
 
 // The end of a part: there is no room for one more line, or the last line is laid.
@@ -118,7 +98,7 @@ fn ended(turn: Turn, link: Link, out: &mut [u8]) -> PartRun
         };
     }
     let read = turn.read;
-    let laid = lines::lay_at(last_line(read, link), turn.laid, out);
+    let laid = lines::lay_at(run::last_line(read, link), turn.laid, out);
     PartRun {
         laid,
         more: false,
@@ -134,14 +114,8 @@ fn serve(first: Link, input: &[u8], start: Turn, out: &mut [u8]) -> PartRun
 {
     let mut link = first;
     let mut turn = start;
-    while turn.takes {
-        let line = if turn.arrives {
-            let answer = lent::arrive(&mut link, turn.class, turn.packet);
-            run::arrival_line(answer, turn.arrived)
-        } else {
-            let answer = lent::send(&mut link);
-            run::send_line(answer)
-        };
+    while let Some(event) = turn.call {
+        let line = called(event, &mut link);
         turn = next_turn(line, turn, input, out);
     }
     ended(turn, link, out)

@@ -9,7 +9,7 @@ ghost use Rattle.calls.specs.Arrival.{Arrives};
 ghost use Rattle.calls.specs.Send.{Sends};
 
 pub use calls::{AfterArrival, AfterFresh, AfterSend, Arrival, Departure};
-use checks::Verdict;
+use checks::{Refusal, Refused};
 use state::{Link, Packet};
 use tree::Tree;
 
@@ -18,11 +18,11 @@ pub fn fresh(tree: Tree) -> AfterFresh
     ensures { MakesFresh tree result }
 {
     if !shape::is_plan(tree) {
-        let verdict = Verdict::Refused(checks::NOT_SOUND, 0);
+        let verdict = Err(Refused(Refusal::NotSound, 0));
         let link = Link::none();
         return AfterFresh { verdict, link };
     }
-    let verdict = Verdict::Passed;
+    let verdict = Ok(());
     let link = Link::fresh(tree);
     AfterFresh { verdict, link }
 }

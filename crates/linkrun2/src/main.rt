@@ -8,19 +8,15 @@ use std::io;
 // Prints the lines of a whole run: the first one, then those of the events.
 fn whole(rt: &impl Print, input: &[u8]) -> io::Result<()> {
     let mut step = published_run::first(input);
-    let line = step.line;
-    shown::print(rt, line)?;
+    shown::print(rt, step.line)?;
     while step.more {
-        let second = step.link;
-        step = published_run::next(second, input, step.place);
-        let said = step.line;
-        shown::print(rt, said)?;
+        step = published_run::next(step.link, input, step.place);
+        shown::print(rt, step.line)?;
     }
     Ok(())
 }
 
 fn main(rt: HostRuntime) -> io::Result<()> {
-    let mut input = [0u8; checks::MOST_INPUT + 1];
-    let n = shown::read_full(&rt, &mut input)?;
-    whole(&rt, &input[..n])
+    let mut room = [0u8; checks::MOST_INPUT + 1];
+    shown::with_input(&rt, &mut room, |input| whole(&rt, input))
 }

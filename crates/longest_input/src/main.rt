@@ -6,10 +6,8 @@ use std::io;
 
 // The first line of a run on the next bytes of standard input, as many as there is room for.
 fn begins(rt: &(impl Input + Print), room: &mut [u8]) -> io::Result<()> {
-    let n = shown::read_full(rt, room)?;
-    let step = run::first(&room[..n]);
-    let line = step.line;
-    shown::print(rt, line)?;
+    let step = shown::with_input(rt, room, |input| Ok(run::first(input)))?;
+    shown::print(rt, step.line)?;
     Ok(())
 }
 

@@ -2,8 +2,8 @@
 use mathlib.Core.Bool.{Bool, true}
 use mathlib.Core.List.{List, [], ◌∷◌, map}
 use mathlib.Core.Path.{◌≡◌, refl, sym, ap, subst, ◌∙◌}
-use Rattle.checks.specs.declared.Verdict.{Verdict}
-use Rattle.checks.specs.declared.Verdict.TheVariants.{Passed, Refused}
+use Rattle.checks.specs.Check.{Verdict}
+use Rattle.std.specs.Prelude.{Ok, Err}
 use Rattle.tree.specs.declared.Tree.{Tree}
 use Rattle.tree.specs.Rules.{PlanRules}
 use Rattle.plan.specs.Reader.{plan_of}
@@ -22,8 +22,8 @@ abbrev pub ruled : Link → List Exchange → List Exchange
 ruled l exchanges = exchanges_of exchanges l (made_in (run_of true l (calls_in exchanges)))
 
 unfoldable pub exchanges_on : Verdict → Tree → List Exchange → List Exchange
-exchanges_on Passed t exchanges = ruled (fresh_of true t).link exchanges
-exchanges_on (Refused n p) t exchanges = []
+exchanges_on (Ok _) t exchanges = ruled (fresh_of true t).link exchanges
+exchanges_on (Err _) t exchanges = []
 
 -- what the reader says, and the exchanges
 pub record Found : Type 0 where
@@ -57,12 +57,12 @@ right e same = record {
   where
     go : (v : Verdict) → (plan_of e.input).verdict ≡ v → exchanges_on v (plan_of e.input).tree e.exchanges ≡ e.exchanges
         → Runs v (plan_of e.input) e.exchanges
-    go Passed passed same = λ fresh x.
+    go (Ok _) passed same = λ fresh x.
         let t = (plan_of e.input).tree in
         let rules = plan_rules e.input (plan_of e.input) refl passed in
         subst (λ (r : AfterFresh). Follows r.link e.exchanges) (sym (fresh_is t fresh rules x))
         (follows (fresh_of true t).link e.exchanges (fresh_sound t rules) same)
-    go (Refused n p) refused same = sym same
+    go (Err _) refused same = sym same
 
 pub all_right : (es : List Entry) → map found es ≡ map expected es → AllRight es
 all_right [] e = none

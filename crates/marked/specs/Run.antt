@@ -1,8 +1,7 @@
 -- What a run gives: the reader's answer to some bytes, then what the library answers to each call, whatever meets the calls' contracts.
 -- It is read off the one run (calls/specs/Run). Demands 1 and 2.
-use Rattle.std.specs.Prelude.{true, cond, List, [], ◌∷◌, ◌++◌, map, ◌≡◌, ℕ, zero, suc, take, drop}
-use Rattle.checks.specs.declared.Verdict.{Verdict}
-use Rattle.checks.specs.declared.Verdict.TheVariants.{Passed, Refused}
+use Rattle.checks.specs.Check.{Verdict}
+use Rattle.std.specs.Prelude.{true, cond, List, [], ◌∷◌, ◌++◌, map, ◌≡◌, ℕ, zero, suc, take, drop, Ok, Err}
 use Rattle.sets.specs.Set.{has}
 use Rattle.tree.specs.Size.{round_size}
 use Rattle.plan.specs.declared.PlanRead.{PlanRead}
@@ -119,8 +118,8 @@ Follows l exchanges = (run : List Made) → Run l run → map call_of run ≡ ca
 
 -- on the fresh link of an accepted plan; of a refused plan no link is made, and there are no exchanges
 abbrev pub Runs : Verdict → PlanRead → List Exchange → Type 0
-Runs Passed read exchanges = (fresh : AfterFresh) → MakesFresh read.tree fresh → Follows fresh.link exchanges
-Runs (Refused n p) read exchanges = exchanges ≡ []
+Runs (Ok _) read exchanges = (fresh : AfterFresh) → MakesFresh read.tree fresh → Follows fresh.link exchanges
+Runs (Err _) read exchanges = exchanges ≡ []
 
 -- an entry: the input, what the reader is to say of it, and its exchanges
 pub record Entry : Type 0 where

@@ -1,8 +1,10 @@
 -- The listing and the marked cases M1 to M12, worked with charges (R15, R16), and five more: two rounds in a send, a leaf that turned
 -- inactive, a surplus round that sends, the listing under each rule of the round size (R222). The input, the calls, and what each of them
 -- is to give. Demands 1 and 2.
-use Rattle.std.specs.Prelude.{List, [], ◌∷◌, ◌++◌, ℕ, suc, ◌*◌, replicate}
-use Rattle.checks.specs.declared.Verdict.TheVariants.{Passed, Refused}
+use Rattle.checks.specs.declared.Refusal.{Refusal}
+use Rattle.checks.specs.declared.Refusal.TheVariants.{Cut, TooHeavy, NoClass, NoLeaf, BadLength, Full, NothingWaits}
+use Rattle.checks.specs.Check.{refusal_at}
+use Rattle.std.specs.Prelude.{List, [], ◌∷◌, ◌++◌, ℕ, suc, ◌*◌, replicate, Ok, Err}
 use Rattle.tree.specs.Sum.{table}
 use Rattle.rules.specs.Opening.{main, surplus}
 use Rattle.calls.specs.declared.Arrival.{Arrival}
@@ -26,23 +28,23 @@ send = call sends
 -- refused; a packet out with its rounds, or
 -- none
 abbrev accepted : ℕ → ℕ → ℕ → Read
-accepted classes size used = record { verdict = Passed; used = used; classes = classes; size = size }
+accepted classes size used = record { verdict = Ok tt; used = used; classes = classes; size = size }
 
-abbrev stop : ℕ → ℕ → Read
-stop number place = record { verdict = Refused number place; used = 0; classes = 0; size = 0 }
+abbrev stop : Refusal → ℕ → Read
+stop refusal place = record { verdict = Err (refusal_at refusal place); used = 0; classes = 0; size = 0 }
 
 abbrev taken : ℕ → Arrival
-taken bytes = record { verdict = Passed; bytes = record { 0 = bytes } }
+taken bytes = record { verdict = Ok tt; bytes = record { 0 = bytes } }
 
-abbrev refused : ℕ → ℕ → Arrival
-refused number place = record { verdict = Refused number place; bytes = record { 0 = 0 } }
+abbrev refused : Refusal → ℕ → Arrival
+refused refusal place = record { verdict = Err (refusal_at refusal place); bytes = record { 0 = 0 } }
 
 abbrev out : ℕ → ℕ → ℕ → ℕ → ℕ → Departure
 out class length tag rounds waited =
-    record { verdict = Passed; class = class; length = length; tag = tag; rounds = rounds; waited = waited }
+    record { verdict = Ok tt; class = class; length = length; tag = tag; rounds = rounds; waited = waited }
 
 abbrev none : Departure
-none = record { verdict = Refused 15 0; class = 0; length = 0; tag = 0; rounds = 0; waited = 0 }
+none = record { verdict = Err (refusal_at NothingWaits 0); class = 0; length = 0; tag = 0; rounds = 0; waited = 0 }
 
 -- who is active, and the accounts
 abbrev shown : List ℕ → Accounts → Shown
@@ -207,29 +209,29 @@ surplus_round = m1 then
 
 -- M8 empty input: 1 at 0.
 abbrev m8 : Entry
-m8 = record { input = []; read = stop 1 0; exchanges = [] }
+m8 = record { input = []; read = stop Cut 0; exchanges = [] }
 
 -- M9 the single byte 0: 9 at 0.
 abbrev m9 : Entry
-m9 = record { input = 0 ∷ []; read = stop 9 0; exchanges = [] }
+m9 = record { input = 0 ∷ []; read = stop NoClass 0; exchanges = [] }
 
 -- M10 class 1 with weight 2: 7 at 1.
 abbrev m10 : Entry
-m10 = record { input = tree_with 2; read = stop 7 1; exchanges = [] }
+m10 = record { input = tree_with 2; read = stop TooHeavy 1; exchanges = [] }
 
 -- M11 arrivals to class 4 of length 0 and 11: 13; of length 10: taken. To class 1: 12.
 abbrev m11 : Entry
 m11 = m1 then
-    (arrival 4 0 1 ⟶ refused 13 4
-    ∷ arrival 4 11 2 ⟶ refused 13 4
+    (arrival 4 0 1 ⟶ refused BadLength 4
+    ∷ arrival 4 11 2 ⟶ refused BadLength 4
     ∷ arrival 4 10 3 ⟶ taken 84
-    ∷ arrival 1 10 4 ⟶ refused 12 1
+    ∷ arrival 1 10 4 ⟶ refused NoLeaf 1
     ∷ [])
 
 -- M12 the 33rd packet in class 4: 14; after one has left, taken. The first 32 have the tags 0 to 31, and nothing waits in another class.
 abbrev m12 : Entry
 m12 = m1 then table (λ tag. arrival 4 10 tag ⟶ taken (84 * suc tag)) 32 then
-    (arrival 4 10 32 ⟶ refused 14 4
+    (arrival 4 10 32 ⟶ refused Full 4
     ∷ send ⟶ out 4 10 0 1 84
     ∷ arrival 4 10 33 ⟶ taken 2_688
     ∷ [])

@@ -9,8 +9,10 @@ use lib.Dec.{ltb}
 use lib.ListN.{length, get_or, set, replicate, length-set}
 use lib.Seq.{get_or-set_same, get_or-set_other, ext_get_or}
 use borrow.Author.Tests.{lt-ltb, le-ltb}
-use Rattle.checks.specs.Check.{Check, first_broken}
-use Rattle.checks.specs.declared.Verdict.TheVariants.{Passed, Refused}
+use Rattle.checks.specs.declared.Refusal.TheVariants.{NeedsMore}
+use Rattle.checks.specs.declared.Refusal.{Refusal}
+use Rattle.std.specs.Prelude.{Ok, Err}
+use Rattle.checks.specs.Check.{Check, first_broken, refusal_at}
 use Rattle.checks.proofs.Laws.{after_passed, passed_both, refused_before, none_broken, decides, pass_over}
 use Rattle.units.specs.declared.Weight.{Weight}
 use Rattle.tree.specs.declared.Tree.{Tree}
@@ -27,11 +29,11 @@ use Rattle.mended.proofs.Least.{inner_is, leaf_not_inner, no_class_not_inner, me
 
 -- ---- checks made downward
 
-pub down_none : (f : ℕ → List Check) → first_broken (downward f 0) ≡ Passed
+pub down_none : (f : ℕ → List Check) → first_broken (downward f 0) ≡ Ok tt
 unfolding downward
 down_none f = none_broken
 
-pub down_pass : (f : ℕ → List Check) (n : ℕ) → 1 ≤ n → first_broken (f n) ≡ Passed
+pub down_pass : (f : ℕ → List Check) (n : ℕ) → 1 ≤ n → first_broken (f n) ≡ Ok tt
     → first_broken (downward f n) ≡ first_broken (downward f (n - 1))
 unfolding downward
 down_pass f zero l e = absurd (omega arith)
@@ -39,28 +41,28 @@ down_pass f (suc n) l e =
     let s : suc n - 1 ≡ n = omega arith in
     rw s (after_passed (f (suc n)) (downward f n) e)
 
-pub down_stop : (f : ℕ → List Check) (n : ℕ) {a p : ℕ} → 1 ≤ n → first_broken (f n) ≡ Refused a p
-    → first_broken (downward f n) ≡ Refused a p
+pub down_stop : (f : ℕ → List Check) (n : ℕ) {a : Refusal} {p : ℕ} → 1 ≤ n → first_broken (f n) ≡ Err (refusal_at a p)
+    → first_broken (downward f n) ≡ Err (refusal_at a p)
 unfolding downward
 down_stop f zero l e = absurd (omega arith)
 down_stop f (suc n) l e = refused_before (f (suc n)) (downward f n) e
 
-pub down_passed : (f : ℕ → List Check) (n : ℕ) → ((i : ℕ) → 1 ≤ i → i ≤ n → first_broken (f i) ≡ Passed)
-    → first_broken (downward f n) ≡ Passed
+pub down_passed : (f : ℕ → List Check) (n : ℕ) → ((i : ℕ) → 1 ≤ i → i ≤ n → first_broken (f i) ≡ Ok tt)
+    → first_broken (downward f n) ≡ Ok tt
 unfolding downward
 down_passed f zero h = none_broken
 down_passed f (suc n) h =
     after_passed (f (suc n)) (downward f n) (h (suc n) (omega arith) (omega arith)) ∙ down_passed f n (λ i l u. h i l (omega arith))
 
-pub down_each : (f : ℕ → List Check) (n : ℕ) → first_broken (downward f n) ≡ Passed → (i : ℕ) → 1 ≤ i → i ≤ n → first_broken (f i) ≡ Passed
+pub down_each : (f : ℕ → List Check) (n : ℕ) → first_broken (downward f n) ≡ Ok tt → (i : ℕ) → 1 ≤ i → i ≤ n → first_broken (f i) ≡ Ok tt
 unfolding downward
 down_each f zero e i l u = absurd (omega arith)
 down_each f (suc n) e i l u = go (dec_le i n) (λ h. down_each f n parts.1 i l h)
   where
-    parts : (first_broken (f (suc n)) ≡ Passed) × (first_broken (downward f n) ≡ Passed)
+    parts : (first_broken (f (suc n)) ≡ Ok tt) × (first_broken (downward f n) ≡ Ok tt)
     parts = passed_both (f (suc n)) (downward f n) e
 
-    go : Dec (i ≤ n) → (i ≤ n → first_broken (f i) ≡ Passed) → first_broken (f i) ≡ Passed
+    go : Dec (i ≤ n) → (i ≤ n → first_broken (f i) ≡ Ok tt) → first_broken (f i) ≡ Ok tt
     go (yes h) ih = ih h
     go (no h) ih =
         let s : i ≡ suc n = omega arith in
@@ -121,7 +123,7 @@ module _ (t : Tree) (read : ReadTree t) where
             omega (arith, rw f at e, m.rest i (omega arith), all, x)
 
     -- too much: 22 at the class
-    pub above_stop : 1_000_000 < mended_weight t i → first_broken (downward (need_checks t) t.count) ≡ Refused 22 i
+    pub above_stop : 1_000_000 < mended_weight t i → first_broken (downward (need_checks t) t.count) ≡ Err (refusal_at NeedsMore i)
     unfolding needs_more
     above_stop u = m.said ∙ down_stop (need_checks t) i l (decides _ _ (rw inner (lt-ltb _ _ u)))
       where

@@ -10,9 +10,11 @@ use lib.Dec.{ltb}
 use lib.ListN.{length}
 use lib.Seq.{ext_get_or}
 use borrow.Author.Tests.{le-ltb, ltb-false}
-use Rattle.checks.specs.declared.Verdict.{Verdict}
-use Rattle.checks.specs.declared.Verdict.TheVariants.{Passed, Refused}
-use Rattle.checks.specs.Check.{check, first_broken, class_by_class, number_of}
+use Rattle.checks.specs.declared.Refusal.TheVariants.{TooHeavy, Childless, NoClass}
+use Rattle.checks.specs.declared.Refusal.{Refusal}
+use Rattle.checks.specs.declared.Refused.{Refused}
+use Rattle.std.specs.Prelude.{Ok, Err}
+use Rattle.checks.specs.Check.{check, first_broken, class_by_class, Verdict, refusal_at}
 use Rattle.checks.proofs.Laws.{
   not_both,
   refused_or_passed,
@@ -116,7 +118,7 @@ module _ (t : Tree) (rules : PlanRules t) where
           table_at new no_weight 64 k (omega (arith, u, table_length new 64)) ∙ ap (λ (n : ℕ). record { 0 = n }) (sound_weight k))
 
   -- and nothing is refused
-  pub sound_passes : first_broken (mend_checks t) ≡ Passed
+  pub sound_passes : first_broken (mend_checks t) ≡ Ok tt
   unfolding needs_more
   sound_passes =
       mend_on t rules.closing.classes
@@ -136,11 +138,11 @@ module _ (t : Tree) (rules : PlanRules t) where
 
 -- ---- a tree that the records gave, mended
 
-module _ (t : Tree) (few : t.count ≤ 63) (each : ClassesPass t) (grown : Grown t) (ok : first_broken (mend_checks t) ≡ Passed) where
-  parts : (no_class t ≡ false) × (first_broken (class_by_class (child_checks t) t.count ++ downward (need_checks t) t.count) ≡ Passed)
+module _ (t : Tree) (few : t.count ≤ 63) (each : ClassesPass t) (grown : Grown t) (ok : first_broken (mend_checks t) ≡ Ok tt) where
+  parts : (no_class t ≡ false) × (first_broken (class_by_class (child_checks t) t.count ++ downward (need_checks t) t.count) ≡ Ok tt)
   parts = passed_parts _ _ ok
 
-  both : (first_broken (class_by_class (child_checks t) t.count) ≡ Passed) × (first_broken (downward (need_checks t) t.count) ≡ Passed)
+  both : (first_broken (class_by_class (child_checks t) t.count) ≡ Ok tt) × (first_broken (downward (need_checks t) t.count) ≡ Ok tt)
   both = passed_both (class_by_class (child_checks t) t.count) (downward (need_checks t) t.count) parts.1
 
   has_children : (i : ℕ) → is_class t i ≡ true → childless t i ≡ false
@@ -223,28 +225,28 @@ module _ (t : Tree) (few : t.count ≤ 63) (each : ClassesPass t) (grown : Grown
 
 -- what comes back was read, and passed 9, 8 and 22
 record CameBack (s : List ℕ) : Type 0 where
-  read : (records_of s).verdict ≡ Passed
-  checked : first_broken (mend_checks (records_of s).tree) ≡ Passed
-  gives : mend_of s ≡ answer Passed (records_of s).tree (records_of s).used
+  read : (records_of s).verdict ≡ Ok tt
+  checked : first_broken (mend_checks (records_of s).tree) ≡ Ok tt
+  gives : mend_of s ≡ answer (Ok tt) (records_of s).tree (records_of s).used
 
 answer_says : (v : Verdict) (t : Tree) (used : ℕ) → (answer v t used).verdict ≡ v
-answer_says Passed t used = refl
-answer_says (Refused n p) t used = refl
+answer_says (Ok _) t used = refl
+answer_says (Err _) t used = refl
 
-came_back : (s : List ℕ) → (mend_of s).verdict ≡ Passed → CameBack s
+came_back : (s : List ℕ) → (mend_of s).verdict ≡ Ok tt → CameBack s
 came_back s e = go (refused_or_passed (records_of s).verdict)
   where
     t : Tree
     t = (records_of s).tree
 
-    go : ((records_of s).verdict ≡ Passed) ⊎ ((n : ℕ) × (p : ℕ) × ((records_of s).verdict ≡ Refused n p)) → CameBack s
+    go : ((records_of s).verdict ≡ Ok tt) ⊎ ((n : Refusal) × (p : ℕ) × ((records_of s).verdict ≡ Err (refusal_at n p))) → CameBack s
     go (inl r) =
         let is = by_passed (records_of s) r in
         let ok = sym (answer_says _ t (records_of s).used) ∙ ap (λ (m : Mended). m.verdict) (sym is) ∙ e in
         record { read = r; checked = ok; gives = is ∙ ap (λ (v : Verdict). answer v t (records_of s).used) ok }
     go (inr r) = absurd (not_both e (ap (λ (m : Mended). m.verdict) (by_refused (records_of s) r.2)))
 
-module _ (s : List ℕ) (e : (mend_of s).verdict ≡ Passed) where
+module _ (s : List ℕ) (e : (mend_of s).verdict ≡ Ok tt) where
   tree_is : (mend_of s).tree ≡ mended_tree (records_of s).tree
   tree_is = ap (λ (m : Mended). m.tree) (came_back s e).gives
 
@@ -280,15 +282,15 @@ module _ (s : List ℕ) (e : (mend_of s).verdict ≡ Passed) where
   )
 
 -- a plan that the reader accepts comes back as it is, with an empty list
-closed_passed : (r : PlanRead) → (closed r).verdict ≡ Passed → (r.verdict ≡ Passed) × (closed r ≡ outcome Passed r.tree r.used)
+closed_passed : (r : PlanRead) → (closed r).verdict ≡ Ok tt → (r.verdict ≡ Ok tt) × (closed r ≡ outcome (Ok tt) r.tree r.used)
 closed_passed r e = go (refused_or_passed r.verdict)
   where
     says : (v : Verdict) → (outcome v r.tree r.used).verdict ≡ v
-    says Passed = refl
-    says (Refused n p) = refl
+    says (Ok _) = refl
+    says (Err _) = refl
 
-    go : (r.verdict ≡ Passed) ⊎ ((n : ℕ) × (p : ℕ) × (r.verdict ≡ Refused n p))
-        → (r.verdict ≡ Passed) × (closed r ≡ outcome Passed r.tree r.used)
+    go : (r.verdict ≡ Ok tt) ⊎ ((n : Refusal) × (p : ℕ) × (r.verdict ≡ Err (refusal_at n p)))
+        → (r.verdict ≡ Ok tt) × (closed r ≡ outcome (Ok tt) r.tree r.used)
     go (inl h) =
         let is : closed r ≡ outcome (first_broken (closing_checks r.tree)) r.tree r.used = rw h in
         let ok = sym (says (first_broken (closing_checks r.tree))) ∙ ap (λ (x : PlanRead). x.verdict) (sym is) ∙ e in
@@ -297,8 +299,8 @@ closed_passed r e = go (refused_or_passed r.verdict)
         let is : closed r ≡ r = rw h.2 in
         absurd (not_both e (ap (λ (x : PlanRead). x.verdict) is ∙ h.2))
 
-pub accepted_stays : (s : List ℕ) → (plan_of s).verdict ≡ Passed
-    → mend_of s ≡ record { verdict = Passed; used = (plan_of s).used; tree = (plan_of s).tree; changes = listed [] }
+pub accepted_stays : (s : List ℕ) → (plan_of s).verdict ≡ Ok tt
+    → mend_of s ≡ record { verdict = Ok tt; used = (plan_of s).used; tree = (plan_of s).tree; changes = listed [] }
 accepted_stays s e = by_passed r h.0 ∙ ap (λ (v : Verdict). answer v r.tree r.used) (sound_passes r.tree rules) ∙ back
   where
     r : PlanRead
@@ -307,17 +309,17 @@ accepted_stays s e = by_passed r h.0 ∙ ap (λ (v : Verdict). answer v r.tree r
     is : plan_of s ≡ closed r
     is = plan_halves s
 
-    h : (r.verdict ≡ Passed) × (closed r ≡ outcome Passed r.tree r.used)
+    h : (r.verdict ≡ Ok tt) × (closed r ≡ outcome (Ok tt) r.tree r.used)
     h = closed_passed r (ap (λ (x : PlanRead). x.verdict) (sym is) ∙ e)
 
-    same : plan_of s ≡ outcome Passed r.tree r.used
+    same : plan_of s ≡ outcome (Ok tt) r.tree r.used
     same = is ∙ h.1
 
     rules : PlanRules r.tree
     rules = subst (λ (x : PlanRead). PlanRules x.tree) same (plan_rules s (plan_of s) refl e)
 
-    back : answer Passed r.tree r.used
-        ≡ record { verdict = Passed; used = (plan_of s).used; tree = (plan_of s).tree; changes = listed [] }
+    back : answer (Ok tt) r.tree r.used
+        ≡ record { verdict = Ok tt; used = (plan_of s).used; tree = (plan_of s).tree; changes = listed [] }
     back = rw (
       same,
       sound_tree r.tree rules (records_grown s).weights,
@@ -325,7 +327,7 @@ accepted_stays s e = by_passed r h.0 ∙ ap (λ (v : Verdict). answer v r.tree r
     ) refl
 
 -- what the reader refuses for another cause than 7 is refused alike
-pub refused_alike : (s : List ℕ) (n p : ℕ) → (plan_of s).verdict ≡ Refused n p → (n ≡ 7 → ⊥) → mend_of s ≡ answer (Refused n p) no_tree 0
+pub refused_alike : (s : List ℕ) (n : Refusal) (p : ℕ) → (plan_of s).verdict ≡ Err (refusal_at n p) → (n ≡ TooHeavy → ⊥) → mend_of s ≡ answer (Err (refusal_at n p)) no_tree 0
 refused_alike s n p e other = go (refused_or_passed r.verdict)
   where
     r : PlanRead
@@ -335,36 +337,39 @@ refused_alike s n p e other = go (refused_or_passed r.verdict)
     t = r.tree
 
     says : (v : Verdict) → (outcome v t r.used).verdict ≡ v
-    says Passed = refl
-    says (Refused n p) = refl
+    says (Ok _) = refl
+    says (Err _) = refl
 
-    late : first_broken (closing_checks t) ≡ Refused n p → first_broken (mend_checks t) ≡ Refused n p
+    refuses : Refused → Verdict
+    refuses q = Err q
+
+    late : first_broken (closing_checks t) ≡ Err (refusal_at n p) → first_broken (mend_checks t) ≡ Err (refusal_at n p)
     late c = first (broken_or_later _ _ c)
       where
-        at : no_class t ≡ false → (i : ℕ) → 1 ≤ i → i ≤ t.count → ((j : ℕ) → 1 ≤ j → j < i → first_broken (closing_of t j) ≡ Passed)
-            → ((childless t i ≡ true) × (Refused 8 i ≡ Refused n p))
-            ⊎ ((childless t i ≡ false) × (first_broken (check 7 (too_heavy t i) i ∷ []) ≡ Refused n p))
-            → first_broken (mend_checks t) ≡ Refused n p
+        at : no_class t ≡ false → (i : ℕ) → 1 ≤ i → i ≤ t.count → ((j : ℕ) → 1 ≤ j → j < i → first_broken (closing_of t j) ≡ Ok tt)
+            → ((childless t i ≡ true) × (refusal_at Childless i ≡ refusal_at n p))
+            ⊎ ((childless t i ≡ false) × (first_broken (check TooHeavy (too_heavy t i) i ∷ []) ≡ Err (refusal_at n p)))
+            → first_broken (mend_checks t) ≡ Err (refusal_at n p)
         at some i l u below (inl h) =
             mend_child t some
             (classes_refused (child_checks t) t.count i l u
-            (λ j a b. pass_over _ _ (closing_passed t j (below j a b)).0 ∙ none_broken) (decides _ _ h.0 ∙ h.1))
+            (λ j a b. pass_over _ _ (closing_passed t j (below j a b)).0 ∙ none_broken) (decides _ _ h.0 ∙ ap refuses h.1))
         at some i l u below (inr h) = heavy (broken_or_later _ _ h.1)
           where
-            heavy : ((too_heavy t i ≡ true) × (Refused 7 i ≡ Refused n p)) ⊎ ((too_heavy t i ≡ false) × (first_broken [] ≡ Refused n p))
-                → first_broken (mend_checks t) ≡ Refused n p
-            heavy (inl z) = absurd (other (sym (ap number_of z.1)))
+            heavy : ((too_heavy t i ≡ true) × (refusal_at TooHeavy i ≡ refusal_at n p)) ⊎ ((too_heavy t i ≡ false) × (first_broken [] ≡ Err (refusal_at n p)))
+                → first_broken (mend_checks t) ≡ Err (refusal_at n p)
+            heavy (inl z) = absurd (other (sym (ap (λ (q : Refused). q.0) z.1)))
             heavy (inr z) = absurd (not_both none_broken z.1)
 
-        first : ((no_class t ≡ true) × (Refused 9 0 ≡ Refused n p))
-            ⊎ ((no_class t ≡ false) × (first_broken (class_by_class (closing_of t) t.count) ≡ Refused n p))
-            → first_broken (mend_checks t) ≡ Refused n p
-        first (inl h) = mend_none t h.0 ∙ h.1
+        first : ((no_class t ≡ true) × (refusal_at NoClass 0 ≡ refusal_at n p))
+            ⊎ ((no_class t ≡ false) × (first_broken (class_by_class (closing_of t) t.count) ≡ Err (refusal_at n p)))
+            → first_broken (mend_checks t) ≡ Err (refusal_at n p)
+        first (inl h) = mend_none t h.0 ∙ ap refuses h.1
         first (inr h) =
             let w = classes_which (closing_of t) t.count h.1 in
             at h.0 w.0 w.1 w.2 w.3 (broken_or_later _ _ w.4)
 
-    go : (r.verdict ≡ Passed) ⊎ ((a : ℕ) × (b : ℕ) × (r.verdict ≡ Refused a b)) → mend_of s ≡ answer (Refused n p) no_tree 0
+    go : (r.verdict ≡ Ok tt) ⊎ ((a : Refusal) × (b : ℕ) × (r.verdict ≡ Err (refusal_at a b))) → mend_of s ≡ answer (Err (refusal_at n p)) no_tree 0
     go (inl h) =
         let is : closed r ≡ outcome (first_broken (closing_checks t)) t r.used = rw h in
         let no = sym (says (first_broken (closing_checks t))) ∙ ap (λ (x : PlanRead). x.verdict) (sym (plan_halves s ∙ is)) ∙ e in

@@ -2,9 +2,10 @@
 use mathlib.Core.List.{List, [], ◌∷◌, ◌++◌, map}
 use mathlib.Core.Path.{◌≡◌, refl}
 use Prim.Native.Nat.{ℕ}
-use Rattle.checks.specs.declared.Verdict.{Verdict}
-use Rattle.checks.specs.declared.Verdict.TheVariants.{Passed, Refused}
-use Rattle.checks.specs.Check.{first_broken, class_by_class}
+use Rattle.std.specs.Prelude.{Ok, Err}
+use Rattle.checks.specs.declared.Refusal.{Refusal}
+use Rattle.checks.specs.declared.Refusal.TheVariants.{BadRule, BadWeight, Childless, Cut, LateRule, NeedsMore, NoClass}
+use Rattle.checks.specs.Check.{first_broken, class_by_class, Verdict, refusal_at}
 use Rattle.sets.specs.Set.{has, with}
 use Rattle.tree.specs.Class.{is_class, is_leaf, is_inner, is_child, has_child, of_child, children_sum}
 use Rattle.tree.specs.Rules.{too_many, bad_parent, bad_weight, bad_longest, childless, no_class}
@@ -46,10 +47,10 @@ record Case : Type 0 where
   gives : Given
 
 abbrev mends : List ℕ → ℕ → List Change → Case
-mends s used xs = record { plan = s; gives = record { verdict = Passed; used = used; changes = listed xs } }
+mends s used xs = record { plan = s; gives = record { verdict = Ok tt; used = used; changes = listed xs } }
 
-abbrev stops : List ℕ → ℕ → ℕ → Case
-stops s n p = record { plan = s; gives = record { verdict = Refused n p; used = 0; changes = listed [] } }
+abbrev stops : List ℕ → Refusal → ℕ → Case
+stops s n p = record { plan = s; gives = record { verdict = Err (refusal_at n p); used = 0; changes = listed [] } }
 
 cases : List Case
 cases =
@@ -63,19 +64,19 @@ cases =
     -- 1,000,000 is not too much
     ∷ mends (inner 0 1 ++ leaf 1 999_999 ++ leaf 1 1 ++ end) 23 (change 1 1 1_000_000 ∷ [])
     -- 22 at the highest of two, and above a class that fits
-    ∷ stops (inner 0 1_000_000 ++ inner 1 1_000_000 ++ leaf 2 1_000_000 ++ leaf 2 1 ++ end) 22 2
-    ∷ stops (inner 0 1_000_000 ++ inner 1 1 ++ leaf 2 1_000_000 ++ leaf 1 1 ++ end) 22 1
+    ∷ stops (inner 0 1_000_000 ++ inner 1 1_000_000 ++ leaf 2 1_000_000 ++ leaf 2 1 ++ end) NeedsMore 2
+    ∷ stops (inner 0 1_000_000 ++ inner 1 1 ++ leaf 2 1_000_000 ++ leaf 1 1 ++ end) NeedsMore 1
     -- 8 where the reader says 7 at a lower class, and before 22
-    ∷ stops (inner 0 1 ++ inner 0 1 ++ leaf 1 5 ++ end) 8 2
-    ∷ stops (inner 0 1 ++ inner 0 1 ++ leaf 1 1_000_000 ++ leaf 1 1 ++ end) 8 2
+    ∷ stops (inner 0 1 ++ inner 0 1 ++ leaf 1 5 ++ end) Childless 2
+    ∷ stops (inner 0 1 ++ inner 0 1 ++ leaf 1 1_000_000 ++ leaf 1 1 ++ end) Childless 2
     -- 9, 1, 5 at the second record
-    ∷ stops end 9 0
-    ∷ stops [] 1 0
-    ∷ stops (inner 0 1 ++ leaf 1 0 ++ end) 5 6
+    ∷ stops end NoClass 0
+    ∷ stops [] Cut 0
+    ∷ stops (inner 0 1 ++ leaf 1 0 ++ end) BadWeight 6
     -- a rule record is read over; 17, and 18 at the second record
     ∷ mends (rule 2 ++ inner 0 1 ++ leaf 1 5 ++ end) 17 (change 1 1 5 ∷ [])
-    ∷ stops (rule 3 ++ inner 0 1 ++ leaf 1 5 ++ end) 17 0
-    ∷ stops (inner 0 1 ++ rule 2 ++ leaf 1 5 ++ end) 18 6
+    ∷ stops (rule 3 ++ inner 0 1 ++ leaf 1 5 ++ end) BadRule 0
+    ∷ stops (inner 0 1 ++ rule 2 ++ leaf 1 5 ++ end) LateRule 6
     ∷ []
 
 computed : map (λ (c : Case). given c.plan) cases ≡ map (λ (c : Case). c.gives) cases

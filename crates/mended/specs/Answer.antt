@@ -1,8 +1,7 @@
 -- What any bytes give: the mended tree with the list of changes, or a refusal (R270, R271, R273, R274). Demand 1.
-use Rattle.std.specs.Prelude.{cond, List, [], ◌∷◌, ◌++◌, ℕ, zero, suc, ◌-◌, ltb, length, replicate}
-use Rattle.checks.specs.declared.Verdict.{Verdict}
-use Rattle.checks.specs.declared.Verdict.TheVariants.{Passed, Refused}
-use Rattle.checks.specs.Check.{Check, check, first_broken, class_by_class}
+use Rattle.checks.specs.declared.Refusal.TheVariants.{Childless, NoClass, NeedsMore}
+use Rattle.std.specs.Prelude.{cond, List, [], ◌∷◌, ◌++◌, ℕ, zero, suc, ◌-◌, ltb, length, replicate, Ok, Err}
+use Rattle.checks.specs.Check.{Check, check, first_broken, class_by_class, Verdict}
 use Rattle.tree.specs.declared.Tree.{Tree}
 use Rattle.tree.specs.Class.{no_tree, weight_of}
 use Rattle.tree.specs.Rules.{childless, no_class}
@@ -39,25 +38,25 @@ downward f (suc n) = f (suc n) ++ downward f n
 
 -- 8, of a class (R270)
 abbrev pub child_checks : Tree → ℕ → List Check
-child_checks t i = check 8 (childless t i) i ∷ []
+child_checks t i = check Childless (childless t i) i ∷ []
 
 -- 22, of a class (R271)
 abbrev pub need_checks : Tree → ℕ → List Check
-need_checks t i = check 22 (needs_more t i) i ∷ []
+need_checks t i = check NeedsMore (needs_more t i) i ∷ []
 
 -- after the records 9, then 8 of any class, lowest first, before any mending (R270); then 22, worked upward from the highest class (R271)
 abbrev pub mend_checks : Tree → List Check
-mend_checks t = check 9 (no_class t) 0 ∷ class_by_class (child_checks t) t.count ++ downward (need_checks t) t.count
+mend_checks t = check NoClass (no_class t) 0 ∷ class_by_class (child_checks t) t.count ++ downward (need_checks t) t.count
 
 -- verdict, bytes used, the mended tree and the list; a refusal gives 0 bytes used, the tree without classes and an empty list (R274)
 abbrev pub answer : Verdict → Tree → ℕ → Mended
-answer Passed t used = record { verdict = Passed; used = used; tree = mended_tree t; changes = listed (changes_to t t.count) }
-answer (Refused n p) t used = record { verdict = Refused n p; used = 0; tree = no_tree; changes = listed [] }
+answer (Ok _) t used = record { verdict = Ok tt; used = used; tree = mended_tree t; changes = listed (changes_to t t.count) }
+answer (Err e) t used = record { verdict = Err e; used = 0; tree = no_tree; changes = listed [] }
 
 -- a record's refusal is the reader's; records that broke no rule go on to the checks above (R270, R274)
 abbrev pub mended_by : Verdict → PlanRead → Mended
-mended_by Passed r = answer (first_broken (mend_checks r.tree)) r.tree r.used
-mended_by (Refused n p) r = answer (Refused n p) no_tree 0
+mended_by (Ok _) r = answer (first_broken (mend_checks r.tree)) r.tree r.used
+mended_by (Err e) r = answer (Err e) no_tree 0
 
 -- any bytes (R274)
 abbrev pub mend_of : List ℕ → Mended

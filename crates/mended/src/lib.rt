@@ -3,15 +3,14 @@
 // One pass from the highest class down: each class adds its mended weight to its parent's sum, which is whole when the parent's turn comes.
 #![tactic(auto)]
 
-ghost use Rattle.std.specs.Prelude.{◌≡◌, cond, ◌&&◌, not, [], ◌≤◌, ◌<◌, max};
-ghost use Rattle.checks.specs.Check.{first_broken, class_by_class};
-ghost use Rattle.checks.specs.declared.Verdict.TheVariants.{Passed, Refused};
+ghost use Rattle.std.specs.Prelude.{◌≡◌, cond, ◌&&◌, not, [], ◌≤◌, ◌<◌, max, Ok, Err};
+ghost use Rattle.checks.specs.Check.{first_broken, class_by_class, refusal_at};
 ghost use Rattle.tree.specs.Class.{no_tree, has_child};
 ghost use Rattle.mended.specs.Weights.{mended_weights};
 ghost use Rattle.mended.specs.Answer.{changes_to, listed, downward, child_checks, need_checks, mend_checks, answer, mend_of};
 ghost use Rattle.mended.specs.Steps.{ReadTree, noted};
 
-use checks::Verdict;
+use checks::{Refusal, Refused, Verdict};
 use plan::reader;
 use tree::Tree;
 use units::Weight;
@@ -32,6 +31,7 @@ pub struct Changes {
 }
 
 // The answer: a verdict, the bytes used, the mended tree and what changed.
+// R163: in an answer that refuses every further number is 0; so they stand beside the verdict, and not in a Result.
 #[derive(Drop)]
 pub struct Mended {
     pub verdict: Verdict,
@@ -52,13 +52,10 @@ fn has_child(tree: Tree, p: usize) -> bool
     requires { tree.count ≤ 63 }
     ensures { result ≡ has_child tree p }
 {
-    let last = tree.count;
-    let mut i: usize = 1;
-    while i <= last {
-        if tree::wide(tree.parent[i]) == p {
+    for i in 1..=tree.count {
+        if usize::from(tree.parent[i]) == p {
             return true;
         }
-        i += 1;
     }
     false
 }
@@ -67,10 +64,7 @@ fn has_child(tree: Tree, p: usize) -> bool
 fn is_childless(leaf: bool, child: bool) -> bool
     ensures { result ≡ (not leaf && not child) }
 {
-    if leaf {
-        return false;
-    }
-    !child
+    !leaf && !child
 }
 
 // 8: the lowest inner class without a child.
@@ -78,17 +72,14 @@ fn child_fault(tree: Tree) -> Verdict
     requires { tree.count ≤ 63 }
     ensures { result ≡ first_broken (class_by_class (child_checks tree) tree.count) }
 {
-    let last = tree.count;
-    let mut i: usize = 1;
-    while i <= last {
+    for i in 1..=tree.count {
         let leaf = sets::has(tree.leaves, i);
         let child = has_child(tree, i);
         if is_childless(leaf, child) {
-            return Verdict::Refused(checks::CHILDLESS, i);
+            return Err(Refused(Refusal::Childless, i));
         }
-        i += 1;
     }
-    Verdict::Passed
+    Ok(())
 }
 
 // The mended weight of a class whose children's are together so much.
@@ -98,38 +89,30 @@ fn mended_weight(leaf: bool, own: Weight, children: Weight) -> Weight
     if leaf {
         return own;
     }
-    if own.0 < children.0 {
-        return children;
-    }
-    own
+    Weight(own.0.max(children.0))
 }
 
 // The mended weights from the highest class down, or 22 at the first that would need too much.
 fn mend_weights(tree: Tree) -> NewWeights
     requires { ReadTree tree }
     ensures { (result.verdict ≡ first_broken (downward (need_checks tree) tree.count))
-        × (result.verdict ≡ Passed → result.at ≡ mended_weights tree) }
+        × (result.verdict ≡ Ok tt → result.at ≡ mended_weights tree) }
 {
     let none = Weight(0);
     let mut sums = [none; Tree::CLASSES];
     let mut at = tree.weight;
-    let mut i = tree.count;
-    while 0 < i {
-        let own = at[i];
-        let children = sums[i];
+    for i in (1..=tree.count).rev() {
         let leaf = sets::has(tree.leaves, i);
-        let w = mended_weight(leaf, own, children);
+        let w = mended_weight(leaf, at[i], sums[i]);
         if 1_000_000 < w.0 {
-            let verdict = Verdict::Refused(checks::NEEDS_MORE, i);
+            let verdict = Err(Refused(Refusal::NeedsMore, i));
             return NewWeights { verdict, at };
         }
         at[i] = w;
-        let p = tree::wide(tree.parent[i]);
-        let s = sums[p];
-        sums[p] = s.plus(w);
-        i -= 1;
+        let p = usize::from(tree.parent[i]);
+        sums[p] = sums[p].plus(w);
     }
-    let verdict = Verdict::Passed;
+    let verdict = Ok(());
     NewWeights { verdict, at }
 }
 
@@ -166,23 +149,18 @@ fn list_changes(tree: Tree, new: [Weight; Tree::CLASSES]) -> Changes
     requires { (tree.count ≤ 63) × (new ≡ mended_weights tree) }
     ensures { result ≡ listed (changes_to tree tree.count) }
 {
-    let last = tree.count;
     let mut changes = no_changes();
-    let mut i: usize = 1;
-    while i <= last {
-        let a = tree.weight[i];
-        let b = new[i];
-        changes = noted(changes, i, a, b);
-        i += 1;
+    for i in 1..=tree.count {
+        changes = noted(changes, i, tree.weight[i], new[i]);
     }
     changes
 }
 
 // A refusal: 0 bytes used, the tree without classes and no change.
-fn refused(number: u8, place: usize) -> Mended
-    ensures { result ≡ answer (Refused number place) no_tree 0 }
+fn refuse(refused: Refused) -> Mended
+    ensures { result ≡ answer (Err refused) no_tree 0 }
 {
-    let verdict = Verdict::Refused(number, place);
+    let verdict = Err(refused);
     let tree = Tree::none();
     let changes = no_changes();
     Mended {
@@ -196,9 +174,9 @@ fn refused(number: u8, place: usize) -> Mended
 // A tree with its mended weights, and what changed.
 fn with_weights(mut tree: Tree, used: usize, new: [Weight; Tree::CLASSES]) -> Mended
     requires { (tree.count ≤ 63) × (new ≡ mended_weights tree) }
-    ensures { result ≡ answer Passed tree used }
+    ensures { result ≡ answer (Ok tt) tree used }
 {
-    let verdict = Verdict::Passed;
+    let verdict = Ok(());
     let changes = list_changes(tree, new);
     tree.weight = new;
     Mended {
@@ -218,8 +196,8 @@ fn mend_shares(tree: Tree, used: usize) -> Mended
     let verdict = new.verdict;
     let at = new.at;
     match verdict {
-        Verdict::Passed => with_weights(tree, used, at),
-        Verdict::Refused(n, p) => refused(n, p),
+        Ok(()) => with_weights(tree, used, at),
+        Err(refused) => refuse(refused),
     }
 }
 
@@ -229,12 +207,12 @@ fn mend_tree(tree: Tree, used: usize) -> Mended
     ensures { result ≡ answer (first_broken (mend_checks tree)) tree used }
 {
     if tree.count == 0 {
-        return refused(checks::NO_CLASS, 0);
+        return refuse(Refused(Refusal::NoClass, 0));
     }
     let v = child_fault(tree);
     match v {
-        Verdict::Passed => mend_shares(tree, used),
-        Verdict::Refused(n, p) => refused(n, p),
+        Ok(()) => mend_shares(tree, used),
+        Err(refused) => refuse(refused),
     }
 }
 
@@ -245,7 +223,7 @@ pub fn mend(input: &[u8]) -> Mended
     let read = reader::read_records(input);
     let verdict = read.verdict;
     match verdict {
-        Verdict::Passed => mend_tree(read.tree, read.used),
-        Verdict::Refused(n, p) => refused(n, p),
+        Ok(()) => mend_tree(read.tree, read.used),
+        Err(refused) => refuse(refused),
     }
 }

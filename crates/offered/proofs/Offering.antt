@@ -3,8 +3,8 @@ use mathlib.Core.List.{List}
 use mathlib.Core.Path.{◌≡◌, sym, ap, ◌∙◌}
 use Prim.Native.Nat.{ℕ, ◌^◌, ◌≤◌, ◌<◌}
 use native.Mathlib.Omega.{arith}
-use Rattle.checks.specs.declared.Verdict.{Verdict}
-use Rattle.checks.specs.declared.Verdict.TheVariants.{Passed}
+use Rattle.checks.specs.Check.{Verdict}
+use Rattle.std.specs.Prelude.{Ok}
 use Rattle.state.specs.declared.Link.{Link}
 use Rattle.state.specs.Queue.{held_of}
 use Rattle.calls.specs.declared.AfterArrival.{AfterArrival}
@@ -28,7 +28,7 @@ offer_one_answer l i n a b x y =
     ∙ sym y.answer
 
 -- of an arrival that is accepted: the promise for the bytes that it answers is its bound
-pub promise_is_bound : (l : Link) (i n : ℕ) (a : AfterArrival) → Arrives l i (of_length n) a → a.answer.verdict ≡ Passed → (r : Promised)
+pub promise_is_bound : (l : Link) (i n : ℕ) (a : AfterArrival) → Arrives l i (of_length n) a → a.answer.verdict ≡ Ok tt → (r : Promised)
     → Promises l.tree i a.answer.bytes.0 r → r.bytes.0 ≡ bound_of l i a.answer.bytes.0
 promise_is_bound l i n a arrives accepted r x =
     let p = of_length n in
@@ -38,8 +38,8 @@ promise_is_bound l i n a arrives accepted r x =
 
 -- the packet that then comes, and is accepted, has what was offered: D as it is answered, and no more bytes are sent until it has gone; and
 -- both numbers fit 64 bits
-module _ (l : Link) (i n : ℕ) (r : Offered) (x : Offers l i n r) (passes : r.verdict ≡ Passed) where
-  accepted : x.after.answer.verdict ≡ Passed
+module _ (l : Link) (i n : ℕ) (r : Offered) (x : Offers l i n r) (passes : r.verdict ≡ Ok tt) where
+  accepted : x.after.answer.verdict ≡ Ok tt
   accepted = ap (λ (o : Offered). o.verdict) (sym x.answer) ∙ passes
 
   wait_is : r.wait.0 ≡ bound_of l i x.after.answer.bytes.0

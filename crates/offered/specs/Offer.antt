@@ -1,8 +1,7 @@
 -- What a packet would be promised if it came now (R285): the answer of its arrival, and the bound with that answer's bytes. Demands 1
 -- and 3.
-use Rattle.std.specs.Prelude.{◌≡◌, ℕ}
-use Rattle.checks.specs.declared.Verdict.{Verdict}
-use Rattle.checks.specs.declared.Verdict.TheVariants.{Passed, Refused}
+use Rattle.checks.specs.Check.{Verdict}
+use Rattle.std.specs.Prelude.{◌≡◌, ℕ, Ok, Err}
 use Rattle.state.specs.declared.Link.{Link}
 use Rattle.state.specs.declared.Packet.{Packet}
 use Rattle.calls.specs.declared.Arrival.{Arrival}
@@ -17,8 +16,8 @@ of_length n = record { length = n; tag = 0 }
 
 -- an accepted arrival's bytes are D, and the wait is its bound; a refused one has neither (R285)
 abbrev pub wait_by : Verdict → Link → ℕ → ℕ → ℕ
-wait_by Passed l class d = bound_of l class d
-wait_by (Refused n q) l class d = 0
+wait_by (Ok _) l class d = bound_of l class d
+wait_by (Err _) l class d = 0
 
 abbrev pub offered_by : Arrival → Link → ℕ → Offered
 offered_by answer l class = record {

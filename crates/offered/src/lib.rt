@@ -11,6 +11,7 @@ use units::Bytes;
 // What is offered: the verdict of the arrival, D, the charged bytes that would then wait in its leaf, and how many bytes the whole link
 // would
 // send at most until the packet has gone. Both are 0 where it would be refused.
+// R163: in an answer that refuses every further number is 0; so they stand beside the verdict, and not in a Result.
 #[derive(Clone, Copy)]
 pub struct Offered {
     pub verdict: Verdict,
@@ -27,7 +28,7 @@ pub fn if_accepted(link: Link, class: usize, length: u16) -> Offered
     let answer = after.answer;
     let verdict = answer.verdict;
     let bytes = answer.bytes;
-    if let Verdict::Passed = verdict {
+    if let Ok(()) = verdict {
         let promise = promised::longest_wait(tree, class, bytes);
         let wait = promise.bytes;
         return Offered {

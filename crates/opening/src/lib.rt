@@ -93,15 +93,13 @@ fn open_accounts(
     ensures { zip_accounts balance.new residual.new
         ≡ opened_accounts (kind_is surplus) (tree_in shape.now) active (zip_accounts balance.old residual.old) }
 {
-    let last = shape::count(shape);
     let leaves = shape::leaves(shape);
     let mut quotas = [0u64; 64];
     let root = open_root(surplus, Weight(sums[0]), account_of(0, balance, residual));
     quotas[0] = root.quota;
     let first = root.account;
     keep(0, first, balance, residual);
-    let mut i: usize = 1;
-    while i <= last {
+    for i in 1..=shape::count(shape) {
         let p = shape::parent(shape, i);
         let w = shape::weight(shape, i);
         let due = units::due(w, quotas[p]);
@@ -116,7 +114,6 @@ fn open_accounts(
         keep_quota(i, leaf, one.quota, &mut quotas);
         let account = one.account;
         keep(i, account, balance, residual);
-        i += 1;
     }
 }
 
@@ -125,13 +122,7 @@ fn class_surplus(on: bool, leaf: bool, sum: Weight, a: Account) -> bool
     requires { funds_of a ≤ most_size }
     ensures { result ≡ (not leaf && on && surplus_of (funds_of a) sum.0) }
 {
-    if leaf {
-        return false;
-    }
-    if !on {
-        return false;
-    }
-    units::surplus(a.funds(), sum)
+    !leaf && on && units::surplus(a.funds(), sum)
 }
 
 // Whether the round that opens is a surplus round: some class has one, of the active inner classes one after the other.

@@ -3,16 +3,11 @@ ghost use Rattle.std.specs.Prelude.{◌≡◌, ◌+◌, ◌≤◌, ◌<◌, min}
 ghost use Rattle.plan.specs.Record.{byte_at, number16, number32};
 ghost use Rattle.packed.specs.Command.{number64, slice_of};
 
-use tree::wide;
-
 // The byte at a place.
 pub fn number_8(s: &[u8], k: usize) -> u64
     ensures { (result ≡ byte_at s.now k) × (result < 256) }
 {
-    if s.len() <= k {
-        return 0;
-    }
-    wide(s[k]) as u64
+    s.get(k).map_or(0, |byte| u64::from(*byte))
 }
 
 // The number of two bytes at a place.
@@ -43,13 +38,7 @@ pub fn number_64(s: &[u8], k: usize) -> u64
 pub fn part(s: &[u8], from: usize, to: usize) -> &[u8]
     ensures { result.now ≡ slice_of s.now from to }
 {
-    if s.len() < to {
-        return &s[..0];
-    }
-    if to < from {
-        return &s[..0];
-    }
-    &s[from..to]
+    s.get(from..to).unwrap_or(&[])
 }
 
 // The place of the next command, at most the input's end.
@@ -57,8 +46,5 @@ pub fn next(at: usize, size: usize, end: usize) -> usize
     requires { (1 ≤ size) × (at < end) }
     ensures { (result ≡ min (at + size) end) × (at < result) × (result ≤ end) }
 {
-    if end - at <= size {
-        return end;
-    }
-    at + size
+    at.saturating_add(size).min(end)
 }

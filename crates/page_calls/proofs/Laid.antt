@@ -6,8 +6,9 @@ use Prim.Native.Nat.{ℕ, ◌+◌, ◌*◌, ◌/◌, ◌%◌}
 use native.Mathlib.Omega.{arith}
 use lib.ListN.{length, take}
 use borrow.Author.Tests.{ne_eqb, le-ltb}
+use Rattle.plan.specs.declared.event.Event.TheVariants.{Arrive}
+use Rattle.std.specs.Prelude.{Ok, Some}
 use Rattle.checks.specs.Check.{first_broken}
-use Rattle.plan.specs.declared.EventRead.TheVariants.{Arrive}
 use Rattle.plan.specs.declared.kind.Section.TheVariants.{Events}
 use Rattle.plan.specs.Record.{missing, unknown, cut, kind_at, body_of, class_at}
 use Rattle.plan.specs.Kind.{record_kind}
@@ -50,10 +51,10 @@ module _ (class len tag : ℕ) (z : List ℕ) where
   unfolding length_of record_of cut kind_at record_kind
   arrival_whole = le-ltb (length rest) 8 (omega arith)
 
-  arrival_given_lem : event_of rest ≡ Arrive (record { class = class; length = len; tag = tag })
+  arrival_given_lem : event_of rest ≡ Ok (Some (Arrive (record { class = class; length = len; tag = tag })))
   unfolding length_of record_of event_of kind_at body_of record_kind
   arrival_given_lem =
-      ap₂ (λ (x y : ℕ). Arrive (record { class = class; length = x; tag = y }))
+      ap₂ (λ (x y : ℕ). Ok (Some (Arrive (record { class = class; length = x; tag = y }))))
       two four
     where
       two : len / 256 * 256 + len % 256 ≡ len
@@ -62,6 +63,6 @@ module _ (class len tag : ℕ) (z : List ℕ) where
       four : tag / 16_777_216 * 16_777_216 + tag / 65_536 % 256 * 65_536 + tag / 256 % 256 * 256 + tag % 256 ≡ tag
       four = omega arith
 
-  pub arrival_reads : (place : ℕ) → event_at rest place ≡ Arrive (record { class = class; length = len; tag = tag })
+  pub arrival_reads : (place : ℕ) → event_at rest place ≡ Ok (Some (Arrive (record { class = class; length = len; tag = tag })))
   unfolding event_at first_broken
   arrival_reads place = rw (arrival_there, arrival_known, arrival_whole) arrival_given_lem

@@ -5,7 +5,8 @@ use mathlib.Core.Path.{◌≡◌, sym, ap, ap₂, subst, ◌∙◌}
 use Prim.Native.Nat.{ℕ}
 use Rattle.checks.specs.Check.{number_of}
 use Rattle.tree.specs.declared.Tree.{Tree}
-use Rattle.shape.specs.declared.size.PlanSize.{PlanSize}
+use Rattle.std.specs.Prelude.{Option, unwrap_or}
+use Rattle.units.specs.declared.Bytes.{Bytes}
 use Rattle.shape.proofs.Children.{plan_size_one_answer}
 use Rattle.written.specs.declared.Written.{Written}
 use Rattle.written.proofs.Answers as written-answers
@@ -34,7 +35,7 @@ open_one_answer a b = (
   both a.answers b.answers,
   both a.verdict b.verdict,
   both a.tree b.tree,
-  a.whole ∙ ap (λ (j : PlanSize). j.size.0 ∷ []) (plan_size_one_answer _ _ _ a.sizes b.sizes) ∙ sym b.whole,
+  a.whole ∙ ap (λ (j : Option Bytes). (unwrap_or j (record { 0 = 0 })).0 ∷ []) (plan_size_one_answer _ _ _ a.sizes b.sizes) ∙ sym b.whole,
   both a.parents b.parents,
   both a.weights b.weights,
   both a.longests b.longests,

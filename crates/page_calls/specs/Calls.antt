@@ -1,8 +1,8 @@
 -- What each call of the page says, for any bytes and any numbers: what the library says, in number arrays. Demands 1 to 3.
-use Rattle.std.specs.Prelude.{Bool, true, false, cond, List, [], ◌∷◌, ◌≡◌, ℕ}
+use Rattle.std.specs.Prelude.{Bool, true, false, cond, List, [], ◌∷◌, ◌≡◌, ℕ, Option, unwrap_or}
 use Rattle.checks.specs.Check.{number_of}
 use Rattle.tree.specs.declared.Tree.{Tree}
-use Rattle.shape.specs.declared.size.PlanSize.{PlanSize}
+use Rattle.units.specs.declared.Bytes.{Bytes}
 use Rattle.tree.specs.Sum.{table}
 use Rattle.shape.specs.Steps.{Sizes}
 use Rattle.plan.specs.Reader.{plan_of}
@@ -26,12 +26,12 @@ use Rattle.page_calls.specs.Kept.{said_of, numbers_of, weights_of, class_at, old
 
 -- a plan is read: its refusal and the bytes used, its tree, and the round size Q, 0 of a plan that is refused
 pub record Opens (input : List ℕ) (number : ℕ) (said numbers size parent weight longest : List ℕ) : Type 0 where
-  pub judged : PlanSize
+  pub judged : Option Bytes
   pub sizes : Sizes (plan_of input).tree judged
   pub answers : number ≡ number_of (plan_of input).verdict
   pub verdict : said ≡ said_of (plan_of input).verdict (plan_of input).used
   pub tree : numbers ≡ numbers_of (plan_of input).tree
-  pub whole : size ≡ judged.size.0 ∷ []
+  pub whole : size ≡ (unwrap_or judged (record { 0 = 0 })).0 ∷ []
   pub parents : parent ≡ (plan_of input).tree.parent
   pub weights : weight ≡ weights_of (plan_of input).tree
   pub longests : longest ≡ (plan_of input).tree.longest

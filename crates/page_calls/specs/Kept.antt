@@ -1,7 +1,6 @@
 -- What the number arrays of a page mean: a verdict, a tree, a list of changes. Demand 1.
 use Rattle.std.specs.Prelude.{Bool, cond, List, [], ◌∷◌, ℕ, eqb, get_or}
-use Rattle.checks.specs.declared.Verdict.{Verdict}
-use Rattle.checks.specs.Check.{number_of, place_of}
+use Rattle.checks.specs.Check.{number_of, place_of, Verdict}
 use Rattle.tree.specs.declared.Tree.{Tree}
 use Rattle.tree.specs.Class.{weight_of}
 use Rattle.tree.specs.Sum.{table}

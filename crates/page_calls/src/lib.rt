@@ -1,6 +1,7 @@
 // The planner's page: the library's calls on bytes and number arrays that a page in a browser lends; bin/page compiles them to WebAssembly.
 // Each says what the library says of the same bytes; specs/Kept says what the arrays mean. No function asks anything of its caller, and a
-// link is made and gone within a call: no part of it is kept here. Serves demands 1 to 3.
+// link is made and gone within a call: no part of it is kept here. A refusal's number is answered in four bytes: a function that returns
+// less leaves the upper bits of its result open. Serves demands 1 to 3.
 #![tactic(auto)]
 
 mod weights;
@@ -22,13 +23,7 @@ use mended::Change;
 use parts::PartRun;
 use run::Step;
 use tree::Tree;
-
-// A number of one byte in four: a function that returns less leaves the upper bits of its result open.
-fn wide(x: u8) -> u32
-    ensures { result ≡ x }
-{
-    x as u32
-}
+use units::Bytes;
 
 // A verdict as numbers.
 fn said_of(verdict: Verdict, used: usize) -> [u64; 3]
@@ -131,10 +126,7 @@ pub extern "C" fn page_record(kind: u8, a: u8, b: u32, c: u16, out: &mut [u8; 8]
 fn rule_of(follows: bool) -> u64
     ensures { result ≡ rule_of follows }
 {
-    if follows {
-        return 2;
-    }
-    1
+    if follows { 2 } else { 1 }
 }
 
 // The three numbers of a tree.
@@ -178,10 +170,10 @@ pub extern "C" fn page_open(
 {
     let read = plan::read_plan(input);
     let tree = read.tree;
-    let judged = shape::plan_size(tree);
-    let q = judged.size;
+    let q = shape::plan_size(tree).unwrap_or(Bytes(0));
     *size = [q.0];
     *numbers = numbers_of(tree);
+    // Each array is named before it is stored: a field that is one, stored straight, has no proof.
     let p = tree.parent;
     *parent = p;
     let w = tree.weight;
@@ -190,7 +182,7 @@ pub extern "C" fn page_open(
     *longest = l;
     let verdict = read.verdict;
     *said = said_of(verdict, read.used);
-    wide(checks::number(verdict))
+    u32::from(checks::number(verdict))
 }
 
 // Writes the tree that a page's numbers make up: the refusal's number; number, place and bytes written; the bytes into the buffer.
@@ -210,68 +202,26 @@ pub extern "C" fn page_write(
     let written = written::write_plan(tree, out);
     let verdict = written.verdict;
     *said = said_of(verdict, written.used);
-    wide(checks::number(verdict))
-}
-
-// The class, the old and the new weight of a change.
-fn change_class(change: Change) -> u64
-    ensures { result ≡ change.class }
-{
-    change.class as u64
-}
-
-fn change_old(change: Change) -> u64
-    ensures { result ≡ change.old.0 }
-{
-    let w = change.old;
-    w.0 as u64
-}
-
-fn change_new(change: Change) -> u64
-    ensures { result ≡ change.new.0 }
-{
-    let w = change.new;
-    w.0 as u64
+    u32::from(checks::number(verdict))
 }
 
 // The changes as three tables.
 fn classes_of(changes: [Change; Tree::CLASSES]) -> [u64; 64]
     ensures { result ≡ table (class_at changes) 64 }
 {
-    let mut out = [0u64; 64];
-    let mut i: usize = 0;
-    while i < Tree::CLASSES {
-        let change = changes[i];
-        out[i] = change_class(change);
-        i += 1;
-    }
-    out
+    changes.map(|change| change.class as u64)
 }
 
 fn olds_of(changes: [Change; Tree::CLASSES]) -> [u64; 64]
     ensures { result ≡ table (old_at changes) 64 }
 {
-    let mut out = [0u64; 64];
-    let mut i: usize = 0;
-    while i < Tree::CLASSES {
-        let change = changes[i];
-        out[i] = change_old(change);
-        i += 1;
-    }
-    out
+    changes.map(|change| u64::from(change.old.0))
 }
 
 fn news_of(changes: [Change; Tree::CLASSES]) -> [u64; 64]
     ensures { result ≡ table (new_at changes) 64 }
 {
-    let mut out = [0u64; 64];
-    let mut i: usize = 0;
-    while i < Tree::CLASSES {
-        let change = changes[i];
-        out[i] = change_new(change);
-        i += 1;
-    }
-    out
+    changes.map(|change| u64::from(change.new.0))
 }
 
 // Mends a plan: the refusal's number; number, place and bytes used; how many weights change, their classes, old and new.
@@ -296,7 +246,7 @@ pub extern "C" fn page_mend(
     *new = news_of(at);
     let verdict = mended.verdict;
     *said = said_of(verdict, mended.used);
-    wide(checks::number(verdict))
+    u32::from(checks::number(verdict))
 }
 
 // ---- Rates and waits
@@ -325,7 +275,7 @@ pub extern "C" fn page_rates(
     *left = u;
     let verdict = allotted.verdict;
     *said = said_of(verdict, answer.last);
-    wide(checks::number(verdict))
+    u32::from(checks::number(verdict))
 }
 
 // The longest waits of a leaf of a plan: the refusal's number; bytes alone and as the last of 32.
@@ -341,7 +291,7 @@ pub extern "C" fn page_waits(input: &[u8], class: usize, bytes: &mut [u64; 2]) -
     let f = full.bytes;
     *bytes = [a.0, f.0];
     let verdict = alone.verdict;
-    wide(checks::number(verdict))
+    u32::from(checks::number(verdict))
 }
 
 // The bound of a packet that is accepted with D bytes in its queue, its own among them; 0 where none is promised.
@@ -380,10 +330,7 @@ pub extern "C" fn page_begin(input: &[u8], out: &mut [u8; 112]) -> usize
 fn part_says(part: PartRun) -> [u64; 2]
     ensures { result ≡ part_says part }
 {
-    if part.more {
-        return [part.laid as u64, 1];
-    }
-    [part.laid as u64, 0]
+    [part.laid as u64, u64::from(part.more)]
 }
 
 // The lines of the events after a step.

@@ -4,11 +4,10 @@ use mathlib.Core.List.{List}
 use mathlib.Core.Path.{◌≡◌, refl, sym, ap, subst, ◌∙◌}
 use Prim.Native.Nat.{ℕ, ◌+◌}
 use lib.ListN.{drop}
-use Rattle.checks.specs.declared.Verdict.{Verdict}
-use Rattle.checks.specs.declared.Verdict.TheVariants.{Passed, Refused}
-use Rattle.plan.specs.declared.EventRead.{EventRead}
-use Rattle.plan.specs.declared.EventRead.TheVariants.{NoMore, Arrive, SendNext, Fault}
-use Rattle.plan.specs.Event.{used_of, event_at}
+use Rattle.plan.specs.declared.event.Event.TheVariants.{Arrive, SendNext}
+use Rattle.checks.specs.Check.{Verdict}
+use Rattle.std.specs.Prelude.{Ok, Err, Some, None}
+use Rattle.plan.specs.Event.{used_of, event_at, EventRead}
 use Rattle.state.specs.declared.Link.{Link}
 use Rattle.state.specs.State.{meaning}
 use Rattle.calls.specs.declared.Departure.{Departure}
@@ -29,8 +28,8 @@ lays_as at r before out e lays = subst (λ (x : Line). LaysLine at x before r ou
 
 -- the line of a send that goes, or of none
 gone_same : (v : Verdict) (d : Departure) → gone_says v d.class d.length d.tag d.rounds d.waited ≡ send_says v d
-gone_same Passed d = refl
-gone_same (Refused n p) d = refl
+gone_same (Ok _) d = refl
+gone_same (Err _) d = refl
 
 -- a step with the line of a reply
 abbrev step_from : Next → Step
@@ -44,29 +43,29 @@ step_from x = record {
 module _ (l : Link) (input : List ℕ) (place : ℕ) (sound : Bool) (told : Told sound l) where
   -- it is the step of the run
   step_same : (e : EventRead) → step_from (next_gives sound l place e) ≡ event_gives sound l place e
-  step_same NoMore = refl
-  step_same (Arrive a) = refl
-  step_same SendNext =
+  step_same (Ok None) = refl
+  step_same (Ok (Some (Arrive a))) = refl
+  step_same (Ok (Some SendNext)) =
       let m = makes sound l send in
       let d = (send_of sound l).answer in
-      ap (λ (x : Line). record { line = x; more = true; link = link_left m; place = place + used_of SendNext }) (gone_same d.verdict d)
-  step_same (Fault n p) = refl
+      ap (λ (x : Line). record { line = x; more = true; link = link_left m; place = place + used_of (Ok (Some SendNext)) }) (gone_same d.verdict d)
+  step_same (Err _) = refl
 
   gives_it : (e : EventRead) (s : Step) → s ≡ event_gives sound l place e → Gives l place e s
-  gives_it NoMore s is = is
-  gives_it (Arrive a) s is = record {
+  gives_it (Ok None) s is = is
+  gives_it (Ok (Some (Arrive a))) s is = record {
     answer = _;
     after = _;
     meets = rules_meet l (arrival a.class (packet_in a)) sound told.exactly told.shape;
     step = is;
   }
-  gives_it SendNext s is = record {
+  gives_it (Ok (Some SendNext)) s is = record {
     answer = _;
     after = _;
     meets = rules_meet l send sound told.exactly told.shape;
     step = is;
   }
-  gives_it (Fault n p) s is = is
+  gives_it (Err _) s is = is
 
   pub event_goes : (r : Heard) (after : Link) → Hears sound l input place r after
       → GoesOn l input place

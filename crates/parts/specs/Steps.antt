@@ -1,8 +1,6 @@
 -- What the inner steps of a part say; no rule of its own.
-use Rattle.std.specs.Prelude.{Bool, cond, List, ℕ, ◌+◌, ◌≤◌, eqb, length}
-use Rattle.checks.specs.declared.Verdict.{Verdict}
-use Rattle.checks.specs.declared.Verdict.TheVariants.{Passed, Refused}
-use Rattle.checks.specs.Check.{Exactly}
+use Rattle.std.specs.Prelude.{Bool, List, ℕ, ◌+◌, ◌≤◌, length, Ok, Err}
+use Rattle.checks.specs.Check.{Exactly, Verdict, number}
 use Rattle.state.specs.declared.Link.{Link}
 use Rattle.state.specs.declared.Packet.{Packet}
 use Rattle.sound.specs.Sound.{SoundLink}
@@ -11,6 +9,8 @@ use Rattle.lines.specs.declared.Line.TheVariants.{Out, Nothing, End, Stop}
 use Rattle.lines.specs.Line.{bytes_of, line_room}
 use Rattle.digits.specs.Laid.{LaidAt}
 use Rattle.run.specs.Event.{arrival_says}
+use Rattle.answers.specs.declared.Kind.{Kind}
+use Rattle.answers.specs.declared.Kind.TheVariants.{Last, Arrival, Send}
 use Rattle.answers.specs.declared.Reply.{Reply}
 use Rattle.parts.specs.declared.PartRun.{PartRun}
 use Rattle.parts.specs.Part.{Parts}
@@ -25,19 +25,22 @@ packet_with length tag = record { length = length; tag = tag }
 
 -- the line of a send, by its verdict
 abbrev pub gone_says : Verdict → ℕ → ℕ → ℕ → ℕ → ℕ → Line
-gone_says Passed class length tag rounds waited = Out class length tag rounds waited
-gone_says (Refused n p) class length tag rounds waited = Nothing
+gone_says (Ok _) class length tag rounds waited = Out class length tag rounds waited
+gone_says (Err _) class length tag rounds waited = Nothing
 
 -- the last line, with the packets that still wait
 abbrev pub end_says : Verdict → ℕ → Line
-end_says Passed waiting = End waiting
-end_says (Refused n p) waiting = Stop n p
+end_says (Ok _) waiting = End waiting
+end_says (Err e) waiting = Stop (number e.0) e.1
 
 -- the line of a reply: of an arrival, of a send, or the last one
+abbrev pub kind_says : Kind → Reply → ℕ → Line
+kind_says Arrival r waiting = arrival_says r.verdict r.class (packet_with r.length r.tag) r.bytes
+kind_says Send r waiting = gone_says r.verdict r.class r.length r.tag r.rounds r.bytes
+kind_says Last r waiting = end_says r.verdict waiting
+
 abbrev pub reply_says : Reply → ℕ → Line
-reply_says r waiting =
-    cond (eqb r.kind 16) (arrival_says r.verdict r.class (packet_with r.length r.tag) r.bytes)
-    (cond (eqb r.kind 17) (gone_says r.verdict r.class r.length r.tag r.rounds r.bytes) (end_says r.verdict waiting))
+reply_says r waiting = kind_says r.kind r waiting
 
 -- a part as its contract says, on a record of which it was decided whether it is sound; what it laid is within the buffer
 pub record Taken (l : Link) (input : List ℕ) (place : ℕ) (before : List ℕ) (r : PartRun) (after : List ℕ) : Type 0 where

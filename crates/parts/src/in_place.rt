@@ -12,8 +12,8 @@ ghost use Rattle.run.specs.Event.{arrival_says};
 ghost use Rattle.parts.specs.Steps.{LaysLine, packet_with, gone_says, end_says, reply_says, Taken};
 
 use crate::PartRun;
-use answers::{Reply, event};
-use checks::Verdict;
+use answers::{Kind, Reply, event};
+use checks::{Refused, Verdict};
 use lines::Line;
 use state::{Link, Round, Totals};
 use steps::Stand;
@@ -32,8 +32,11 @@ fn lay_arrival(
     ensures { LaysLine at (arrival_says verdict class (packet_with len tag) bytes) out.old result out.new }
 {
     match verdict {
-        Verdict::Passed => lines::lay_in(class, len, tag, bytes, at, out),
-        Verdict::Refused(n, _) => lines::lay_at(Line::No(class, len, tag, n as u64), at, out),
+        Ok(()) => lines::lay_in(class, len, tag, bytes, at, out),
+        Err(refused) => {
+            let number = refused.0.number() as u64;
+            lines::lay_at(Line::No(class, len, tag, number), at, out)
+        },
     }
 }
 
@@ -52,8 +55,8 @@ fn lay_send(
     ensures { LaysLine at (gone_says verdict class len tag rounds waited) out.old result out.new }
 {
     match verdict {
-        Verdict::Passed => lines::lay_out(class, len, tag, rounds, waited, at, out),
-        Verdict::Refused(_, _) => lines::lay_at(Line::Nothing, at, out),
+        Ok(()) => lines::lay_out(class, len, tag, rounds, waited, at, out),
+        Err(_) => lines::lay_at(Line::Nothing, at, out),
     }
 }
 
@@ -63,8 +66,8 @@ fn lay_last(verdict: Verdict, waiting: u64, at: usize, out: &mut [u8]) -> usize
     ensures { LaysLine at (end_says verdict waiting) out.old result out.new }
 {
     match verdict {
-        Verdict::Passed => lines::lay_at(Line::End(waiting), at, out),
-        Verdict::Refused(n, p) => lines::lay_at(Line::Stop(n as u64, p as u64), at, out),
+        Ok(()) => lines::lay_at(Line::End(waiting), at, out),
+        Err(refused) => lines::lay_at(run::stop_line(refused), at, out),
     }
 }
 
@@ -74,8 +77,8 @@ fn lay_reply(reply: Reply, waiting: u64, at: usize, out: &mut [u8]) -> usize
     ensures { LaysLine at (reply_says reply waiting) out.old result out.new }
 {
     let verdict = reply.verdict;
-    if reply.kind == 16 {
-        return lay_arrival(
+    match reply.kind {
+        Kind::Arrival => lay_arrival(
             verdict,
             reply.class,
             reply.length,
@@ -83,10 +86,8 @@ fn lay_reply(reply: Reply, waiting: u64, at: usize, out: &mut [u8]) -> usize
             reply.bytes,
             at,
             out,
-        );
-    }
-    if reply.kind == 17 {
-        return lay_send(
+        ),
+        Kind::Send => lay_send(
             verdict,
             reply.class,
             reply.length,
@@ -95,9 +96,9 @@ fn lay_reply(reply: Reply, waiting: u64, at: usize, out: &mut [u8]) -> usize
             reply.bytes,
             at,
             out,
-        );
+        ),
+        Kind::Last => lay_last(verdict, waiting, at, out),
     }
-    lay_last(verdict, waiting, at, out)
 }
 
 // The sets of children of a sound record's classes; none of one that is not sound.
@@ -130,8 +131,7 @@ pub fn part_of(sound: bool, link: Link, input: &[u8], place: usize, out: &mut [u
     requires { Exactly sound (SoundLink link) }
     ensures { Taken link input.now place out.old result out.new }
 {
-    let tree = link.tree;
-    let shape = shape::shape_of(tree);
+    let shape = shape::shape_of(link.tree);
     let children = children_of(sound, &shape);
     let mut kept = [0u32; 64];
     let before = link.round.accounts;
@@ -146,15 +146,14 @@ pub fn part_of(sound: bool, link: Link, input: &[u8], place: usize, out: &mut [u
     let mut packets = counted.packets;
     let mut bytes = counted.bytes;
     let known = sums_now(sound, &shape, &held, &mut kept);
-    let size = link.round.size;
     let stand = Stand {
         known,
-        size,
+        size: link.round.size,
         active: link.round.active,
         place: link.round.place,
         charged: counted.charged,
     };
-    let none = event::last_reply(Verdict::Passed);
+    let none = event::last_reply(Ok(()));
     let mut run = event::outcome(sound, none, true, place, stand);
     let mut laid: usize = 0;
     while crate::takes_one(run.more, laid, out.len()) {
@@ -179,9 +178,7 @@ pub fn part_of(sound: bool, link: Link, input: &[u8], place: usize, out: &mut [u
     let accounts = state::lent_accounts::zipped(&balance, &residual);
     totals::work_out(sound, &shape, &children, &mut packets, &mut bytes);
     let then = run.stand;
-    let size_after = then.size;
     let after = Link {
-        tree,
         lengths,
         tags,
         marks,
@@ -193,11 +190,12 @@ pub fn part_of(sound: bool, link: Link, input: &[u8], place: usize, out: &mut [u
             charged: then.charged,
         },
         round: Round {
-            size: size_after,
+            size: then.size,
             active: then.active,
             place: then.place,
             accounts,
         },
+        ..link
     };
     PartRun {
         laid,

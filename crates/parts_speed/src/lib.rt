@@ -23,9 +23,7 @@ pub extern "C" fn speed_run(input: &[u8], parts: usize, out: &mut [u8]) -> usize
         place: begun.place,
     };
     let mut bytes: usize = 0;
-    let mut n: usize = 0;
-    while n < parts {
-        n += 1;
+    for _n in 0..parts {
         if !part.more {
             return bytes;
         }

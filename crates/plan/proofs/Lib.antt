@@ -5,3 +5,4 @@ pub mod Numbers
 pub mod Longer
 pub mod EntryLaws
 pub mod Lying
+pub mod Told

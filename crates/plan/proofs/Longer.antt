@@ -9,9 +9,9 @@ use lib.Dec.{eqb, leb}
 use lib.ListN.{length, take, drop, length-append, length-drop, get_or-append}
 use lib.Seq.{take-append-le, drop-append-le}
 use borrow.Author.Tests.{le-ltb, ne_eqb, leb-true}
-use Rattle.checks.specs.declared.Verdict.{Verdict}
-use Rattle.checks.specs.declared.Verdict.TheVariants.{Passed}
-use Rattle.checks.specs.Check.{Check, check, first_broken, passed}
+use Rattle.checks.specs.declared.Refusal.TheVariants.{Cut, UnknownKind, BadRule, LateRule}
+use Rattle.std.specs.Prelude.{Ok}
+use Rattle.checks.specs.Check.{Check, check, first_broken, passed, Verdict}
 use Rattle.checks.proofs.Laws.{pass_over}
 use Rattle.tree.specs.declared.Tree.{Tree}
 use Rattle.tree.specs.declared.Class.{Class}
@@ -95,10 +95,10 @@ whole xs h = le-ltb (length xs) (1 + (kind_at xs).body) (omega (arith, body_most
 
 -- what is asked of a record after its kind byte was found, and of one that is whole
 later_checks : Bool → Bool → ℕ → List Check → List Check
-later_checks strange short place more = check 2 strange place ∷ check 1 short place ∷ more
+later_checks strange short place more = check UnknownKind strange place ∷ check Cut short place ∷ more
 
 rows : Bool → Bool → RecordKind → ℕ → Tree → Class → List Check
-rows late bad k place t c = check 18 late place ∷ check 17 bad place ∷ cond (gives_class k) (new_class_checks (added t c) place) []
+rows late bad k place t c = check LateRule late place ∷ check BadRule bad place ∷ cond (gives_class k) (new_class_checks (added t c) place) []
 
 -- a whole record with more bytes after it
 module _ (xs ys : List ℕ) (eight : 8 ≤ length xs) where
@@ -126,7 +126,7 @@ module _ (xs ys : List ℕ) (eight : 8 ≤ length xs) where
 
   longer_rules : (place : ℕ) → rule_checks (xs ++ ys) place ≡ rule_checks xs place
   longer_rules place =
-      ap₂ (λ (late bad : Bool). check 18 late place ∷ check 17 bad place ∷ []) (longer_late place) longer_bad
+      ap₂ (λ (late bad : Bool). check LateRule late place ∷ check BadRule bad place ∷ []) (longer_late place) longer_bad
 
   longer_whole : (place : ℕ) (t : Tree) → whole_checks (xs ++ ys) place t ≡ whole_checks xs place t
   unfolding rows
@@ -268,7 +268,7 @@ module _ (window rest : List ℕ) (long : 514 ≤ length window) where
       (same_after k (omega (arith, few))).0
 
 -- the bytes that an accepted plan used are bytes of the input
-pub plan_inside : (s : List ℕ) → (plan_of s).verdict ≡ Passed → (plan_of s).used ≤ length s
+pub plan_inside : (s : List ℕ) → (plan_of s).verdict ≡ Ok tt → (plan_of s).used ≤ length s
 plan_inside s e =
     let a = accepted s e in
     let k = passed_over s in

@@ -7,7 +7,10 @@ use native.Mathlib.Omega.{arith}
 use lib.ListN.{length, get_or, take, drop, length-drop}
 use lib.Seq.{get_or-drop, get_or-take}
 use borrow.Author.Tests.{eq-eqb, ne_eqb, lt-ltb, le-ltb}
-use Rattle.plan.specs.declared.EventRead.TheVariants.{NoMore, Arrive, SendNext, Fault}
+use Rattle.plan.specs.declared.event.Event.TheVariants.{Arrive, SendNext}
+use Rattle.checks.specs.declared.Refusal.TheVariants.{Cut, UnknownKind}
+use Rattle.checks.specs.Check.{refusal_at}
+use Rattle.std.specs.Prelude.{Ok, Err, Some, None}
 use Rattle.plan.specs.declared.kind.RecordKind.{RecordKind}
 use Rattle.plan.specs.declared.kind.Section.TheVariants.{Events}
 use Rattle.plan.specs.Kind.{record_kind, stands_in, gives_arrival}
@@ -27,7 +30,7 @@ module _ (s : List ℕ) (place : ℕ) where
   rest = drop place s
 
   -- the input has ended
-  pub lies_end : length s ≤ place → event_at rest place ≡ NoMore
+  pub lies_end : length s ≤ place → event_at rest place ≡ Ok None
   unfolding missing
   lies_end past = event_end rest place (eq-eqb (length rest) 0 (omega (arith, length-drop place s, past)))
 
@@ -46,11 +49,11 @@ module _ (s : List ℕ) (place : ℕ) where
     unfolding unknown
     stands b e = ap not (ap (stands_in Events) lies_kind ∙ e)
 
-    pub lies_strange : stands_in Events k ≡ false → event_at rest place ≡ Fault 2 place
+    pub lies_strange : stands_in Events k ≡ false → event_at rest place ≡ Err (refusal_at UnknownKind place)
     lies_strange off = event_unknown rest place there (stands false off)
 
     module _ (on : stands_in Events k ≡ true) where
-      pub lies_cut : length s - place < 1 + k.body → event_at rest place ≡ Fault 1 place
+      pub lies_cut : length s - place < 1 + k.body → event_at rest place ≡ Err (refusal_at Cut place)
       unfolding cut
       lies_cut short =
           event_cut rest place there (stands true on)
@@ -61,7 +64,7 @@ module _ (s : List ℕ) (place : ℕ) where
         unfolding cut
         all = le-ltb (length rest) (1 + (kind_at rest).body) (rw lies_kind (omega (arith, length-drop place s, whole)))
 
-        pub lies_send : gives_arrival k ≡ false → event_at rest place ≡ SendNext
+        pub lies_send : gives_arrival k ≡ false → event_at rest place ≡ Ok (Some SendNext)
         lies_send no-arrival = event_whole rest place there (stands true on) all ∙ event_send rest (ap gives_arrival lies_kind ∙ no-arrival)
 
         -- an arrival's body begins after its kind byte
@@ -73,10 +76,10 @@ module _ (s : List ℕ) (place : ℕ) where
             ap (λ (m : ℕ). byte_at (take m (drop 1 rest)) n) seven
             ∙ get_or-take 7 (drop 1 rest) n 0 u ∙ get_or-drop 1 rest n 0 ∙ get_or-drop place s (1 + n) 0 ∙ ap (byte_at s) at
 
-        pub lies_arrival : gives_arrival k ≡ true → event_at rest place ≡ Arrive (arrived_at s (place + 1))
+        pub lies_arrival : gives_arrival k ≡ true → event_at rest place ≡ Ok (Some (Arrive (arrived_at s (place + 1))))
         lies_arrival arrives =
             event_whole rest place there (stands true on) all ∙ event_arrival rest (ap gives_arrival lies_kind ∙ arrives)
-            ∙ ap Arrive same
+            ∙ ap (λ a. Ok (Some (Arrive a))) same
           where
             moved : (n m : ℕ) → n < 7 → place + 1 + n ≡ m → byte_at (body_of rest) n ≡ byte_at s m
             moved n m u e = byte n u arrives ∙ ap (byte_at s) e

@@ -8,9 +8,11 @@ use native.Mathlib.Decide.{dec_lt}
 use native.Mathlib.Omega.{arith}
 use borrow.Author.Tests.{le-ltb}
 use lib.ListN.{length}
-use Rattle.checks.specs.declared.Verdict.{Verdict}
-use Rattle.checks.specs.declared.Verdict.TheVariants.{Passed, Refused}
-use Rattle.checks.specs.Check.{check, first_broken}
+use Rattle.checks.specs.declared.Refusal.TheVariants.{Cut, UnknownKind, TooMany, BadParent, BadWeight, BadLongest, TooHeavy, Childless, NoClass, BadRule, LateRule}
+use Rattle.checks.specs.declared.Refusal.{Refusal}
+use Rattle.checks.specs.declared.Refused.{Refused}
+use Rattle.std.specs.Prelude.{Ok, Err}
+use Rattle.checks.specs.Check.{check, first_broken, Verdict, refusal_at}
 use Rattle.checks.proofs.Laws.{not_both, refused_or_passed, none_broken, not_true_and_false, decides, pass_over, passed_parts, after_passed}
 use Rattle.checks.proofs.Laws.{refused_before, passed_both, broken_or_later, classes_which, classes_refused}
 use Rattle.tree.specs.declared.Tree.{Tree}
@@ -21,8 +23,7 @@ use Rattle.tree.proofs.AfterEnd.{closing_yes}
 use Rattle.tree.proofs.Growth.{parent_stays, weight_stays, longest_stays, leaf_stays, parent_new, weight_new, longest_new, leaf_new}
 use Rattle.tree.proofs.Classes.{class_in_lem, class_range, closing_passes, closing_passed}
 use Rattle.plan.specs.declared.PlanRead.{PlanRead}
-use Rattle.plan.specs.declared.EventRead.{EventRead}
-use Rattle.plan.specs.Event.{event_at}
+use Rattle.plan.specs.Event.{event_at, EventRead}
 use Rattle.plan.specs.declared.kind.Section.TheVariants.{Plan}
 use Rattle.plan.specs.Kind.{gives_class}
 use Rattle.plan.specs.Record.{kind_at, missing, unknown, cut, late_rule, bad_rule, class_at}
@@ -70,12 +71,12 @@ class_checks_lem s k r =
     record_class_lem s (after s k) (tree_of s k) r.record'.there r.record'.known r.record'.whole r.class
 
 -- a record at which a plan is refused
-refused_at : (s : List ℕ) (k : ℕ) → Reached s k → {n p : ℕ} → first_broken (checks_of s k) ≡ Refused n p → (plan_of s).verdict ≡ Refused n p
+refused_at : (s : List ℕ) (k : ℕ) → Reached s k → {n : Refusal} {p : ℕ} → first_broken (checks_of s k) ≡ Err (refusal_at n p) → (plan_of s).verdict ≡ Err (refusal_at n p)
 refused_at s k r e = ap (λ (x : PlanRead). x.verdict) (plan_refused s k r.most r.below e)
 
 outcome_verdict : (v : Verdict) (t : Tree) (u : ℕ) → (outcome v t u).verdict ≡ v
-outcome_verdict Passed t u = refl
-outcome_verdict (Refused n p) t u = refl
+outcome_verdict (Ok _) t u = refl
+outcome_verdict (Err _) t u = refl
 
 -- the end record: the closing checks decide
 closed_at : (s : List ℕ) (k : ℕ) → EndRecord s k → (plan_of s).verdict ≡ first_broken (closing_checks (tree_of s k))
@@ -91,10 +92,10 @@ last_class : (s : List ℕ) (k : ℕ) (f : Tree → ℕ → Bool) (b : Bool) →
     → f (tree_of s (suc k)) (tree_of s (suc k)).count ≡ b
 last_class s k f b e = ap (f (tree_of s (suc k))) (tree_count s (suc k)) ∙ e
 
-closed_below : (t : Tree) (c : ℕ) → ClosedBelow t c → (i : ℕ) → 1 ≤ i → i < c → first_broken (closing_of t i) ≡ Passed
+closed_below : (t : Tree) (c : ℕ) → ClosedBelow t c → (i : ℕ) → 1 ≤ i → i < c → first_broken (closing_of t i) ≡ Ok tt
 closed_below t c b i l u = closing_passes t i (b.children i l u) (b.shares i l u)
 
-pub row_gives : (s : List ℕ) (n p : ℕ) → Row s n p → (plan_of s).verdict ≡ Refused n p
+pub row_gives : (s : List ℕ) (n : Refusal) (p : ℕ) → Row s n p → (plan_of s).verdict ≡ Err (refusal_at n p)
 row_gives s n p (row1_before k r a) = refused_at s k r (record_missing s (after s k) (tree_of s k) a)
 row_gives s n p (row2 k r a b) = refused_at s k r (record_unknown s (after s k) (tree_of s k) a b)
 row_gives s n p (row1_inside k r a b d) = refused_at s k r (record_cut s (after s k) (tree_of s k) a b d)
@@ -147,41 +148,41 @@ deciding s =
         off false e = refl
 
 -- a refusal with another's number and place
-same_row : (s : List ℕ) {m q n p : ℕ} → Refused m q ≡ Refused n p → Row s m q → Row s n p
+same_row : (s : List ℕ) {m : Refusal} {q : ℕ} {n : Refusal} {p : ℕ} → refusal_at m q ≡ refusal_at n p → Row s m q → Row s n p
 same_row s {m} {q} {n} {p} e r =
-    let a : m ≡ n = cc in
-    let b : q ≡ p = cc in
+    let a : m ≡ n = ap (λ (r : Refused). r.0) e in
+    let b : q ≡ p = ap (λ (r : Refused). r.1) e in
     rw (← a, ← b) r
 
 -- a record whose checks pass is whole
-whole_record : (s : List ℕ) (k : ℕ) → Reached s k → first_broken (checks_of s k) ≡ Passed → WholeRecord s k
+whole_record : (s : List ℕ) (k : ℕ) → Reached s k → first_broken (checks_of s k) ≡ Ok tt → WholeRecord s k
 unfolding record_checks
 whole_record s k reached e =
-    let a = passed_parts (check 1 (missing (rest_of s k)) (length s)) _ e in
-    let b = passed_parts (check 2 (unknown Plan (rest_of s k)) (after s k)) _ a.1 in
-    let d = passed_parts (check 1 (cut (rest_of s k)) (after s k)) _ b.1 in
+    let a = passed_parts (check Cut (missing (rest_of s k)) (length s)) _ e in
+    let b = passed_parts (check UnknownKind (unknown Plan (rest_of s k)) (after s k)) _ a.1 in
+    let d = passed_parts (check Cut (cut (rest_of s k)) (after s k)) _ b.1 in
     record { reached = reached; there = a.0; known = b.0; whole = d.0 }
 
 -- and one that gives no class is the end record
-end_record : (s : List ℕ) (k : ℕ) → Reached s k → first_broken (checks_of s k) ≡ Passed → gives_class (kind_at (rest_of s k)) ≡ false
+end_record : (s : List ℕ) (k : ℕ) → Reached s k → first_broken (checks_of s k) ≡ Ok tt → gives_class (kind_at (rest_of s k)) ≡ false
     → EndRecord s k
 end_record s k reached e g =
     let w = whole_record s k reached e in
     record { record' = w; end = g; rule = no_rule_here s k w.there w.known w.whole e }
 
-module _ (s : List ℕ) (k : ℕ) {n p : ℕ} where
+module _ (s : List ℕ) (k : ℕ) {n : Refusal} {p : ℕ} where
   -- after the end record
-  from_closing : EndRecord s k → first_broken (closing_checks (tree_of s k)) ≡ Refused n p → Row s n p
+  from_closing : EndRecord s k → first_broken (closing_checks (tree_of s k)) ≡ Err (refusal_at n p) → Row s n p
   from_closing r e =
       ⊎_elim (λ h. same_row s h.1 (row9 k r h.0)) (λ h. classes h.0 (classes_which (closing_of t) t.count h.1))
-      (broken_or_later (check 9 (no_class t) 0) _ e)
+      (broken_or_later (check NoClass (no_class t) 0) _ e)
     where
       t : Tree
       t = tree_of s k
 
       classes : no_class t ≡ false
-          → (c : ℕ) × (1 ≤ c) × (c ≤ t.count) × ((j : ℕ) → 1 ≤ j → j < c → first_broken (closing_of t j) ≡ Passed)
-          × (first_broken (closing_of t c) ≡ Refused n p)
+          → (c : ℕ) × (1 ≤ c) × (c ≤ t.count) × ((j : ℕ) → 1 ≤ j → j < c → first_broken (closing_of t j) ≡ Ok tt)
+          × (first_broken (closing_of t c) ≡ Err (refusal_at n p))
           → Row s n p
       classes a w =
           let c = w.0 in
@@ -193,11 +194,11 @@ module _ (s : List ℕ) (k : ℕ) {n p : ℕ} where
           ⊎_elim (λ h. same_row s h.1 (row8 k c r a is below h.0))
           (λ h.
           ⊎_elim (λ g. same_row s g.1 (row7 k c r a is below h.0 g.0)) (λ g. absurd (not_both none_broken g.1))
-          (broken_or_later (check 7 (too_heavy t c) c) [] h.1))
-          (broken_or_later (check 8 (childless t c) c) _ w.4)
+          (broken_or_later (check TooHeavy (too_heavy t c) c) [] h.1))
+          (broken_or_later (check Childless (childless t c) c) _ w.4)
 
   -- the class of a class record
-  from_class : ClassRecord s k → passes s k ≡ false → first_broken (checks_of s k) ≡ Refused n p → Row s n p
+  from_class : ClassRecord s k → passes s k ≡ false → first_broken (checks_of s k) ≡ Err (refusal_at n p) → Row s n p
   from_class r off e =
       ⊎_elim (λ h. same_row s h.1 (row3 k r h.0))
       (λ h3.
@@ -209,10 +210,10 @@ module _ (s : List ℕ) (k : ℕ) {n p : ℕ} where
       (λ h.
       same_row s h.1 (row6 k r h3.0 (last bad_parent false h4.0) (last bad_weight false h5.0) (last bad_longest true h.0)))
       (λ h6. absurd (not_both none_broken h6.1))
-      (broken_or_later (check 6 (bad_longest t t.count) (after s k)) [] h5.1))
-      (broken_or_later (check 5 (bad_weight t t.count) (after s k)) _ h4.1))
-      (broken_or_later (check 4 (bad_parent t t.count) (after s k)) _ h3.1))
-      (broken_or_later (check 3 (too_many t) (after s k)) _ (sym (class_checks_lem s k r) ∙ e))
+      (broken_or_later (check BadLongest (bad_longest t t.count) (after s k)) [] h5.1))
+      (broken_or_later (check BadWeight (bad_weight t t.count) (after s k)) _ h4.1))
+      (broken_or_later (check BadParent (bad_parent t t.count) (after s k)) _ h3.1))
+      (broken_or_later (check TooMany (too_many t) (after s k)) _ (sym (class_checks_lem s k r) ∙ e))
     where
       t : Tree
       t = tree_of s (suc k)
@@ -221,25 +222,25 @@ module _ (s : List ℕ) (k : ℕ) {n p : ℕ} where
       last f b h = ap (f t) (sym (tree_count s (suc k))) ∙ h
 
   -- a whole record
-  from_whole : WholeRecord s k → passes s k ≡ false → first_broken (checks_of s k) ≡ Refused n p → Row s n p
+  from_whole : WholeRecord s k → passes s k ≡ false → first_broken (checks_of s k) ≡ Err (refusal_at n p) → Row s n p
   from_whole w off e =
       ⊎_elim (λ h. same_row s h.1 (row18 k w h.0))
       (λ h18.
       ⊎_elim (λ h. same_row s h.1 (row17 k w h18.0 h.0))
       (λ h17. left (gives_class (kind_at (rest_of s k))) refl h17.1)
-      (broken_or_later (check 17 (bad_rule (rest_of s k)) (after s k)) _ h18.1))
-      (broken_or_later (check 18 (late_rule (rest_of s k) (after s k)) (after s k)) _ (sym (whole_checks_lem s k w) ∙ e))
+      (broken_or_later (check BadRule (bad_rule (rest_of s k)) (after s k)) _ h18.1))
+      (broken_or_later (check LateRule (late_rule (rest_of s k) (after s k)) (after s k)) _ (sym (whole_checks_lem s k w) ∙ e))
     where
       t : Tree
       t = added (tree_of s k) (class_at (rest_of s k))
 
       left : (b : Bool) → gives_class (kind_at (rest_of s k)) ≡ b
-          → first_broken (cond (gives_class (kind_at (rest_of s k))) (new_class_checks t (after s k)) []) ≡ Refused n p → Row s n p
+          → first_broken (cond (gives_class (kind_at (rest_of s k))) (new_class_checks t (after s k)) []) ≡ Err (refusal_at n p) → Row s n p
       left true g h = from_class (record { record' = w; class = g }) off e
       left false g h = absurd (not_both none_broken (rw g at h))
 
   -- its head
-  from_head : Reached s k → passes s k ≡ false → first_broken (checks_of s k) ≡ Refused n p → Row s n p
+  from_head : Reached s k → passes s k ≡ false → first_broken (checks_of s k) ≡ Err (refusal_at n p) → Row s n p
   unfolding record_checks
   from_head reached off e =
       ⊎_elim (λ h. same_row s h.1 (row1_before k reached h.0))
@@ -248,26 +249,26 @@ module _ (s : List ℕ) (k : ℕ) {n p : ℕ} where
       (λ h2.
       ⊎_elim (λ h. same_row s h.1 (row1_inside k reached h1.0 h2.0 h.0))
       (λ h3. from_whole (record { reached = reached; there = h1.0; known = h2.0; whole = h3.0 }) off e)
-      (broken_or_later (check 1 (cut (rest_of s k)) (after s k)) _ h2.1))
-      (broken_or_later (check 2 (unknown Plan (rest_of s k)) (after s k)) _ h1.1))
-      (broken_or_later (check 1 (missing (rest_of s k)) (length s)) _ e)
+      (broken_or_later (check Cut (cut (rest_of s k)) (after s k)) _ h2.1))
+      (broken_or_later (check UnknownKind (unknown Plan (rest_of s k)) (after s k)) _ h1.1))
+      (broken_or_later (check Cut (missing (rest_of s k)) (length s)) _ e)
 
   -- the record that decides
-  from_record : Reached s k → passes s k ≡ false → first_broken (deciding_checks s k) ≡ Refused n p → Row s n p
+  from_record : Reached s k → passes s k ≡ false → first_broken (deciding_checks s k) ≡ Err (refusal_at n p) → Row s n p
   unfolding deciding_checks
   from_record reached off e = go (refused_or_passed (first_broken (checks_of s k)))
     where
-      ended : first_broken (checks_of s k) ≡ Passed → (b : Bool) → gives_class (kind_at (rest_of s k)) ≡ b → Row s n p
+      ended : first_broken (checks_of s k) ≡ Ok tt → (b : Bool) → gives_class (kind_at (rest_of s k)) ≡ b → Row s n p
       ended h true g = absurd (not_true_and_false (pass_yes s k g h) off)
       ended h false g =
           from_closing (end_record s k reached h g)
           (sym (after_passed (checks_of s k) (closing_checks (tree_of s k)) h) ∙ e)
 
-      go : (first_broken (checks_of s k) ≡ Passed) ⊎ ((m : ℕ) × (q : ℕ) × (first_broken (checks_of s k) ≡ Refused m q)) → Row s n p
+      go : (first_broken (checks_of s k) ≡ Ok tt) ⊎ ((m : Refusal) × (q : ℕ) × (first_broken (checks_of s k) ≡ Err (refusal_at m q))) → Row s n p
       go (inl h) = ended h (gives_class (kind_at (rest_of s k))) refl
       go (inr h) = from_head reached off (h.2 ∙ sym (refused_before (checks_of s k) (closing_checks (tree_of s k)) h.2) ∙ e)
 
-pub gives_row : (s : List ℕ) {n p : ℕ} → (plan_of s).verdict ≡ Refused n p → Row s n p
+pub gives_row : (s : List ℕ) {n : Refusal} {p : ℕ} → (plan_of s).verdict ≡ Err (refusal_at n p) → Row s n p
 unfolding plan_of
 gives_row s e =
     let d = deciding s in
@@ -275,7 +276,7 @@ gives_row s e =
     (sym (outcome_verdict (first_broken (deciding_checks s (passed_over s))) (tree_of s (passed_over s)) (after s (passed_over s) + 1)) ∙ e)
 
 -- number n at place p exactly when its row says so (R63)
-pub number_exactly : (s : List ℕ) (n p : ℕ) → ((plan_of s).verdict ≡ Refused n p) ↔ Row s n p
+pub number_exactly : (s : List ℕ) (n : Refusal) (p : ℕ) → ((plan_of s).verdict ≡ Err (refusal_at n p)) ↔ Row s n p
 number_exactly s n p = (gives_row s, row_gives s n p)
 
 -- ---- an accepted plan
@@ -331,7 +332,7 @@ tree_follows s zero = refl
 tree_follows s (suc k) = tree_follows s k
 
 -- the tree of records that pass, with an end record after which the closing checks pass, obeys the plan rules
-pub tree_rules : (s : List ℕ) (k : ℕ) → Reached s k → first_broken (closing_checks (tree_of s k)) ≡ Passed → PlanRules (tree_of s k)
+pub tree_rules : (s : List ℕ) (k : ℕ) → Reached s k → first_broken (closing_checks (tree_of s k)) ≡ Ok tt → PlanRules (tree_of s k)
 unfolding too_many
 tree_rules s k r e = record {
   few = le-ltb 63 (tree_of s k).count (omega (arith, tree_count s k, r.most));
@@ -342,16 +343,16 @@ tree_rules s k r e = record {
 
 -- an accepted plan: k classes, each record broke no rule, the end record followed, and the tree obeys the plan rules
 pub record Accepted (s : List ℕ) (k : ℕ) : Type 0 where
-  pub answer : plan_of s ≡ record { verdict = Passed; used = after s k + 1; tree = tree_of s k }
+  pub answer : plan_of s ≡ record { verdict = Ok tt; used = after s k + 1; tree = tree_of s k }
   pub ended : EndRecord s k
   pub rules : PlanRules (tree_of s k)
 
-pub accepted : (s : List ℕ) → (plan_of s).verdict ≡ Passed → Accepted s (passed_over s)
+pub accepted : (s : List ℕ) → (plan_of s).verdict ≡ Ok tt → Accepted s (passed_over s)
 unfolding plan_of deciding_checks
 accepted s e =
     let k = passed_over s in
     let d = deciding s in
-    let all : first_broken (deciding_checks s k) ≡ Passed =
+    let all : first_broken (deciding_checks s k) ≡ (Ok tt) =
     sym (outcome_verdict (first_broken (deciding_checks s k)) (tree_of s k) (after s k + 1)) ∙ e
     in
     let parts = passed_both (checks_of s k) (closing_checks (tree_of s k)) all in
@@ -363,14 +364,14 @@ accepted s e =
   where
     no_class_lem : (b : Bool)
         → gives_class (kind_at (rest_of s (passed_over s))) ≡ b
-        → first_broken (checks_of s (passed_over s)) ≡ Passed
+        → first_broken (checks_of s (passed_over s)) ≡ Ok tt
         → passes s (passed_over s) ≡ false
         → gives_class (kind_at (rest_of s (passed_over s))) ≡ false
     no_class_lem true g h off = absurd (not_true_and_false (pass_yes s (passed_over s) g h) off)
     no_class_lem false g h off = g
 
 -- an accepted plan's tree obeys the plan rules
-pub plan_rules : (s : List ℕ) (r : PlanRead) → r ≡ plan_of s → r.verdict ≡ Passed → PlanRules r.tree
+pub plan_rules : (s : List ℕ) (r : PlanRead) → r ≡ plan_of s → r.verdict ≡ Ok tt → PlanRules r.tree
 plan_rules s r e passed =
     let a = accepted s (sym (ap (λ (x : PlanRead). x.verdict) e) ∙ passed) in
     subst (λ (x : PlanRead). PlanRules x.tree) (sym (e ∙ a.answer)) a.rules

@@ -11,9 +11,10 @@ use lib.ListN.{length, take, drop, length-drop}
 use lib.Seq.{take_all}
 use borrow.Author.Count.{below_more}
 use borrow.Author.Tests.{eq-eqb, ne_eqb, eqb-true, ltb-false}
-use Rattle.checks.specs.declared.Verdict.{Verdict}
-use Rattle.checks.specs.declared.Verdict.TheVariants.{Passed, Refused}
-use Rattle.checks.specs.Check.{check, first_broken, passed}
+use Rattle.checks.specs.declared.Refusal.TheVariants.{Cut, UnknownKind, TooMany, BadRule, LateRule}
+use Rattle.checks.specs.declared.Refusal.{Refusal}
+use Rattle.std.specs.Prelude.{Some, None, Ok, Err}
+use Rattle.checks.specs.Check.{check, first_broken, passed, Verdict, refusal_at}
 use Rattle.checks.proofs.Laws.{not_true_and_false, decides, pass_over, passed_parts, after_passed, refused_before, none_broken}
 use Rattle.tree.specs.declared.Tree.{Tree}
 use Rattle.tree.specs.Class.{no_tree, ruled, added}
@@ -21,8 +22,6 @@ use Rattle.tree.specs.Rules.{too_many, class_checks, closing_checks, ClassesPass
 use Rattle.tree.proofs.Classes.{both_true, class_passed}
 use Rattle.tree.proofs.Rules.{weight_range}
 use Rattle.tree.proofs.Growth.{Grown, Proper, none_grown, added_grown, classes_kept, none_pass}
-use Rattle.plan.specs.declared.reader.Following.{Following}
-use Rattle.plan.specs.declared.reader.Following.TheVariants.{Stop, Ended, Onward}
 use Rattle.plan.specs.declared.kind.Section.TheVariants.{Plan}
 use Rattle.plan.specs.Kind.{gives_class, gives_leaf, gives_rule}
 use Rattle.plan.specs.Record.{kind_at, missing, unknown, cut, body_of, rule_of, late_rule, bad_rule, inner_class, leaf_class, class_at}
@@ -40,7 +39,7 @@ use Rattle.plan.specs.Reader.{
 }
 use Rattle.plan.specs.Reader.{passes, in_row, passed_over, deciding_checks}
 use Rattle.plan.specs.Reader.{outcome, plan_of, records_of, closed}
-use Rattle.plan.specs.Steps.{ClassSays, PlainSays, RuleStops, WholeSays, StepSays}
+use Rattle.plan.specs.Steps.{Following, ClassSays, PlainSays, RuleStops, WholeSays, StepSays}
 use Rattle.plan.proofs.Records.{class_no_rule, and_no, no_rule_late, no_rule_bad, late_yes, late_first, whole_length}
 
 -- ---- one record
@@ -51,19 +50,19 @@ rest_part s place = take_all (length s - place) (drop place s) (omega (arith, le
 
 -- the checks of a whole record, by what it gives
 module _ (rest : List ℕ) (place : ℕ) (t : Tree) where
-  pub whole_late : late_rule rest place ≡ true → first_broken (whole_checks rest place t) ≡ Refused 18 place
-  whole_late e = decides (check 18 (late_rule rest place) place) _ e
+  pub whole_late : late_rule rest place ≡ true → first_broken (whole_checks rest place t) ≡ Err (refusal_at LateRule place)
+  whole_late e = decides (check LateRule (late_rule rest place) place) _ e
 
-  pub whole_bad : late_rule rest place ≡ false → bad_rule rest ≡ true → first_broken (whole_checks rest place t) ≡ Refused 17 place
-  whole_bad e f = pass_over (check 18 (late_rule rest place) place) _ e ∙ decides (check 17 (bad_rule rest) place) _ f
+  pub whole_bad : late_rule rest place ≡ false → bad_rule rest ≡ true → first_broken (whole_checks rest place t) ≡ Err (refusal_at BadRule place)
+  whole_bad e f = pass_over (check LateRule (late_rule rest place) place) _ e ∙ decides (check BadRule (bad_rule rest) place) _ f
 
   -- neither 18 nor 17: what is left are the checks of its class
   whole_left : gives_rule (kind_at rest) ≡ false
       → first_broken (whole_checks rest place t)
       ≡ first_broken (cond (gives_class (kind_at rest)) (new_class_checks (added t (class_at rest)) place) [])
   whole_left e =
-      pass_over (check 18 (late_rule rest place) place) _ (no_rule_late rest place e)
-      ∙ pass_over (check 17 (bad_rule rest) place) _ (no_rule_bad rest e)
+      pass_over (check LateRule (late_rule rest place) place) _ (no_rule_late rest place e)
+      ∙ pass_over (check BadRule (bad_rule rest) place) _ (no_rule_bad rest e)
 
   pub whole_class : gives_class (kind_at rest) ≡ true
       → first_broken (whole_checks rest place t) ≡ first_broken (new_class_checks (added t (class_at rest)) place)
@@ -71,38 +70,38 @@ module _ (rest : List ℕ) (place : ℕ) (t : Tree) where
       whole_left (class_no_rule (kind_at rest) e)
       ∙ ap (λ (b : Bool). first_broken (cond b (new_class_checks (added t (class_at rest)) place) [])) e
 
-  whole_end : gives_class (kind_at rest) ≡ false → gives_rule (kind_at rest) ≡ false → first_broken (whole_checks rest place t) ≡ Passed
+  whole_end : gives_class (kind_at rest) ≡ false → gives_rule (kind_at rest) ≡ false → first_broken (whole_checks rest place t) ≡ Ok tt
   whole_end e f =
       whole_left f ∙ ap (λ (b : Bool). first_broken (cond b (new_class_checks (added t (class_at rest)) place) [])) e ∙ none_broken
 
 -- the checks of a record, by the numbers of its head
 module _ (s : List ℕ) (place : ℕ) (t : Tree) where
-  pub record_missing : missing (drop place s) ≡ true → first_broken (record_checks s place t) ≡ Refused 1 (length s)
+  pub record_missing : missing (drop place s) ≡ true → first_broken (record_checks s place t) ≡ Err (refusal_at Cut (length s))
   unfolding record_checks
-  record_missing e = decides (check 1 (missing (drop place s)) (length s)) _ e
+  record_missing e = decides (check Cut (missing (drop place s)) (length s)) _ e
 
   pub record_unknown : missing (drop place s) ≡ false → unknown Plan (drop place s) ≡ true
-      → first_broken (record_checks s place t) ≡ Refused 2 place
+      → first_broken (record_checks s place t) ≡ Err (refusal_at UnknownKind place)
   unfolding record_checks
   record_unknown e f =
-      pass_over (check 1 (missing (drop place s)) (length s)) _ e ∙ decides (check 2 (unknown Plan (drop place s)) place) _ f
+      pass_over (check Cut (missing (drop place s)) (length s)) _ e ∙ decides (check UnknownKind (unknown Plan (drop place s)) place) _ f
 
   pub record_cut : missing (drop place s) ≡ false → unknown Plan (drop place s) ≡ false → cut (drop place s) ≡ true
-      → first_broken (record_checks s place t) ≡ Refused 1 place
+      → first_broken (record_checks s place t) ≡ Err (refusal_at Cut place)
   unfolding record_checks
   record_cut e f g =
-      pass_over (check 1 (missing (drop place s)) (length s)) _ e
-      ∙ pass_over (check 2 (unknown Plan (drop place s)) place) _ f
-      ∙ decides (check 1 (cut (drop place s)) place) _ g
+      pass_over (check Cut (missing (drop place s)) (length s)) _ e
+      ∙ pass_over (check UnknownKind (unknown Plan (drop place s)) place) _ f
+      ∙ decides (check Cut (cut (drop place s)) place) _ g
 
   -- a whole record: what is left are the checks of what it gives
   pub record_whole : missing (drop place s) ≡ false → unknown Plan (drop place s) ≡ false → cut (drop place s) ≡ false
       → first_broken (record_checks s place t) ≡ first_broken (whole_checks (drop place s) place t)
   unfolding record_checks
   record_whole e f g =
-      pass_over (check 1 (missing (drop place s)) (length s)) _ e
-      ∙ pass_over (check 2 (unknown Plan (drop place s)) place) _ f
-      ∙ pass_over (check 1 (cut (drop place s)) place) _ g
+      pass_over (check Cut (missing (drop place s)) (length s)) _ e
+      ∙ pass_over (check UnknownKind (unknown Plan (drop place s)) place) _ f
+      ∙ pass_over (check Cut (cut (drop place s)) place) _ g
 
   pub record_class_lem : missing (drop place s) ≡ false → unknown Plan (drop place s) ≡ false → cut (drop place s) ≡ false
       → gives_class (kind_at (drop place s)) ≡ true
@@ -111,48 +110,48 @@ module _ (s : List ℕ) (place : ℕ) (t : Tree) where
 
   pub record_end : missing (drop place s) ≡ false → unknown Plan (drop place s) ≡ false → cut (drop place s) ≡ false
       → gives_class (kind_at (drop place s)) ≡ false → gives_rule (kind_at (drop place s)) ≡ false
-      → first_broken (record_checks s place t) ≡ Passed
+      → first_broken (record_checks s place t) ≡ Ok tt
   record_end e f g h i = record_whole e f g ∙ whole_end (drop place s) place t h i
 
 -- what a class that was put to the tree says of its record
 pub class_to_whole : (rest : List ℕ) (place to : ℕ) (t t' : Tree) (next : Following) → gives_class (kind_at rest) ≡ true
     → to ≡ place + 1 + (kind_at rest).body → to ≤ place + length rest → ClassSays t (class_at rest) place to t' next
     → WholeSays rest place t t' next
-class_to_whole rest place to t t' (Stop n p) g e u h = whole_class rest place t g ∙ h
-class_to_whole rest place to t t' Ended g e u h = absurd h
-class_to_whole rest place to t t' (Onward next) g e u h = (g, h.0, h.1 ∙ e, omega (arith, h.1), h.2)
+class_to_whole rest place to t t' (Err r) g e u h = whole_class rest place t g ∙ h
+class_to_whole rest place to t t' (Ok None) g e u h = absurd h
+class_to_whole rest place to t t' (Ok (Some next)) g e u h = (g, h.0, h.1 ∙ e, omega (arith, h.1), h.2)
 
 -- what a record that gives no class says
 pub plain_to_whole : (rest : List ℕ) (place : ℕ) (t t' : Tree) (next : Following) → gives_class (kind_at rest) ≡ false
     → RuleStops rest place → PlainSays (kind_at rest) place next → WholeSays rest place t t' next
-plain_to_whole rest place t t' (Stop n p) g stops h = go (ℕ_discrete place 0)
+plain_to_whole rest place t t' (Err e) g stops h = go (ℕ_discrete place 0)
   where
-    stop : (m : ℕ) → cond (eqb place 0) 17 18 ≡ m → first_broken (whole_checks rest place t) ≡ Refused m place
-        → first_broken (whole_checks rest place t) ≡ Refused n p
-    stop m e f = rw (h.1, h.2, e) f
+    stop : (m : Refusal) → cond (eqb place 0) BadRule LateRule ≡ m → first_broken (whole_checks rest place t) ≡ Err (refusal_at m place)
+        → first_broken (whole_checks rest place t) ≡ Err e
+    stop m same f = rw (h.1, h.2, same) f
 
-    go : Dec (place ≡ 0) → first_broken (whole_checks rest place t) ≡ Refused n p
+    go : Dec (place ≡ 0) → first_broken (whole_checks rest place t) ≡ Err e
     go (yes z) =
         let l = late_first rest place z in
-        stop 17 (rw (eq-eqb place 0 z)) (whole_bad rest place t l (stops h.0 l))
-    go (no z) = stop 18 (rw (ne_eqb place 0 z)) (whole_late rest place t (late_yes rest place h.0 z))
-plain_to_whole rest place t t' Ended g stops h = (g, h)
-plain_to_whole rest place t t' (Onward next) g stops h = absurd h
+        stop BadRule (rw (eq-eqb place 0 z)) (whole_bad rest place t l (stops h.0 l))
+    go (no z) = stop LateRule (rw (ne_eqb place 0 z)) (whole_late rest place t (late_yes rest place h.0 z))
+plain_to_whole rest place t t' (Ok None) g stops h = (g, h)
+plain_to_whole rest place t t' (Ok (Some next)) g stops h = absurd h
 
 -- and what a whole record says of the input
 pub whole_to_step : (s : List ℕ) (place : ℕ) (t t' : Tree) (next : Following) → place ≤ length s
     → missing (drop place s) ≡ false → unknown Plan (drop place s) ≡ false → cut (drop place s) ≡ false → 1 ≤ length (drop place s)
     → WholeSays (drop place s) place t t' next → StepSays s place t t' next
-whole_to_step s place t t' (Stop n p) u e f g l h = record_whole s place t e f g ∙ h
-whole_to_step s place t t' Ended u e f g l h = (record_end s place t e f g h.0 h.1, h.0, omega (arith, length-drop place s))
-whole_to_step s place t t' (Onward next) u e f g l h =
+whole_to_step s place t t' (Err r) u e f g l h = record_whole s place t e f g ∙ h
+whole_to_step s place t t' (Ok None) u e f g l h = (record_end s place t e f g h.0 h.1, h.0, omega (arith, length-drop place s))
+whole_to_step s place t t' (Ok (Some next)) u e f g l h =
     (record_class_lem s place t e f g h.0 ∙ h.1, h.0, h.2, omega (arith, h.3, length-drop place s), h.4)
 
 -- ---- the rule record
 
-is_passed : (v : Verdict) → passed v ≡ true → v ≡ Passed
-is_passed Passed e = refl
-is_passed (Refused n p) e = absurd (not_true_and_false e refl)
+is_passed : (v : Verdict) → passed v ≡ true → v ≡ Ok tt
+is_passed (Ok _) e = refl
+is_passed (Err _) e = absurd (not_true_and_false e refl)
 
 -- a first record that gives a rule and breaks none
 pub record RuleRecord (s : List ℕ) : Type 0 where
@@ -166,21 +165,21 @@ pub first_parts : (s : List ℕ) → rule_first s ≡ true → RuleRecord s
 unfolding rule_first
 first_parts s e =
     let h = both_true (gives_rule (kind_at s)) (passed (first_broken (head_checks s 0 ++ rule_checks s 0))) e in
-    let a = passed_parts (check 1 (missing s) (length s)) _ (is_passed (first_broken (head_checks s 0 ++ rule_checks s 0)) h.1) in
-    let b = passed_parts (check 2 (unknown Plan s) 0) _ a.1 in
-    let d = passed_parts (check 1 (cut s) 0) _ b.1 in
-    let f = passed_parts (check 18 (late_rule s 0) 0) _ d.1 in
-    record { gives = h.0; there = a.0; known = b.0; whole = d.0; right = (passed_parts (check 17 (bad_rule s) 0) _ f.1).0 }
+    let a = passed_parts (check Cut (missing s) (length s)) _ (is_passed (first_broken (head_checks s 0 ++ rule_checks s 0)) h.1) in
+    let b = passed_parts (check UnknownKind (unknown Plan s) 0) _ a.1 in
+    let d = passed_parts (check Cut (cut s) 0) _ b.1 in
+    let f = passed_parts (check LateRule (late_rule s 0) 0) _ d.1 in
+    record { gives = h.0; there = a.0; known = b.0; whole = d.0; right = (passed_parts (check BadRule (bad_rule s) 0) _ f.1).0 }
 
 pub first_yes : (s : List ℕ) → RuleRecord s → rule_first s ≡ true
 unfolding rule_first
 first_yes s r =
-    let passes : first_broken (head_checks s 0 ++ rule_checks s 0) ≡ Passed =
-    pass_over (check 1 (missing s) (length s)) _ r.there
-    ∙ pass_over (check 2 (unknown Plan s) 0) _ r.known
-    ∙ pass_over (check 1 (cut s) 0) _ r.whole
-    ∙ pass_over (check 18 (late_rule s 0) 0) _ (late_first s 0 refl)
-    ∙ pass_over (check 17 (bad_rule s) 0) _ r.right
+    let passes : first_broken (head_checks s 0 ++ rule_checks s 0) ≡ (Ok tt) =
+    pass_over (check Cut (missing s) (length s)) _ r.there
+    ∙ pass_over (check UnknownKind (unknown Plan s) 0) _ r.known
+    ∙ pass_over (check Cut (cut s) 0) _ r.whole
+    ∙ pass_over (check LateRule (late_rule s 0) 0) _ (late_first s 0 refl)
+    ∙ pass_over (check BadRule (bad_rule s) 0) _ r.right
     ∙ none_broken
     in
     rw (r.gives, passes)
@@ -233,7 +232,7 @@ opening_rule s end b r e f = let h = first_yes s r in (rw h e, rw h f)
 
 -- so the record after the first k class records is no rule record that passes
 pub no_rule_here : (s : List ℕ) (k : ℕ) → missing (drop (after s k) s) ≡ false → unknown Plan (drop (after s k) s) ≡ false
-    → cut (drop (after s k) s) ≡ false → first_broken (checks_of s k) ≡ Passed → gives_rule (kind_at (drop (after s k) s)) ≡ false
+    → cut (drop (after s k) s) ≡ false → first_broken (checks_of s k) ≡ Ok tt → gives_rule (kind_at (drop (after s k) s)) ≡ false
 no_rule_here s k e f g passed = go (gives_rule (kind_at rest)) refl
   where
     rest : List ℕ
@@ -242,8 +241,8 @@ no_rule_here s k e f g passed = go (gives_rule (kind_at rest)) refl
     go : (b : Bool) → gives_rule (kind_at rest) ≡ b → b ≡ false
     go true r =
         let w = sym (record_whole s (after s k) (tree_of s k) e f g) ∙ passed in
-        let a = passed_parts (check 18 (late_rule rest (after s k)) (after s k)) _ w in
-        let b = passed_parts (check 17 (bad_rule rest) (after s k)) _ a.1 in
+        let a = passed_parts (check LateRule (late_rule rest (after s k)) (after s k)) _ w in
+        let b = passed_parts (check BadRule (bad_rule rest) (after s k)) _ a.1 in
         absurd (not_true_and_false (rule_stops s (after s k) (start_no_rule s k) e f g r a.0) b.0)
     go false r = refl
 
@@ -262,13 +261,13 @@ unfolding tree_of
 tree_count s zero = refl
 tree_count s (suc k) = omega (arith, tree_count s k)
 
-pub pass_yes : (s : List ℕ) (k : ℕ) → gives_class (kind_at (drop (after s k) s)) ≡ true → first_broken (checks_of s k) ≡ Passed
+pub pass_yes : (s : List ℕ) (k : ℕ) → gives_class (kind_at (drop (after s k) s)) ≡ true → first_broken (checks_of s k) ≡ Ok tt
     → passes s k ≡ true
 unfolding passes
 pass_yes s k g e = rw (g, e)
 
 pub pass_parts : (s : List ℕ) (k : ℕ) → passes s k ≡ true → (gives_class (kind_at (drop (after s k) s)) ≡ true)
-    × (first_broken (checks_of s k) ≡ Passed)
+    × (first_broken (checks_of s k) ≡ Ok tt)
 unfolding passes
 pass_parts s k e =
     let h = both_true (gives_class (kind_at (drop (after s k) s))) (passed (first_broken (checks_of s k))) e in
@@ -278,7 +277,7 @@ pub pass_no_class : (s : List ℕ) (k : ℕ) → gives_class (kind_at (drop (aft
 unfolding passes
 pass_no_class s k g = rw g
 
-pub pass_refused : (s : List ℕ) (k : ℕ) {n p : ℕ} → first_broken (checks_of s k) ≡ Refused n p → passes s k ≡ false
+pub pass_refused : (s : List ℕ) (k : ℕ) {n : Refusal} {p : ℕ} → first_broken (checks_of s k) ≡ Err (refusal_at n p) → passes s k ≡ false
 unfolding passes
 pass_refused s k e = rw e (and_no (gives_class (kind_at (drop (after s k) s))))
 
@@ -288,20 +287,20 @@ pub record Taken (s : List ℕ) (k : ℕ) (t : Tree) : Type 0 where
   pub known : unknown Plan (drop (after s k) s) ≡ false
   pub whole : cut (drop (after s k) s) ≡ false
   pub few : too_many t ≡ false
-  pub rows : first_broken (class_checks t t.count (after s k)) ≡ Passed
+  pub rows : first_broken (class_checks t t.count (after s k)) ≡ Ok tt
 
 pub taken : (s : List ℕ) (k : ℕ) → passes s k ≡ true → Taken s k (added (tree_of s k) (class_at (drop (after s k) s)))
 unfolding record_checks
 taken s k e =
     let h = pass_parts s k e in
-    let a = passed_parts (check 1 (missing (drop (after s k) s)) (length s)) _ h.1 in
-    let b = passed_parts (check 2 (unknown Plan (drop (after s k) s)) (after s k)) _ a.1 in
-    let d = passed_parts (check 1 (cut (drop (after s k) s)) (after s k)) _ b.1 in
+    let a = passed_parts (check Cut (missing (drop (after s k) s)) (length s)) _ h.1 in
+    let b = passed_parts (check UnknownKind (unknown Plan (drop (after s k) s)) (after s k)) _ a.1 in
+    let d = passed_parts (check Cut (cut (drop (after s k) s)) (after s k)) _ b.1 in
     let t = added (tree_of s k) (class_at (drop (after s k) s)) in
-    let f : first_broken (new_class_checks t (after s k)) ≡ Passed =
+    let f : first_broken (new_class_checks t (after s k)) ≡ (Ok tt) =
     sym (record_class_lem s (after s k) (tree_of s k) a.0 b.0 d.0 h.0) ∙ h.1
     in
-    let g = passed_parts (check 3 (too_many t) (after s k)) _ f in
+    let g = passed_parts (check TooMany (too_many t) (after s k)) _ f in
     record { there = a.0; known = b.0; whole = d.0; few = g.0; rows = g.1 }
 
 -- so a 64th class record does not pass
@@ -421,9 +420,9 @@ plan_halves s = go (first_broken (checks_of s k)) refl
         → first_broken (checks_of s k) ≡ v
         → outcome (first_broken (checks_of s k ++ closing_checks (tree_of s k))) (tree_of s k) (after s k + 1)
         ≡ closed (outcome (first_broken (checks_of s k)) (tree_of s k) (after s k + 1))
-    go Passed e =
+    go (Ok _) e =
         rw e (ap (λ (v : Verdict). outcome v (tree_of s k) (after s k + 1)) (after_passed (checks_of s k) (closing_checks (tree_of s k)) e))
-    go (Refused n p) e =
+    go (Err _) e =
         rw e (ap (λ (v : Verdict). outcome v (tree_of s k) (after s k + 1)) (refused_before (checks_of s k) (closing_checks (tree_of s k)) e))
 
 module _ (s : List ℕ) (k : ℕ) (most : k ≤ 63) (below : (j : ℕ) → j < k → passes s j ≡ true) where
@@ -432,21 +431,21 @@ module _ (s : List ℕ) (k : ℕ) (most : k ≤ 63) (below : (j : ℕ) → j < k
   unfolding records_of
   records_decided e = rw (passed_over_lem s k most below e)
 
-  pub records_refused : {n p : ℕ} → first_broken (checks_of s k) ≡ Refused n p → records_of s ≡ outcome (Refused n p) no_tree 0
+  pub records_refused : {n : Refusal} {p : ℕ} → first_broken (checks_of s k) ≡ Err (refusal_at n p) → records_of s ≡ outcome (Err (refusal_at n p)) no_tree 0
   records_refused e =
       records_decided (pass_refused s k e) ∙ ap (λ (v : Verdict). outcome v (tree_of s k) (after s k + 1)) e
 
-  pub records_ended : first_broken (checks_of s k) ≡ Passed → gives_class (kind_at (drop (after s k) s)) ≡ false
-      → records_of s ≡ outcome Passed (tree_of s k) (after s k + 1)
+  pub records_ended : first_broken (checks_of s k) ≡ Ok tt → gives_class (kind_at (drop (after s k) s)) ≡ false
+      → records_of s ≡ outcome (Ok tt) (tree_of s k) (after s k + 1)
   records_ended e g =
       records_decided (pass_no_class s k g) ∙ ap (λ (v : Verdict). outcome v (tree_of s k) (after s k + 1)) e
 
   -- the whole plan: refused by a check of the record
-  pub plan_refused : {n p : ℕ} → first_broken (checks_of s k) ≡ Refused n p → plan_of s ≡ outcome (Refused n p) no_tree 0
+  pub plan_refused : {n : Refusal} {p : ℕ} → first_broken (checks_of s k) ≡ Err (refusal_at n p) → plan_of s ≡ outcome (Err (refusal_at n p)) no_tree 0
   plan_refused e = plan_halves s ∙ ap closed (records_refused e)
 
   -- or after the end record, what the closing checks say
-  pub plan_ended : first_broken (checks_of s k) ≡ Passed → gives_class (kind_at (drop (after s k) s)) ≡ false
+  pub plan_ended : first_broken (checks_of s k) ≡ Ok tt → gives_class (kind_at (drop (after s k) s)) ≡ false
       → plan_of s ≡ outcome (first_broken (closing_checks (tree_of s k))) (tree_of s k) (after s k + 1)
   plan_ended e g = plan_halves s ∙ ap closed (records_ended e g)
 
@@ -459,8 +458,8 @@ records_light s = go (first_broken (checks_of s k))
     k = in_row (passes s) 63
 
     go : (v : Verdict) → Light (outcome v (tree_of s k) (after s k + 1)).tree
-    go Passed = tree_light s k (row_of (passes s) 63).most (row_of (passes s) 63).below
-    go (Refused n p) = none_light
+    go (Ok _) = tree_light s k (row_of (passes s) 63).most (row_of (passes s) 63).below
+    go (Err _) = none_light
 
 -- ---- the reader's state: some class records read, all of which pass
 
@@ -484,18 +483,18 @@ module _ (s : List ℕ) (t : Tree) (place : ℕ) (r : ReadTo s t place) where
   same_rest : drop place s ≡ drop (after s t.count) s
   same_rest = ap (λ (p : ℕ). drop p s) r.at
 
-  pub read_stop : {n p : ℕ} → first_broken (record_checks s place t) ≡ Refused n p → records_of s ≡ outcome (Refused n p) no_tree 0
+  pub read_stop : {n : Refusal} {p : ℕ} → first_broken (record_checks s place t) ≡ Err (refusal_at n p) → records_of s ≡ outcome (Err (refusal_at n p)) no_tree 0
   read_stop e = records_refused s t.count r.most r.below (ap first_broken (sym same_checks) ∙ e)
 
-  pub read_end : first_broken (record_checks s place t) ≡ Passed → gives_class (kind_at (drop place s)) ≡ false
-      → records_of s ≡ outcome Passed t (place + 1)
+  pub read_end : first_broken (record_checks s place t) ≡ Ok tt → gives_class (kind_at (drop place s)) ≡ false
+      → records_of s ≡ outcome (Ok tt) t (place + 1)
   read_end e g =
       records_ended s t.count r.most r.below (ap first_broken (sym same_checks) ∙ e)
       (ap (λ (x : List ℕ). gives_class (kind_at x)) (sym same_rest) ∙ g)
-      ∙ ap (λ (x : Tree). outcome Passed x (after s t.count + 1)) (sym r.tree)
-      ∙ ap (λ (p : ℕ). outcome Passed t (p + 1)) (sym r.at)
+      ∙ ap (λ (x : Tree). outcome (Ok tt) x (after s t.count + 1)) (sym r.tree)
+      ∙ ap (λ (p : ℕ). outcome (Ok tt) t (p + 1)) (sym r.at)
 
-  pub read_onward : {next : ℕ} {t' : Tree} → StepSays s place t t' (Onward next) → (t'.count ≡ t.count + 1) × ReadTo s t' next
+  pub read_onward : {next : ℕ} {t' : Tree} → StepSays s place t t' (Ok (Some next)) → (t'.count ≡ t.count + 1) × ReadTo s t' next
   read_onward {next} {t'} h =
       let here : passes s t.count ≡ true =
       pass_yes s t.count (ap (λ (x : List ℕ). gives_class (kind_at x)) (sym same_rest) ∙ h.1) (ap first_broken (sym same_checks) ∙ h.0)

@@ -1,9 +1,8 @@
 -- What the reader says of any bytes: class records and one end record, at most one rule record before them, checked in a fixed order
 -- (R50 to R62, R221 to R225). Demand 1.
-use Rattle.std.specs.Prelude.{Bool, cond, ◌&&◌, List, [], ◌∷◌, ◌++◌, ℕ, zero, suc, ◌+◌, eqb, length, drop}
-use Rattle.checks.specs.declared.Verdict.{Verdict}
-use Rattle.checks.specs.declared.Verdict.TheVariants.{Passed, Refused}
-use Rattle.checks.specs.Check.{Check, check, first_broken, passed}
+use Rattle.checks.specs.declared.Refusal.TheVariants.{Cut, UnknownKind, TooMany, BadRule, LateRule}
+use Rattle.std.specs.Prelude.{Bool, cond, ◌&&◌, List, [], ◌∷◌, ◌++◌, ℕ, zero, suc, ◌+◌, eqb, length, drop, Ok, Err}
+use Rattle.checks.specs.Check.{Check, check, first_broken, passed, Verdict}
 use Rattle.tree.specs.declared.Tree.{Tree}
 use Rattle.tree.specs.Class.{no_tree, ruled, added}
 use Rattle.tree.specs.Rules.{too_many, class_checks, closing_checks}
@@ -17,15 +16,15 @@ use Rattle.plan.specs.Record.{kind_at, missing, unknown, cut, late_rule, bad_rul
 abbrev pub head_checks : List ℕ → ℕ → List Check
 head_checks input place =
     let rest = drop place input in
-    check 1 (missing rest) (length input) ∷ check 2 (unknown Plan rest) place ∷ check 1 (cut rest) place ∷ []
+    check Cut (missing rest) (length input) ∷ check UnknownKind (unknown Plan rest) place ∷ check Cut (cut rest) place ∷ []
 
 -- then 18 and 17 (R58, R224, R225)
 abbrev pub rule_checks : List ℕ → ℕ → List Check
-rule_checks rest place = check 18 (late_rule rest place) place ∷ check 17 (bad_rule rest) place ∷ []
+rule_checks rest place = check LateRule (late_rule rest place) place ∷ check BadRule (bad_rule rest) place ∷ []
 
 -- t is the tree with the class that the record gives, its last (R56 to R58)
 abbrev pub new_class_checks : Tree → ℕ → List Check
-new_class_checks t place = check 3 (too_many t) place ∷ class_checks t t.count place
+new_class_checks t place = check TooMany (too_many t) place ∷ class_checks t t.count place
 
 -- what a whole record is checked for (R56 to R58)
 abbrev pub whole_checks : List ℕ → ℕ → Tree → List Check
@@ -77,8 +76,8 @@ deciding_checks input k = checks_of input k ++ closing_checks (tree_of input k)
 -- an accepted plan gives its tree and the bytes used; a refused one number, place, 0 bytes used and the tree without classes
 -- (R61, R62, R163)
 abbrev pub outcome : Verdict → Tree → ℕ → PlanRead
-outcome Passed tree used = record { verdict = Passed; used = used; tree = tree }
-outcome (Refused n p) tree used = record { verdict = Refused n p; used = 0; tree = no_tree }
+outcome (Ok _) tree used = record { verdict = Ok tt; used = used; tree = tree }
+outcome (Err e) tree used = record { verdict = Err e; used = 0; tree = no_tree }
 
 -- the whole plan (R50, R61)
 unfoldable pub plan_of : List ℕ → PlanRead
@@ -94,8 +93,8 @@ records_of input =
 
 -- then closing: records that broke no rule go on to 9, 8 and 7
 abbrev pub closed_by : Verdict → PlanRead → PlanRead
-closed_by Passed r = outcome (first_broken (closing_checks r.tree)) r.tree r.used
-closed_by (Refused n p) r = r
+closed_by (Ok _) r = outcome (first_broken (closing_checks r.tree)) r.tree r.used
+closed_by (Err _) r = r
 
 abbrev pub closed : PlanRead → PlanRead
 closed r = closed_by r.verdict r

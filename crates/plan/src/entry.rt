@@ -5,8 +5,16 @@ ghost use Rattle.plan.specs.Record.{kind_at, missing, cut};
 ghost use Rattle.plan.specs.Entry.{claim_in, claim_after, entry_of};
 
 use crate::kind::{RecordKind, Section};
-use crate::record::Head;
-use crate::{Claim, EntryRead, event, kind, record};
+use crate::record::HeadFault;
+use crate::{Arrived, Claim, EntryRead, event, kind, record};
+use checks::{Refusal, Refused};
+
+// An entry: an arrival, or a send with its claim.
+#[derive(Clone, Copy, Debug, PartialEq, Eq)]
+pub enum Entry {
+    Arrives(Arrived),
+    Claims(Claim),
+}
 
 // A whole claim.
 fn whole_claim(next: &[u8], kind: RecordKind) -> Claim
@@ -14,22 +22,21 @@ fn whole_claim(next: &[u8], kind: RecordKind) -> Claim
     ensures { result ≡ claim_in next.now }
 {
     if !kind::gives_sent(kind) {
-        return Claim::Idle;
+        return None;
     }
     let end = kind::record_length(kind);
-    Claim::Sent(event::read_arrival(&next[1..end]))
+    Some(event::read_arrival(&next[1..end]))
 }
 
 // A send, with what stands after it.
 fn claim_after(next: &[u8]) -> EntryRead
     ensures { result ≡ claim_after next.now }
 {
-    let h = record::read_head(next, Section::AfterSend);
-    match h {
-        Head::Missing => EntryRead::Stops(checks::CLAIM, 0),
-        Head::Strange => EntryRead::Stops(checks::CLAIM, 0),
-        Head::Cut => EntryRead::Stops(checks::CUT, 1),
-        Head::Whole(kind) => EntryRead::Claims(whole_claim(next, kind)),
+    match record::read_head(next, Section::AfterSend) {
+        Err(HeadFault::NoKindByte) => Err(Refused(Refusal::Unpaired, 0)),
+        Err(HeadFault::StrangeKind) => Err(Refused(Refusal::Unpaired, 0)),
+        Err(HeadFault::CutBody) => Err(Refused(Refusal::Cut, 1)),
+        Ok(kind) => Ok(Some(Entry::Claims(whole_claim(next, kind)))),
     }
 }
 
@@ -42,5 +49,5 @@ pub(crate) fn whole_entry(rest: &[u8], kind: RecordKind) -> EntryRead
         return claim_after(&rest[1..]);
     }
     let end = kind::record_length(kind);
-    EntryRead::Arrives(event::read_arrival(&rest[1..end]))
+    Ok(Some(Entry::Arrives(event::read_arrival(&rest[1..end]))))
 }

@@ -8,6 +8,14 @@ ghost use Rattle.plan.specs.Steps.{arrived_at};
 use crate::kind::{RecordKind, Section};
 use crate::record::{number_16, number_32};
 use crate::{Arrived, EventRead, kind};
+use checks::{Refusal, Refused};
+
+// An event: an arrival or a send.
+#[derive(Clone, Copy, Debug, PartialEq, Eq)]
+pub enum Event {
+    Arrive(Arrived),
+    SendNext,
+}
 
 // Kind 16, and 18: class 1, length 2, tag 4.
 pub(crate) fn read_arrival(body: &[u8]) -> Arrived
@@ -27,10 +35,10 @@ pub(crate) fn whole_event(rest: &[u8], kind: RecordKind) -> EventRead
     ensures { result ≡ event_of rest.now }
 {
     if !kind::gives_arrival(kind) {
-        return EventRead::SendNext;
+        return Ok(Some(Event::SendNext));
     }
     let end = kind::record_length(kind);
-    EventRead::Arrive(read_arrival(&rest[1..end]))
+    Ok(Some(Event::Arrive(read_arrival(&rest[1..end]))))
 }
 
 // The same of the record that begins after a place's kind byte, read where it lies.
@@ -52,17 +60,17 @@ pub fn event_at(input: &[u8], place: usize) -> EventRead
     ensures result_bound { place + used_of result < 2 ^ 64 }
 {
     if input.len() <= place {
-        return EventRead::NoMore;
+        return Ok(None);
     }
     let kind = kind::record_kind(input[place]);
     if !kind::stands_in(Section::Events, kind) {
-        return EventRead::Fault(checks::UNKNOWN_KIND, place);
+        return Err(Refused(Refusal::UnknownKind, place));
     }
     if input.len() - place < kind::record_length(kind) {
-        return EventRead::Fault(checks::CUT, place);
+        return Err(Refused(Refusal::Cut, place));
     }
     if !kind::gives_arrival(kind) {
-        return EventRead::SendNext;
+        return Ok(Some(Event::SendNext));
     }
-    EventRead::Arrive(arrival_at(input, place + 1))
+    Ok(Some(Event::Arrive(arrival_at(input, place + 1))))
 }

@@ -7,7 +7,7 @@ ghost use Rattle.plan.specs.Kind.{gives_leaf, gives_rule, gives_arrival, gives_c
 
 // What a record gives: the end of the plan, a class, a rule, an arrival, a send, a claim that a packet was sent or that none waited, or
 // nothing where its kind is unknown.
-#[derive(Clone, Copy)]
+#[derive(Clone, Copy, Debug, PartialEq, Eq)]
 pub enum Given {
     End,
     Inner,
@@ -22,7 +22,7 @@ pub enum Given {
 
 // A row of the table of kinds: the length of the body, whether the kind may stand inside a plan, among events and in a recording, what its
 // record gives.
-#[derive(Clone, Copy)]
+#[derive(Clone, Copy, Debug, PartialEq, Eq)]
 pub struct RecordKind {
     pub body: u8,
     pub plan: bool,
@@ -32,7 +32,7 @@ pub struct RecordKind {
 }
 
 // Where a record stands: inside a plan, among events, in a recording, and there directly after a send.
-#[derive(Drop)]
+#[derive(Clone, Copy, Debug, PartialEq, Eq)]
 pub enum Section {
     Plan,
     Events,
@@ -86,109 +86,43 @@ pub(crate) fn stands_in(section: Section, kind: RecordKind) -> bool
 pub(crate) fn gives_class(kind: RecordKind) -> bool
     ensures { result ≡ gives_class kind }
 {
-    let gives = kind.gives;
-    match gives {
-        Given::End => false,
-        Given::Inner => true,
-        Given::Leaf => true,
-        Given::Rule => false,
-        Given::Arrival => false,
-        Given::Send => false,
-        Given::SentClaim => false,
-        Given::IdleClaim => false,
-        Given::Nothing => false,
-    }
+    matches!(kind.gives, Given::Inner | Given::Leaf)
 }
 
 pub(crate) fn gives_leaf(kind: RecordKind) -> bool
     ensures { result ≡ gives_leaf kind }
 {
-    let gives = kind.gives;
-    match gives {
-        Given::End => false,
-        Given::Inner => false,
-        Given::Leaf => true,
-        Given::Rule => false,
-        Given::Arrival => false,
-        Given::Send => false,
-        Given::SentClaim => false,
-        Given::IdleClaim => false,
-        Given::Nothing => false,
-    }
+    matches!(kind.gives, Given::Leaf)
 }
 
 pub(crate) fn gives_rule(kind: RecordKind) -> bool
     ensures { result ≡ gives_rule kind }
 {
-    let gives = kind.gives;
-    match gives {
-        Given::End => false,
-        Given::Inner => false,
-        Given::Leaf => false,
-        Given::Rule => true,
-        Given::Arrival => false,
-        Given::Send => false,
-        Given::SentClaim => false,
-        Given::IdleClaim => false,
-        Given::Nothing => false,
-    }
+    matches!(kind.gives, Given::Rule)
 }
 
 pub(crate) fn gives_arrival(kind: RecordKind) -> bool
     ensures { result ≡ gives_arrival kind }
 {
-    let gives = kind.gives;
-    match gives {
-        Given::End => false,
-        Given::Inner => false,
-        Given::Leaf => false,
-        Given::Rule => false,
-        Given::Arrival => true,
-        Given::Send => false,
-        Given::SentClaim => false,
-        Given::IdleClaim => false,
-        Given::Nothing => false,
-    }
+    matches!(kind.gives, Given::Arrival)
 }
 
 // Whether a record gives a claim, and whether that says that a packet was sent.
 pub(crate) fn gives_claim(kind: RecordKind) -> bool
     ensures { result ≡ gives_claim kind }
 {
-    let gives = kind.gives;
-    match gives {
-        Given::End => false,
-        Given::Inner => false,
-        Given::Leaf => false,
-        Given::Rule => false,
-        Given::Arrival => false,
-        Given::Send => false,
-        Given::SentClaim => true,
-        Given::IdleClaim => true,
-        Given::Nothing => false,
-    }
+    matches!(kind.gives, Given::SentClaim | Given::IdleClaim)
 }
 
 pub(crate) fn gives_sent(kind: RecordKind) -> bool
     ensures { result ≡ gives_sent kind }
 {
-    let gives = kind.gives;
-    match gives {
-        Given::End => false,
-        Given::Inner => false,
-        Given::Leaf => false,
-        Given::Rule => false,
-        Given::Arrival => false,
-        Given::Send => false,
-        Given::SentClaim => true,
-        Given::IdleClaim => false,
-        Given::Nothing => false,
-    }
+    matches!(kind.gives, Given::SentClaim)
 }
 
 // The bytes of a whole record.
 pub(crate) fn record_length(kind: RecordKind) -> usize
     ensures { (result ≡ 1 + kind.body) × (result ≤ 256) }
 {
-    1 + kind.body as usize
+    1 + usize::from(kind.body)
 }

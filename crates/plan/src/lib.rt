@@ -15,13 +15,16 @@ ghost use Rattle.plan.specs.Reader.{plan_of};
 ghost use Rattle.plan.specs.Event.{used_of, event_at};
 ghost use Rattle.plan.specs.Entry.{entry_at};
 
-use checks::Verdict;
+use checks::{Refusal, Refused, Verdict};
+use entry::Entry;
+use event::Event;
 pub use event::event_at;
 use kind::Section;
-use record::Head;
+use record::HeadFault;
 use tree::Tree;
 
 // What the reader says of a plan: a verdict, the bytes used and the tree.
+// R62: of a refused plan no bytes are used and the tree has no class; so both stand beside the verdict, and not in a Result.
 #[derive(Drop)]
 pub struct PlanRead {
     pub verdict: Verdict,
@@ -30,38 +33,22 @@ pub struct PlanRead {
 }
 
 // One arrival: a class, a length and a tag, any at all.
-#[derive(Clone, Copy)]
+#[derive(Clone, Copy, Debug, PartialEq, Eq)]
 pub struct Arrived {
     pub class: u8,
     pub length: u16,
     pub tag: u32,
 }
 
-// What the event reader says: the input has ended, an arrival, a send, or a refusal's number and place.
-#[derive(Clone, Copy)]
-pub enum EventRead {
-    NoMore,
-    Arrive(Arrived),
-    SendNext,
-    Fault(u8, usize),
-}
+// What the event reader says: an event, none where the input has ended, or what is refused.
+pub type EventRead = Result<Option<Event>, Refused>;
 
-// A claim of a recording: the packet that was sent, or that none waited.
-#[derive(Clone, Copy)]
-pub enum Claim {
-    Sent(Arrived),
-    Idle,
-}
+// A claim of a recording: the packet that was sent, or none where none waited.
+pub type Claim = Option<Arrived>;
 
-// What the reader of recordings says: the input has ended, an arrival, a send with its claim, or a refusal's number and its place from the
-// entry's first byte on.
-#[derive(Drop)]
-pub enum EntryRead {
-    Ended,
-    Arrives(Arrived),
-    Claims(Claim),
-    Stops(u8, usize),
-}
+// What the reader of recordings says: an entry, none where the input has ended, or what is refused, its place counted from the entry's
+// first byte on.
+pub type EntryRead = Result<Option<Entry>, Refused>;
 
 // The reader: any bytes at all.
 pub fn read_plan(input: &[u8]) -> PlanRead
@@ -85,12 +72,11 @@ pub fn events_after(input: &[u8], used: usize) -> &[u8]
 pub fn read_event(rest: &[u8], place: usize) -> EventRead
     ensures { result ≡ event_at rest.now place }
 {
-    let h = record::read_head(rest, Section::Events);
-    match h {
-        Head::Missing => EventRead::NoMore,
-        Head::Strange => EventRead::Fault(checks::UNKNOWN_KIND, place),
-        Head::Cut => EventRead::Fault(checks::CUT, place),
-        Head::Whole(kind) => event::whole_event(rest, kind),
+    match record::read_head(rest, Section::Events) {
+        Err(HeadFault::NoKindByte) => Ok(None),
+        Err(HeadFault::StrangeKind) => Err(Refused(Refusal::UnknownKind, place)),
+        Err(HeadFault::CutBody) => Err(Refused(Refusal::Cut, place)),
+        Ok(kind) => event::whole_event(rest, kind),
     }
 }
 
@@ -99,10 +85,10 @@ pub fn used(read: EventRead) -> usize
     ensures { (result ≡ used_of read) × (result ≤ 8) }
 {
     match read {
-        EventRead::NoMore => 0,
-        EventRead::Arrive(_) => 8,
-        EventRead::SendNext => 1,
-        EventRead::Fault(_, _) => 0,
+        Ok(None) => 0,
+        Ok(Some(Event::Arrive(_))) => 8,
+        Ok(Some(Event::SendNext)) => 1,
+        Err(_) => 0,
     }
 }
 
@@ -110,14 +96,13 @@ pub fn used(read: EventRead) -> usize
 pub fn read_entry(rest: &[u8]) -> EntryRead
     ensures { result ≡ entry_at rest.now }
 {
-    let h = record::read_head(rest, Section::Recordings);
-    match h {
-        Head::Missing => EntryRead::Ended,
-        Head::Strange => EntryRead::Stops(checks::UNKNOWN_KIND, 0),
-        Head::Cut => EntryRead::Stops(checks::CUT, 0),
-        Head::Whole(kind) => {
+    match record::read_head(rest, Section::Recordings) {
+        Err(HeadFault::NoKindByte) => Ok(None),
+        Err(HeadFault::StrangeKind) => Err(Refused(Refusal::UnknownKind, 0)),
+        Err(HeadFault::CutBody) => Err(Refused(Refusal::Cut, 0)),
+        Ok(kind) => {
             if kind::gives_claim(kind) {
-                return EntryRead::Stops(checks::CLAIM, 0);
+                return Err(Refused(Refusal::Unpaired, 0));
             }
             entry::whole_entry(rest, kind)
         }

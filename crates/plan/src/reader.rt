@@ -1,8 +1,7 @@
 // The plan reader in two halves: the records, each put to the tree so far, and then closing.
 // Serves demand 1: numbers 1 to 9, 17 and 18, each given exactly when R53 to R60, R224 and R225 say, for the first check broken (R63).
-ghost use Rattle.std.specs.Prelude.{◌≡◌, false, ◌+◌, ◌^◌, ◌≤◌, ◌<◌, length};
-ghost use Rattle.checks.specs.Check.{first_broken};
-ghost use Rattle.checks.specs.declared.Verdict.TheVariants.{Refused};
+ghost use Rattle.std.specs.Prelude.{◌≡◌, false, ◌+◌, ◌^◌, ◌≤◌, ◌<◌, length, Err};
+ghost use Rattle.checks.specs.Check.{first_broken, refusal_at};
 ghost use Rattle.tree.specs.Rules.{Light, closing_checks};
 ghost use Rattle.tree.specs.Class.{no_tree};
 ghost use Rattle.plan.specs.Record.{kind_at, missing, unknown, cut};
@@ -11,20 +10,16 @@ ghost use Rattle.plan.specs.Reader.{rule_first, follows_of, after, records_of, c
 ghost use Rattle.plan.specs.Steps.{ClassSays, PlainSays, RuleStops, WholeSays, StepSays};
 
 use crate::kind::{RecordKind, Section};
-use crate::record::Head;
+use crate::record::HeadFault;
 use crate::{PlanRead, kind, record};
-use checks::Verdict;
+use checks::{Refusal, Refused};
 use tree::{Class, Tree};
 
-// How reading goes on after a record: refused, the end record was read, or onward at a place.
-#[derive(Drop)]
-pub enum Following {
-    Stop(u8, usize),
-    Ended,
-    Onward(usize),
-}
+// How reading goes on after a record: onward at a place, nowhere after the end record, or refused.
+pub type Following = Result<Option<usize>, Refused>;
 
 // The rule that a plan begins with: the place after its record, and whether it is rule 2. Place 0 and rule 1 where there is none.
+// A struct and no Option: place 0 and rule 1 are what `after` and `follows_of` (specs/Reader) say of a plan with no rule record.
 #[derive(Drop)]
 pub struct Opening {
     pub place: usize,
@@ -42,19 +37,19 @@ fn put_class(tree: Tree, class: Class, place: usize, to: usize) -> RecordRead
     ensures { ClassSays tree class place to result.tree result.next }
 {
     if Tree::MOST <= tree.count {
-        let next = Following::Stop(checks::TOO_MANY, place);
+        let next = Err(Refused(Refusal::TooMany, place));
         return RecordRead { next, tree };
     }
     let grown = tree.added(class);
     let last = grown.count;
     let v = tree::class_fault(grown, last, place);
     match v {
-        Verdict::Passed => {
-            let next = Following::Onward(to);
+        Ok(()) => {
+            let next = Ok(Some(to));
             RecordRead { next, tree: grown }
         }
-        Verdict::Refused(n, p) => {
-            let next = Following::Stop(n, p);
+        Err(refused) => {
+            let next = Err(refused);
             RecordRead { next, tree }
         }
     }
@@ -66,14 +61,14 @@ fn no_class(place: usize, kind: RecordKind, tree: Tree) -> RecordRead
     ensures { PlainSays kind place result.next }
 {
     if !kind::gives_rule(kind) {
-        let next = Following::Ended;
+        let next = Ok(None);
         return RecordRead { next, tree };
     }
     if place == 0 {
-        let next = Following::Stop(checks::RULE, place);
+        let next = Err(Refused(Refusal::BadRule, place));
         return RecordRead { next, tree };
     }
-    let next = Following::Stop(checks::LATE_RULE, place);
+    let next = Err(Refused(Refusal::LateRule, place));
     RecordRead { next, tree }
 }
 
@@ -97,21 +92,20 @@ fn take_record(input: &[u8], place: usize, tree: Tree) -> RecordRead
     requires { (place ≤ length input.now) × (place ≡ 0 → rule_first input.now ≡ false) }
     ensures { StepSays input.now place tree result.tree result.next }
 {
-    let h = record::read_head(&input[place..], Section::Plan);
-    match h {
-        Head::Missing => {
-            let next = Following::Stop(checks::CUT, input.len());
+    match record::read_head(&input[place..], Section::Plan) {
+        Err(HeadFault::NoKindByte) => {
+            let next = Err(Refused(Refusal::Cut, input.len()));
             RecordRead { next, tree }
         }
-        Head::Strange => {
-            let next = Following::Stop(checks::UNKNOWN_KIND, place);
+        Err(HeadFault::StrangeKind) => {
+            let next = Err(Refused(Refusal::UnknownKind, place));
             RecordRead { next, tree }
         }
-        Head::Cut => {
-            let next = Following::Stop(checks::CUT, place);
+        Err(HeadFault::CutBody) => {
+            let next = Err(Refused(Refusal::Cut, place));
             RecordRead { next, tree }
         }
-        Head::Whole(kind) => take_whole(&input[place..], place, kind, tree),
+        Ok(kind) => take_whole(&input[place..], place, kind, tree),
     }
 }
 
@@ -129,6 +123,7 @@ fn whole_rule(input: &[u8], kind: RecordKind) -> Opening
     }
     let end = kind::record_length(kind);
     let rule = record::read_rule(&input[1..end]);
+    // 1 and 2 are the byte's own numbers: the tree keeps a bool, so an enum would be made here only to be taken apart by the reader.
     match rule {
         1 => Opening {
             place: end,
@@ -149,32 +144,30 @@ fn whole_rule(input: &[u8], kind: RecordKind) -> Opening
 fn read_opening(input: &[u8]) -> Opening
     ensures { (result.place ≡ after input.now 0) × (result.follows ≡ follows_of input.now) }
 {
-    let h = record::read_head(input, Section::Plan);
-    match h {
-        Head::Missing => Opening {
+    match record::read_head(input, Section::Plan) {
+        Err(HeadFault::NoKindByte) => Opening {
             place: 0,
             follows: false,
         },
-        Head::Strange => Opening {
+        Err(HeadFault::StrangeKind) => Opening {
             place: 0,
             follows: false,
         },
-        Head::Cut => Opening {
+        Err(HeadFault::CutBody) => Opening {
             place: 0,
             follows: false,
         },
-        Head::Whole(kind) => whole_rule(input, kind),
+        Ok(kind) => whole_rule(input, kind),
     }
 }
 
 // A refused plan: 0 bytes used and the tree without classes.
-fn refused(number: u8, place: usize) -> PlanRead
-    ensures { result ≡ outcome (Refused number place) no_tree 0 }
+fn refuse(refused: Refused) -> PlanRead
+    ensures { result ≡ outcome (Err refused) no_tree 0 }
 {
-    let verdict = Verdict::Refused(number, place);
     let tree = Tree::none();
     PlanRead {
-        verdict,
+        verdict: Err(refused),
         used: 0,
         tree,
     }
@@ -193,19 +186,19 @@ pub fn read_records(input: &[u8]) -> PlanRead
         let step = take_record(input, place, tree);
         let next = step.next;
         match next {
-            Following::Stop(n, p) => {
-                return refused(n, p);
+            Err(refused) => {
+                return refuse(refused);
             }
-            Following::Ended => {
+            Ok(None) => {
                 let used = place + 1;
-                let verdict = Verdict::Passed;
+                let verdict = Ok(());
                 return PlanRead {
                     verdict,
                     used,
                     tree,
                 };
             }
-            Following::Onward(to) => {
+            Ok(Some(to)) => {
                 let grown = step.tree;
                 tree = grown;
                 place = to;
@@ -221,8 +214,8 @@ pub(crate) fn close_plan(records: PlanRead) -> PlanRead
 {
     let verdict = records.verdict;
     match verdict {
-        Verdict::Passed => close_tree(records.tree, records.used),
-        Verdict::Refused(_, _) => records,
+        Ok(()) => close_tree(records.tree, records.used),
+        Err(_) => records,
     }
 }
 
@@ -233,11 +226,11 @@ fn close_tree(tree: Tree, used: usize) -> PlanRead
 {
     let v = tree::closing(tree);
     match v {
-        Verdict::Passed => PlanRead {
+        Ok(()) => PlanRead {
             verdict: v,
             used,
             tree,
         },
-        Verdict::Refused(n, p) => refused(n, p),
+        Err(refused) => refuse(refused),
     }
 }

@@ -9,43 +9,27 @@ use crate::kind::{RecordKind, Section};
 use tree::Class;
 use units::Weight;
 
-// The head of a record: its kind byte missing, its kind unknown, its body cut, or a whole record.
-#[derive(Drop)]
-pub enum Head {
-    Missing,
-    Strange,
-    Cut,
-    Whole(RecordKind),
+// What is wrong with the head of a record that is not whole: its kind byte missing, its kind unknown there, or its body cut.
+#[derive(Clone, Copy, Debug, PartialEq, Eq)]
+pub enum HeadFault {
+    NoKindByte,
+    StrangeKind,
+    CutBody,
 }
 
-// A byte and numbers of two and of four bytes, big-endian.
-fn wide16(x: u8) -> u16
-    ensures { (result ≡ x) × (result < 256) }
-{
-    x as u16
-}
-
-fn wide32(x: u8) -> u32
-    ensures { (result ≡ x) × (result < 256) }
-{
-    x as u32
-}
-
+// Numbers of two and of four bytes, big-endian.
 pub(crate) fn number_16(s: &[u8], k: usize) -> u16
     requires { k + 2 ≤ length s.now }
     ensures { result ≡ number16 s.now k }
 {
-    wide16(s[k]) * 256 + wide16(s[k + 1])
+    u16::from_be_bytes([s[k], s[k + 1]])
 }
 
 pub(crate) fn number_32(s: &[u8], k: usize) -> u32
     requires { k + 4 ≤ length s.now }
     ensures { result ≡ number32 s.now k }
 {
-    wide32(s[k]) * 16_777_216
-        + wide32(s[k + 1]) * 65_536
-        + wide32(s[k + 2]) * 256
-        + wide32(s[k + 3])
+    u32::from_be_bytes([s[k], s[k + 1], s[k + 2], s[k + 3]])
 }
 
 // Kind 1: parent 1, weight 4.
@@ -95,19 +79,19 @@ pub(crate) fn read_rule(body: &[u8]) -> u8
     body[0]
 }
 
-// Numbers 1 and 2 of the record at the front of the rest.
-pub(crate) fn read_head(rest: &[u8], section: Section) -> Head
+// Numbers 1 and 2 of the record at the front of the rest, or its kind.
+pub(crate) fn read_head(rest: &[u8], section: Section) -> Result<RecordKind, HeadFault>
     ensures { HeadSays section rest.now result }
 {
     if rest.len() == 0 {
-        return Head::Missing;
+        return Err(HeadFault::NoKindByte);
     }
     let kind = kind::record_kind(rest[0]);
     if !kind::stands_in(section, kind) {
-        return Head::Strange;
+        return Err(HeadFault::StrangeKind);
     }
     if rest.len() < kind::record_length(kind) {
-        return Head::Cut;
+        return Err(HeadFault::CutBody);
     }
-    Head::Whole(kind)
+    Ok(kind)
 }

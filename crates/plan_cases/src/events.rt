@@ -3,27 +3,31 @@ ghost use Rattle.std.specs.Prelude.{◌≤◌, IfOk};
 
 use crate::output::refusal;
 use crate::texts::from;
+use checks::Refused;
 use packed::command::number_16;
+use plan::event::Event;
 use plan::{Arrived, EventRead};
-use shown::{number, pair, word};
+use shown::word;
 use std::io;
 
 // An arrival's class, length and tag.
 fn arrival(rt: &impl Print, a: Arrived) -> io::Result<()> {
-    number(rt, b": arrive ", a.class as u64)?;
-    pair(rt, b" ", a.length as u64, a.tag as u64)
+    let class = a.class;
+    let length = a.length;
+    let tag = a.tag;
+    print!(rt; ": arrive {class} {length} {tag}")
 }
 
 // The answer to an event, and the bytes used.
 fn answer(rt: &impl Print, event: EventRead) -> io::Result<()> {
     match event {
-        EventRead::NoMore => word(rt, b": end")?,
-        EventRead::Arrive(a) => arrival(rt, a)?,
-        EventRead::SendNext => word(rt, b": send")?,
-        EventRead::Fault(n, p) => refusal(rt, n, p)?,
+        Ok(None) => word(rt, b": end")?,
+        Ok(Some(Event::Arrive(a))) => arrival(rt, a)?,
+        Ok(Some(Event::SendNext)) => word(rt, b": send")?,
+        Err(Refused(refused, p)) => refusal(rt, refused.number(), p)?,
     }
-    number(rt, b" used ", plan::used(event) as u64)?;
-    word(rt, b"\n")
+    let used = plan::used(event);
+    println!(rt; " used {used}")
 }
 
 // A single event: place 2, the bytes from there on.
@@ -41,7 +45,7 @@ fn event(rt: &impl Print, name: &[u8], rest: &[u8], place: usize) -> io::Result<
 {
     let e = plan::read_event(rest, place);
     word(rt, name)?;
-    number(rt, b", at ", place as u64)?;
+    print!(rt; ", at {place}")?;
     answer(rt, e)?;
     Ok(plan::used(e))
 }

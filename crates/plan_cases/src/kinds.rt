@@ -2,26 +2,23 @@
 // They run, and are compared with the written-down answers.
 use crate::output::refusal;
 use crate::texts::from;
-use checks::Verdict;
+use checks::{Refusal, Refused, Verdict};
 use packed::command::{number_8, number_16};
 use plan::EventRead;
-use shown::{number, word};
+use shown::word;
 use std::io;
 
 // Whether a verdict is 2 at a place.
 fn is_unknown(v: Verdict, place: usize) -> bool {
-    if checks::number(v) != checks::UNKNOWN_KIND {
-        return false;
-    }
-    checks::place(v) == place
+    v == Err(Refused(Refusal::UnknownKind, place))
 }
 
 // One more where a verdict is 2 at a place; any other verdict is printed, with the kind byte at that place.
 fn one_more(rt: &impl Print, count: u64, v: Verdict, kind: u64, place: usize) -> io::Result<u64> {
     if is_unknown(v, place) {
-        return Ok(count % 1_000_000 + 1);
+        return Ok(count.saturating_add(1));
     }
-    number(rt, b"kind ", kind)?;
+    print!(rt; "kind {kind}")?;
     refusal(rt, checks::number(v), checks::place(v))?;
     word(rt, b"\n")?;
     Ok(count)
@@ -30,8 +27,8 @@ fn one_more(rt: &impl Print, count: u64, v: Verdict, kind: u64, place: usize) ->
 // The verdict on an event.
 fn verdict_of(event: EventRead) -> Verdict {
     match event {
-        EventRead::Fault(n, p) => Verdict::Refused(n, p),
-        _ => Verdict::Passed,
+        Err(refused) => Err(refused),
+        Ok(_) => Ok(()),
     }
 }
 
@@ -54,9 +51,8 @@ pub(crate) fn among_events(rt: &impl Print, count: u64, body: &[u8]) -> io::Resu
 
 // A line of how many there were; the next is counted from 0.
 pub(crate) fn counted(rt: &impl Print, count: u64, name: &[u8], body: &[u8]) -> io::Result<u64> {
+    let place = number_16(body, 0);
     word(rt, name)?;
-    number(rt, b": ", count)?;
-    number(rt, b" times 2 at ", number_16(body, 0))?;
-    word(rt, b"\n")?;
+    println!(rt; ": {count} times 2 at {place}")?;
     Ok(0)
 }

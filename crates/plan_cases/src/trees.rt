@@ -4,44 +4,37 @@ ghost use Rattle.std.specs.Prelude.{◌<◌};
 
 use packed::command::{number_8, number_16, number_64};
 use packed::stored::tree_number;
-use shown::{either, number, word};
+use shown::{either, word};
 use std::io;
 use tree::Tree;
-
-// A class's numbers.
-fn numbers(rt: &impl Print, parent: u8, weight: u32, longest: u16) -> io::Result<()> {
-    number(rt, b" parent ", parent as u64)?;
-    number(rt, b" weight ", weight as u64)?;
-    number(rt, b" longest ", longest as u64)
-}
 
 // One class of a tree.
 fn class_line(rt: &impl Print, tree: Tree, i: usize) -> io::Result<()>
     requires { i < 64 }
 {
-    if tree.count < i {
-        return Ok(());
-    }
-    number(rt, b"class ", i as u64)?;
-    either(rt, sets::has(tree.leaves, i), b": leaf", b": inner")?;
-    let weight = tree.weight[i];
-    numbers(rt, tree.parent[i], weight.0, tree.longest[i])?;
-    word(rt, b"\n")
+    let kind = if sets::has(tree.leaves, i) {
+        "leaf"
+    } else {
+        "inner"
+    };
+    let parent = tree.parent[i];
+    let weight = tree.weight[i].0;
+    let longest = tree.longest[i];
+    println!(rt; "class {i}: {kind} parent {parent} weight {weight} longest {longest}")
 }
 
 // Each class of a tree.
-pub(crate) fn class_lines(rt: &impl Print, tree: Tree) -> io::Result<Tree> {
-    for i in 1..64 {
+pub(crate) fn class_lines(rt: &impl Print, tree: Tree) -> io::Result<()> {
+    for i in 1..=tree.count.min(Tree::MOST) {
         class_line(rt, tree, i)?;
     }
-    Ok(tree)
+    Ok(())
 }
 
 // Whether a tree obeys the plan rules.
-pub(crate) fn rules(rt: &impl Print, name: &[u8], tree: Tree) -> io::Result<Tree> {
+pub(crate) fn rules(rt: &impl Print, name: &[u8], tree: Tree) -> io::Result<()> {
     word(rt, name)?;
-    either(rt, shape::is_plan(tree), b": yes\n", b": no\n")?;
-    Ok(tree)
+    either(rt, shape::is_plan(tree), b": yes\n", b": no\n")
 }
 
 // A value stored into one number: field 1, index 2, value 8.

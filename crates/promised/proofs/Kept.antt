@@ -7,9 +7,8 @@ use native.Mathlib.Nat.{mul-le-mul_right}
 use native.Mathlib.Omega.{arith}
 use lib.ListN.{get_or}
 use borrow.Author.Tests.{le-ltb}
-use Rattle.checks.specs.declared.Verdict.{Verdict}
-use Rattle.checks.specs.declared.Verdict.TheVariants.{Passed}
-use Rattle.checks.specs.Check.{first_broken, Exactly}
+use Rattle.std.specs.Prelude.{Ok}
+use Rattle.checks.specs.Check.{first_broken, Exactly, Verdict}
 use Rattle.checks.proofs.Laws.{pass_over, none_broken, exactly_unique}
 use Rattle.units.specs.Cost.{cost_of}
 use Rattle.units.proofs.Laws.{cost_grows}
@@ -50,12 +49,12 @@ promise_of t class d obeys v r x e h = record {
 
 -- nothing is refused of a leaf of the plan and a D that its places can hold
 pub checks_pass : (t : Tree) (class d : ℕ) (obeys : Bool) → obeys ≡ true → is_leaf t class ≡ true → d ≤ most_held t class
-    → first_broken (wait_checks obeys t class d) ≡ Passed
+    → first_broken (wait_checks obeys t class d) ≡ Ok tt
 checks_pass t class d obeys o leaf few =
     pass_over _ _ (ap not o) ∙ pass_over _ _ (ap not leaf) ∙ pass_over _ _ (le-ltb (most_held t class) d few) ∙ none_broken
 
 pub promise_passes : (t : Tree) (class d : ℕ) (r : Promised) → PlanRules t → is_leaf t class ≡ true → d ≤ most_held t class
-    → Promises t class d r → r ≡ promised_by Passed t class d
+    → Promises t class d r → r ≡ promised_by (Ok tt) t class d
 promise_passes t class d r rules leaf few x =
     x.answer
     ∙ ap (λ (v : Verdict). promised_by v t class d) (checks_pass t class d x.obeys (x.exactly.complete rules) leaf few)
@@ -70,7 +69,7 @@ held_most s i sound u leaf =
     omega (arith, each, mul-le-mul_right (cost_of (longest_of s.tree i)) ((sound.holds i u).few leaf))
 
 -- an arrival of packet p to class i with the answer a, that is accepted
-module _ (l : Link) (i : ℕ) (p : Packet) (a : AfterArrival) (arrives : Arrives l i p a) (accepted : a.answer.verdict ≡ Passed) where
+module _ (l : Link) (i : ℕ) (p : Packet) (a : AfterArrival) (arrives : Arrives l i p a) (accepted : a.answer.verdict ≡ Ok tt) where
   pub leaf : is_leaf l.tree i ≡ true
   leaf = (taken true (meaning l) i p (passes l i p a arrives accepted)).leaf
 
@@ -87,7 +86,7 @@ module _ (l : Link) (i : ℕ) (p : Packet) (a : AfterArrival) (arrives : Arrives
   -- what is promised of its wait is not refused, and the whole link sends no more bytes until it has gone, in whatever order later arrivals
   -- and sends come (R241)
   pub promise_kept : (r : Promised) → Promises l.tree i a.answer.bytes.0 r → (run : List Made) → Run a.link run
-      → (r.verdict ≡ Passed) × ((followed i (held_of l i) run).sent ≤ r.bytes.0)
+      → (r.verdict ≡ Ok tt) × ((followed i (held_of l i) run).sent ≤ r.bytes.0)
   promise_kept r x run is =
       let rules = (sound l i p a arrives accepted).state.fits.tree in
       let e = promise_passes l.tree i a.answer.bytes.0 r rules leaf fits x in

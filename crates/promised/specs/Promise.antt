@@ -1,8 +1,7 @@
 -- What a plan promises of a packet's wait: the bound of demand 3, for any tree, any class number and any D (R237 to R241).
-use Rattle.std.specs.Prelude.{Bool, not, List, [], ◌∷◌, ◌≡◌, ℕ, ◌*◌, ltb}
-use Rattle.checks.specs.declared.Verdict.{Verdict}
-use Rattle.checks.specs.declared.Verdict.TheVariants.{Passed, Refused}
-use Rattle.checks.specs.Check.{Check, check, first_broken, Exactly}
+use Rattle.checks.specs.declared.Refusal.TheVariants.{NotSound, NoLeaf, Full}
+use Rattle.std.specs.Prelude.{Bool, not, List, [], ◌∷◌, ◌≡◌, ℕ, ◌*◌, ltb, Ok, Err}
+use Rattle.checks.specs.Check.{Check, check, first_broken, Exactly, Verdict}
 use Rattle.units.specs.Cost.{cost_of}
 use Rattle.tree.specs.declared.Tree.{Tree}
 use Rattle.tree.specs.Class.{weight_of, longest_of, is_leaf}
@@ -23,7 +22,7 @@ most_held t class = 32 * cost_of (longest_of t class)
 -- more than its 32 places can hold (R238, R239)
 abbrev pub wait_checks : Bool → Tree → ℕ → ℕ → List Check
 wait_checks obeys t class d =
-    check 11 (not obeys) 0 ∷ check 12 (not (is_leaf t class)) class ∷ check 14 (ltb (most_held t class) d) class ∷ []
+    check NotSound (not obeys) 0 ∷ check NoLeaf (not (is_leaf t class)) class ∷ check Full (ltb (most_held t class) d) class ∷ []
 
 -- an answer with so many bytes
 abbrev pub promising : Verdict → ℕ → Promised
@@ -31,8 +30,8 @@ promising verdict n = record { verdict = verdict; bytes = record { 0 = n } }
 
 -- what is promised: the bound with the class's own weight and the tree's Q; a refusal promises 0 (R237, R238)
 abbrev pub promised_by : Verdict → Tree → ℕ → ℕ → Promised
-promised_by Passed t class d = promising Passed (bound d (weight_of t class) (round_size t))
-promised_by (Refused n p) t class d = promising (Refused n p) 0
+promised_by (Ok _) t class d = promising (Ok tt) (bound d (weight_of t class) (round_size t))
+promised_by (Err e) t class d = promising (Err e) 0
 
 -- the answer (R237, R238)
 pub record Promises (t : Tree) (class d : ℕ) (r : Promised) : Type 0 where

@@ -2,8 +2,8 @@
 // of a leaf the two that a planner asks for. Entries for callers outside: they ask nothing (R196). Serves demands 1 and 3.
 #![tactic(auto)]
 
-ghost use Rattle.std.specs.Prelude.{true, ◌≡◌, ◌*◌, ◌≤◌, ◌<◌};
-ghost use Rattle.checks.specs.declared.Verdict.TheVariants.{Passed, Refused};
+ghost use Rattle.checks.specs.Check.{refusal_at};
+ghost use Rattle.std.specs.Prelude.{true, ◌≡◌, ◌*◌, ◌≤◌, ◌<◌, Ok, Err};
 ghost use Rattle.units.specs.Cost.{cost_of, most_cost};
 ghost use Rattle.tree.specs.Class.{longest_of, is_leaf};
 ghost use Rattle.tree.specs.Rules.{PlanRules};
@@ -11,12 +11,13 @@ ghost use Rattle.tree.specs.Size.{round_size, most_size};
 ghost use Rattle.wait.specs.Wait.{over_rounded_up, bound};
 ghost use Rattle.promised.specs.Promise.{most_held, promising, promised_by, Promises, PromisesLeaf};
 
-use checks::Verdict;
+use checks::{Refusal, Refused, Verdict};
 use state::Link;
 use tree::Tree;
 use units::{Bytes, Weight};
 
 // What is promised: a verdict, and how many bytes the whole link sends at most until the packet has gone.
+// R163: in an answer that refuses every further number is 0; so they stand beside the verdict, and not in a Result.
 #[derive(Clone, Copy)]
 pub struct Promised {
     pub verdict: Verdict,
@@ -35,7 +36,7 @@ fn over_rounded_up(d: Bytes, w: Weight) -> u64
     requires { (d.0 ≤ 32 * most_cost) × (1 ≤ w.0) }
     ensures { result ≡ over_rounded_up d.0 w.0 }
 {
-    (d.0 + w.0 as u64 - 1) / w.0 as u64
+    d.0.div_ceil(u64::from(w.0))
 }
 
 // The bound.
@@ -53,7 +54,8 @@ fn full_of(length: u16) -> Bytes
     Bytes(Link::PLACES as u64 * units::cost(length).0)
 }
 
-// The longest packet of a class; 0 of a number that no class has.
+// The longest packet of a class; 0 of a number that no class has. An `if`: `get(class).copied().unwrap_or(0)` gives 0 of every class where a
+// pointer has 32 bits, as on the planner's page.
 fn longest(tree: Tree, class: usize) -> u16
     ensures { result ≡ longest_of tree class }
 {
@@ -64,10 +66,10 @@ fn longest(tree: Tree, class: usize) -> u16
 }
 
 // A refusal promises nothing.
-fn refused(n: u8, place: usize) -> Promised
-    ensures { result ≡ promising (Refused n place) 0 }
+fn refuse(refused: Refused) -> Promised
+    ensures { result ≡ promising (Err refused) 0 }
 {
-    let verdict = Verdict::Refused(n, place);
+    let verdict = Err(refused);
     let bytes = Bytes(0);
     Promised { verdict, bytes }
 }
@@ -75,10 +77,10 @@ fn refused(n: u8, place: usize) -> Promised
 // A leaf of a plan with this round size, and a D that its places can hold.
 fn bounded(tree: Tree, class: usize, d: Bytes, q: Bytes) -> Promised
     requires { PlanRules tree × (is_leaf tree class ≡ true) × (d.0 ≤ most_held tree class) × (q.0 ≡ round_size tree) × (class < 64) }
-    ensures { result ≡ promised_by Passed tree class d.0 }
+    ensures { result ≡ promised_by (Ok tt) tree class d.0 }
 {
     let w = tree.weight[class];
-    let verdict = Verdict::Passed;
+    let verdict = Ok(());
     let bytes = Bytes(bound_of(d, w, q));
     Promised { verdict, bytes }
 }
@@ -87,17 +89,15 @@ fn bounded(tree: Tree, class: usize, d: Bytes, q: Bytes) -> Promised
 pub fn longest_wait(tree: Tree, class: usize, d: Bytes) -> Promised
     ensures { Promises tree class d.0 result }
 {
-    let plan = shape::plan_size(tree);
-    if !plan.right {
-        return refused(checks::NOT_SOUND, 0);
-    }
+    let Some(q) = shape::plan_size(tree) else {
+        return refuse(Refused(Refusal::NotSound, 0));
+    };
     if !sets::holds(tree.leaves, class) {
-        return refused(checks::NO_LEAF, class);
+        return refuse(Refused(Refusal::NoLeaf, class));
     }
     if full_of(longest(tree, class)).0 < d.0 {
-        return refused(checks::FULL, class);
+        return refuse(Refused(Refusal::Full, class));
     }
-    let q = plan.size;
     bounded(tree, class, d, q)
 }
 

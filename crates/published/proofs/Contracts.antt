@@ -4,7 +4,7 @@ use mathlib.Core.Bool.{Bool, true, false}
 use mathlib.Core.List.{List, [], ◌∷◌, map}
 use mathlib.Core.Path.{◌≡◌, refl, sym, ap, ap₂, subst, ◌∙◌}
 use Prim.Native.Nat.{ℕ, ◌≤◌}
-use Rattle.checks.specs.declared.Verdict.TheVariants.{Passed}
+use Rattle.std.specs.Prelude.{Ok}
 use Rattle.checks.specs.Check.{Exactly}
 use Rattle.checks.proofs.Laws.{not_both, exactly_yes, exactly_unique}
 use Rattle.tree.specs.declared.Tree.{Tree}
@@ -95,7 +95,7 @@ second_run_is t rules ms run =
 -- an accepted arrival was on a sound record
 accepted_second : (l : Second) (i : ℕ) (p : Packet) (answer : Arrival) (after : Second) → MeetsSecond l (made_second
     (arrival i p) answer after)
-    → answer.verdict ≡ Passed → SoundSecond l
+    → answer.verdict ≡ Ok tt → SoundSecond l
 accepted_second l i p answer after x accepted = x.exactly.sound (go x.sound refl)
   where
     told : MadeSecond → Arrival
@@ -115,7 +115,7 @@ accepted_second l i p answer after x accepted = x.exactly.sound (go x.sound refl
         ∙ ap (λ (a : AfterArrival). a.answer.verdict) (arrival_refused false l.link i p (unsound_number (meaning l.link) i p))))
 
 module _ (l : Second) (i : ℕ) (p : Packet) (answer : Arrival) (after : Second) (x : MeetsSecond l (made_second (arrival i p) answer after))
-    (accepted : answer.verdict ≡ Passed) where
+    (accepted : answer.verdict ≡ Ok tt) where
   sound : SoundSecond l
   sound = accepted_second l i p answer after x accepted
 

@@ -4,8 +4,9 @@ use mathlib.Core.Logic.{◌⊎◌, inl, inr}
 use mathlib.Core.List.{List, map}
 use mathlib.Core.Path.{◌≡◌, refl, sym, ap, ap₂, subst, ◌∙◌}
 use Prim.Native.Nat.{ℕ, zero, suc}
-use Rattle.checks.specs.declared.Verdict.TheVariants.{Passed, Refused}
-use Rattle.checks.specs.Check.{first_broken}
+use Rattle.checks.specs.declared.Refusal.{Refusal}
+use Rattle.std.specs.Prelude.{Ok, Err}
+use Rattle.checks.specs.Check.{first_broken, refusal_at}
 use Rattle.checks.proofs.Laws.{refused_or_passed}
 use Rattle.tree.specs.declared.Tree.{Tree}
 use Rattle.tree.specs.Class.{parent_of, is_child, of_child, children_sum}
@@ -94,7 +95,7 @@ module _ (l : Second) (i : ℕ) (p : Packet) (sound : SoundSecond l) (shape : Sh
       (round_of l.link.round.size.0 l.link.round.active l.link.round.place a))
       (settled_like (means l) (means (with_link l (put_last l.link i (marked_with l.link.totals.charged p)))) refl refl refl refl refl)
 
-  put_sound : first_broken (arrival_checks true (meaning l.link) i p) ≡ Passed → SoundSecond
+  put_sound : first_broken (arrival_checks true (meaning l.link) i p) ≡ Ok tt → SoundSecond
       (with_link l (put_last l.link i (marked_with l.link.totals.charged p)))
   unfolding owed_sum owed_weight unasked
   put_sound e =
@@ -114,8 +115,8 @@ module _ (l : Second) (i : ℕ) (p : Packet) (sound : SoundSecond l) (shape : Sh
   pub one_arrival : Alike l (arrival i p)
   one_arrival = go (refused_or_passed (first_broken (arrival_checks true (meaning l.link) i p)))
     where
-      go : (first_broken (arrival_checks true (meaning l.link) i p) ≡ Passed)
-          ⊎ ((n : ℕ) × (q : ℕ) × (first_broken (arrival_checks true (meaning l.link) i p) ≡ Refused n q))
+      go : (first_broken (arrival_checks true (meaning l.link) i p) ≡ Ok tt)
+          ⊎ ((n : Refusal) × (q : ℕ) × (first_broken (arrival_checks true (meaning l.link) i p) ≡ Err (refusal_at n q)))
           → Alike l (arrival i p)
       go (inl e) =
           let here = arrival_taken true l.link i p e in
@@ -123,7 +124,7 @@ module _ (l : Second) (i : ℕ) (p : Packet) (sound : SoundSecond l) (shape : Sh
           record {
             made_is =
                 ap (λ (r : AfterArrival). made (arrival i p) r.answer (stands_for (with_link l r.link))) here
-                ∙ ap₂ (λ (bytes : ℕ) (link : Link). made (arrival i p) (arrival_answer Passed bytes) link) (same_bytes l i p) put_alike
+                ∙ ap₂ (λ (bytes : ℕ) (link : Link). made (arrival i p) (arrival_answer (Ok tt) bytes) link) (same_bytes l i p) put_alike
                 ∙ sym (ap (λ (r : AfterArrival). made (arrival i p) r.answer r.link) there);
             closings = refl;
             sound = subst (λ (r : AfterArrival). SoundSecond (with_link l r.link)) (sym here) (put_sound e);

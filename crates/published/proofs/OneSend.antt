@@ -4,8 +4,9 @@ use mathlib.Core.List.{map}
 use mathlib.Core.Path.{◌≡◌, refl, sym, ap, ap₂, subst, ◌∙◌}
 use Prim.Native.Nat.{ℕ}
 use lib.ListN.{length, length-map}
-use Rattle.checks.specs.declared.Verdict.TheVariants.{Passed, Refused}
-use Rattle.checks.specs.Check.{first_broken}
+use Rattle.checks.specs.declared.Refusal.TheVariants.{NothingWaits}
+use Rattle.std.specs.Prelude.{Ok, Err}
+use Rattle.checks.specs.Check.{first_broken, refusal_at}
 use Rattle.state.specs.declared.Link.{Link}
 use Rattle.state.specs.declared.Waiting.{Waiting}
 use Rattle.state.specs.Queue.{Shaped, queue_of, taken_first}
@@ -141,7 +142,7 @@ module _ (l : Second) (sound : SoundSecond l) (shape : ShapedSecond l) (some : s
       ∙ ap₂ (goes t.class t.packet) (ap length alike.closings ∙ length-map t.turns closed_of)
       (ap (λ (k : Link). k.totals.charged) stands_after)
 
-  pub gives_is : gives true l send ≡ send_given Passed l
+  pub gives_is : gives true l send ≡ send_given (Ok tt) l
   unfolding first_broken
   gives_is = rw (sym (same_waits l) ∙ some)
 
@@ -168,11 +169,11 @@ module _ (l : Second) (sound : SoundSecond l) (shape : ShapedSecond l) (some : s
 -- ---- where nothing waits both refuse
 
 module _ (l : Second) (sound : SoundSecond l) (shape : ShapedSecond l) (none : some_waits (meaning (stands_for l)) ≡ false) where
-  pub refuses_is : gives true l send ≡ send_given (Refused 15 0) l
+  pub refuses_is : gives true l send ≡ send_given (Err (refusal_at NothingWaits 0)) l
   unfolding first_broken
   refuses_is = rw (sym (same_waits l) ∙ none)
 
-  none_is : makes true (stands_for l) send ≡ made send (send_gives (Refused 15 0) (stands_for l)).answer (stands_for l)
+  none_is : makes true (stands_for l) send ≡ made send (send_gives (Err (refusal_at NothingWaits 0)) (stands_for l)).answer (stands_for l)
   none_is = ap (λ (r : AfterSend). made send r.answer r.link) (send_nothing (stands_for l) none)
 
   none_alike : Alike l send

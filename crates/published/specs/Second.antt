@@ -1,9 +1,7 @@
 -- The second engine's link (R330 to R334): what it means, the first engine's link that it stands for, when it is sound, a fresh one, and
 -- its calls. Demands 1 and 2.
-use Rattle.std.specs.Prelude.{Bool, List, [], ◌≡◌, ℕ, ◌<◌, length, replicate}
-use Rattle.checks.specs.declared.Verdict.{Verdict}
-use Rattle.checks.specs.declared.Verdict.TheVariants.{Passed, Refused}
-use Rattle.checks.specs.Check.{first_broken}
+use Rattle.std.specs.Prelude.{Bool, List, [], ◌≡◌, ℕ, ◌<◌, length, replicate, Ok, Err}
+use Rattle.checks.specs.Check.{first_broken, Verdict}
 use Rattle.tree.specs.declared.Tree.{Tree}
 use Rattle.state.specs.declared.Link.{Link}
 use Rattle.state.specs.Queue.{Shaped, taken_first}
@@ -61,14 +59,14 @@ after_passage l p = record {
 
 -- a send is checked as the first engine's, one that goes is read off its passage, and a refused one gives the very record (R333, R334)
 abbrev pub send_given : Verdict → Second → Given send
-send_given Passed l =
+send_given (Ok _) l =
     let p = passage_of (means l) in
     let after = after_passage l p in record {
       answer = goes p.class p.packet (length p.closings) after.link.totals.charged;
       closings = p.closings;
       after = after;
     }
-send_given (Refused n q) l = record { answer = refused_send (Refused n q); closings = []; after = l }
+send_given (Err e) l = record { answer = refused_send (Err e); closings = []; after = l }
 
 -- what a call gives, on a link that is sound or is not (R332 to R334)
 abbrev pub gives : Bool → Second → (call : Call) → Given call

@@ -16,6 +16,7 @@ pub struct Second {
 }
 
 // What a fresh link of the second engine asked of a tree gives.
+// R163: the link of a refused one is the link of zeros; so it stands beside the verdict, and not in a Result.
 #[derive(Drop)]
 pub struct SecondFresh {
     pub verdict: Verdict,

@@ -2,9 +2,9 @@
 use mathlib.Core.Bool.{Bool, true, false}
 use mathlib.Core.Path.{◌≡◌, refl, sym, ap, subst, ◌∙◌}
 use Prim.Native.Nat.{ℕ}
-use Rattle.checks.specs.declared.Verdict.{Verdict}
-use Rattle.checks.specs.declared.Verdict.TheVariants.{Refused}
-use Rattle.checks.specs.Check.{Exactly}
+use Rattle.checks.specs.declared.Refusal.TheVariants.{NotSound, NothingWaits}
+use Rattle.std.specs.Prelude.{Err}
+use Rattle.checks.specs.Check.{Exactly, Verdict, refusal_at}
 use Rattle.checks.proofs.Laws.{decides, exactly_no, exactly_yes}
 use Rattle.state.specs.declared.Packet.{Packet}
 use Rattle.state.specs.State.{meaning}
@@ -29,7 +29,7 @@ use Rattle.published_link.proofs.Judging.{sound_by_link}
 module _ (l : Second) (shape : ShapedSecond l) where
   -- an arrival on a record that is not sound
   pub arrival_unsound : (i : ℕ) (p : Packet) (r : SecondArrival) → (SoundSecond l → ⊥)
-      → r ≡ arrival_left (arrival_answer (Refused 11 0) 0) l → MeetsSecond l (made_second (arrival i p) r.answer r.link)
+      → r ≡ arrival_left (arrival_answer (Err (refusal_at NotSound 0)) 0) l → MeetsSecond l (made_second (arrival i p) r.answer r.link)
   arrival_unsound i p r none e =
       subst (MeetsSecond l)
       (ap (λ (a : AfterArrival). made_second (arrival i p) a.answer (with_link l a.link))
@@ -53,18 +53,18 @@ module _ (l : Second) (shape : ShapedSecond l) where
       ∙ sym (ap (λ (x : SecondSend). made_second send x.answer x.link) e))
       (second_by_lem l send flag shape exactly)
 
-  unsound_gives : gives false l send ≡ send_given (Refused 11 0) l
+  unsound_gives : gives false l send ≡ send_given (Err (refusal_at NotSound 0)) l
   unsound_gives = ap (λ (v : Verdict). send_given v l) (decides _ _ refl)
 
-  pub send_unsound : (r : SecondSend) → (SoundSecond l → ⊥) → r ≡ send_left (refused_send (Refused 11 0)) l
+  pub send_unsound : (r : SecondSend) → (SoundSecond l → ⊥) → r ≡ send_left (refused_send (Err (refusal_at NotSound 0))) l
       → MeetsSecond l (made_second send r.answer r.link)
-  send_unsound r none e = send_by false r (send_given (Refused 11 0) l) (exactly_no none) unsound_gives e
+  send_unsound r none e = send_by false r (send_given (Err (refusal_at NotSound 0)) l) (exactly_no none) unsound_gives e
 
   module _ (sound : SoundSecond l) where
-    pub send_nothing : (r : SecondSend) → some_waits (meaning l.link) ≡ false → r ≡ send_left (refused_send (Refused 15 0)) l
+    pub send_nothing : (r : SecondSend) → some_waits (meaning l.link) ≡ false → r ≡ send_left (refused_send (Err (refusal_at NothingWaits 0))) l
         → MeetsSecond l (made_second send r.answer r.link)
     send_nothing r none e =
-        send_by true r (send_given (Refused 15 0) l) (exactly_yes sound)
+        send_by true r (send_given (Err (refusal_at NothingWaits 0)) l) (exactly_yes sound)
         (refuses_is l sound shape (same_waits l ∙ none)) e
 
     pub send_goes : (r : SecondSend) → some_waits (meaning l.link) ≡ true → r ≡ sent_of l

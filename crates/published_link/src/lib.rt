@@ -3,9 +3,9 @@
 // Serves demand 1 (numbers 11 to 15, a refused call hands the record back unaltered) and demand 2.
 #![tactic(auto)]
 
-ghost use Rattle.std.specs.Prelude.{◌≡◌};
-ghost use Rattle.checks.specs.Check.{Exactly};
-ghost use Rattle.checks.specs.declared.Verdict.TheVariants.{Refused};
+ghost use Rattle.checks.specs.declared.Refusal.TheVariants.{NotSound};
+ghost use Rattle.std.specs.Prelude.{◌≡◌, Err};
+ghost use Rattle.checks.specs.Check.{Exactly, refusal_at};
 ghost use Rattle.calls.specs.Arrival.{arrival_answer};
 ghost use Rattle.calls.specs.Run.{arrival, send};
 ghost use Rattle.calls.specs.Send.{refused_send, goes};
@@ -16,12 +16,12 @@ ghost use Rattle.published_link.specs.Calls.{AskedIsRight, arrival_left, send_le
 
 use asking::asked_right;
 use calls::{Arrival, Departure};
-use checks::Verdict;
+use checks::{Refusal, Refused};
 pub use published::{Second, SecondArrival, SecondFresh, SecondSend};
 use published_send::Sent;
 use state::lent_accounts::{balances, residuals, zipped};
 use state::mark::since;
-use state::{Packet, Round, Totals};
+use state::{Link, Packet, Round, Totals};
 use steps::Stand;
 use tree::Tree;
 use units::Bytes;
@@ -32,16 +32,13 @@ pub fn fresh(tree: Tree) -> SecondFresh
 {
     let made = link::fresh(tree);
     let verdict = made.verdict;
-    let first = made.link;
-    let quotas = [0u64; 64];
-    let second = Second {
-        link: first,
-        asked: 0,
-        quotas,
-    };
     SecondFresh {
         verdict,
-        link: second,
+        link: Second {
+            link: made.link,
+            asked: 0,
+            quotas: [0u64; 64],
+        },
     }
 }
 
@@ -49,30 +46,21 @@ pub fn fresh(tree: Tree) -> SecondFresh
 fn asked_is_right(second: Second) -> bool
     ensures { Exactly result (AskedIsRight second) }
 {
-    let first = second.link;
-    let tree = first.tree;
-    if !shape::is_plan(tree) {
-        return false;
-    }
-    asked_right(second)
+    shape::is_plan(second.link.tree) && asked_right(second)
 }
 
 // Whether a link is sound, any record.
 pub fn is_sound(second: Second) -> bool
     ensures { Exactly result (SoundSecond second) }
 {
-    let first = second.link;
-    if !sound::is_sound(first) {
-        return false;
-    }
-    asked_right(second)
+    sound::is_sound(second.link) && asked_right(second)
 }
 
 // An arrival on a record on which who has asked is not right: 11 at 0, and the very record.
 fn arrival_stays(second: Second) -> SecondArrival
-    ensures { result ≡ arrival_left (arrival_answer (Refused 11 0) 0) second }
+    ensures { result ≡ arrival_left (arrival_answer (Err (refusal_at NotSound 0)) 0) second }
 {
-    let verdict = Verdict::Refused(checks::NOT_SOUND, 0);
+    let verdict = Err(Refused(Refusal::NotSound, 0));
     let bytes = Bytes(0);
     let answer = Arrival { verdict, bytes };
     SecondArrival {
@@ -88,24 +76,23 @@ pub fn arrive(second: Second, class: usize, packet: Packet) -> SecondArrival
     if !asked_is_right(second) {
         return arrival_stays(second);
     }
-    let first = second.link;
-    let after = link::arrive(first, class, packet);
-    let answer = after.answer;
-    let left = after.link;
+    let after = link::arrive(second.link, class, packet);
     let quotas = second.quotas;
-    let next = Second {
-        link: left,
-        asked: second.asked,
-        quotas,
-    };
-    SecondArrival { answer, link: next }
+    SecondArrival {
+        answer: after.answer,
+        link: Second {
+            link: after.link,
+            asked: second.asked,
+            quotas,
+        },
+    }
 }
 
 // A refused send: the very record, and all other numbers 0.
-fn send_stays(number: u8, second: Second) -> SecondSend
-    ensures { result ≡ send_left (refused_send (Refused number 0)) second }
+fn send_stays(refusal: Refusal, second: Second) -> SecondSend
+    ensures { result ≡ send_left (refused_send (Err (refusal_at refusal 0))) second }
 {
-    let verdict = Verdict::Refused(number, 0);
+    let verdict = Err(Refused(refusal, 0));
     let answer = Departure {
         verdict,
         class: 0,
@@ -125,15 +112,14 @@ fn departure(sent: Sent) -> Departure
     ensures { result ≡ goes sent.class sent.packet sent.rounds sent.stand.charged }
 {
     let packet = sent.packet;
-    let stand = sent.stand;
-    let verdict = Verdict::Passed;
+    let verdict = Ok(());
     Departure {
         verdict,
         class: sent.class,
         length: packet.length,
         tag: packet.tag,
         rounds: sent.rounds,
-        waited: since(stand.charged, packet.mark),
+        waited: since(sent.stand.charged, packet.mark),
     }
 }
 
@@ -148,7 +134,6 @@ fn goes(second: Second) -> SecondSend
     let children = shape::families(&shape);
     let mut kept = [0u32; 64];
     let accounts = first.round.accounts;
-    let size = first.round.size;
     let mut balance = balances(accounts);
     let mut residual = residuals(accounts);
     let mut quotas = second.quotas;
@@ -162,7 +147,7 @@ fn goes(second: Second) -> SecondSend
     let mut bytes = had.bytes;
     let stand = Stand {
         known: 0,
-        size,
+        size: first.round.size,
         active: first.round.active,
         place: first.round.place,
         charged: had.charged,
@@ -187,30 +172,31 @@ fn goes(second: Second) -> SecondSend
     let accounts_after = zipped(&balance, &residual);
     totals::work_out(true, &shape, &children, &mut packets, &mut bytes);
     let then = sent.stand;
-    let size_after = then.size;
-    let round = Round {
-        size: size_after,
-        active: then.active,
-        place: then.place,
-        accounts: accounts_after,
+    let after = Link {
+        start,
+        held,
+        totals: Totals {
+            packets,
+            bytes,
+            charged: then.charged,
+        },
+        round: Round {
+            size: then.size,
+            active: then.active,
+            place: then.place,
+            accounts: accounts_after,
+        },
+        ..first
     };
-    let mut after = first;
-    after.round = round;
-    after.start = start;
-    after.held = held;
-    let counted = Totals {
-        packets,
-        bytes,
-        charged: then.charged,
-    };
-    after.totals = counted;
     let next = Second {
         link: after,
         asked: sent.asked,
         quotas,
     };
-    let answer = departure(sent);
-    SecondSend { answer, link: next }
+    SecondSend {
+        answer: departure(sent),
+        link: next,
+    }
 }
 
 // A send: the root's total says whether a packet waits.
@@ -218,13 +204,10 @@ pub fn send(second: Second) -> SecondSend
     ensures { MeetsSecond second (made_second send result.answer result.link) }
 {
     if !is_sound(second) {
-        return send_stays(checks::NOT_SOUND, second);
+        return send_stays(Refusal::NotSound, second);
     }
-    let first = second.link;
-    let totals = first.totals;
-    let packets = totals.packets;
-    if packets[0] == 0 {
-        return send_stays(checks::NOTHING_WAITS, second);
+    if second.link.totals.packets[0] == 0 {
+        return send_stays(Refusal::NothingWaits, second);
     }
     goes(second)
 }

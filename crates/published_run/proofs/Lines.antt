@@ -5,13 +5,11 @@ use mathlib.Core.Path.{◌≡◌, refl, sym, ap, subst, ◌∙◌}
 use Prim.Native.Nat.{ℕ, ◌+◌, ◌≤◌, ◌<◌}
 use native.Mathlib.Omega.{arith}
 use lib.ListN.{length, drop, length-drop}
-use Rattle.checks.specs.declared.Verdict.{Verdict}
-use Rattle.checks.specs.declared.Verdict.TheVariants.{Passed, Refused}
-use Rattle.checks.specs.Check.{first_broken, input_checks}
+use Rattle.plan.specs.declared.event.Event.TheVariants.{Arrive, SendNext}
+use Rattle.std.specs.Prelude.{Ok, Err, Some, None}
+use Rattle.checks.specs.Check.{first_broken, input_checks, Verdict}
 use Rattle.checks.proofs.Laws.{not_true_and_false, exactly_yes}
-use Rattle.plan.specs.declared.EventRead.{EventRead}
-use Rattle.plan.specs.declared.EventRead.TheVariants.{NoMore, Arrive, SendNext, Fault}
-use Rattle.plan.specs.Event.{event_at}
+use Rattle.plan.specs.Event.{event_at, EventRead}
 use Rattle.plan.specs.Reader.{plan_of}
 use Rattle.plan.proofs.Numbers.{plan_rules}
 use Rattle.tree.specs.declared.Tree.{Tree}
@@ -49,24 +47,24 @@ module _ (l : Second) (place : ℕ) where
   }
 
   gives_first : (e : EventRead) (r : SecondStep) → SoundSecond l → GivesSecond l place e r → Gives (stands_for l) place e (step_first r)
-  gives_first NoMore r sound g = ap step_first g
-  gives_first (Arrive a) r sound g = calls_first (arrival a.class (packet_in a)) (place + 8) r sound g
-  gives_first SendNext r sound g = calls_first send (place + 1) r sound g
-  gives_first (Fault n p) r sound g = ap step_first g
+  gives_first (Ok None) r sound g = ap step_first g
+  gives_first (Ok (Some (Arrive a))) r sound g = calls_first (arrival a.class (packet_in a)) (place + 8) r sound g
+  gives_first (Ok (Some SendNext)) r sound g = calls_first send (place + 1) r sound g
+  gives_first (Err _) r sound g = ap step_first g
 
   gives_keeps : (e : EventRead) (r : SecondStep) → SoundSecond l → GivesSecond l place e r → SoundSecond r.link
-  gives_keeps NoMore r sound g = subst (λ (s : SecondStep). SoundSecond s.link) (sym g) sound
-  gives_keeps (Arrive a) r sound g = subst (λ (s : SecondStep). SoundSecond s.link) (sym g.step) (g.meets.keeps sound)
-  gives_keeps SendNext r sound g = subst (λ (s : SecondStep). SoundSecond s.link) (sym g.step) (g.meets.keeps sound)
-  gives_keeps (Fault n p) r sound g = subst (λ (s : SecondStep). SoundSecond s.link) (sym g) sound
+  gives_keeps (Ok None) r sound g = subst (λ (s : SecondStep). SoundSecond s.link) (sym g) sound
+  gives_keeps (Ok (Some (Arrive a))) r sound g = subst (λ (s : SecondStep). SoundSecond s.link) (sym g.step) (g.meets.keeps sound)
+  gives_keeps (Ok (Some SendNext)) r sound g = subst (λ (s : SecondStep). SoundSecond s.link) (sym g.step) (g.meets.keeps sound)
+  gives_keeps (Err _) r sound g = subst (λ (s : SecondStep). SoundSecond s.link) (sym g) sound
 
   gives_shaped : (e : EventRead) (r : SecondStep) → SoundSecond l → ShapedSecond l → GivesSecond l place e r → ShapedSecond r.link
-  gives_shaped NoMore r sound shape g = subst (λ (s : SecondStep). ShapedSecond s.link) (sym g) shape
-  gives_shaped (Arrive a) r sound shape g =
+  gives_shaped (Ok None) r sound shape g = subst (λ (s : SecondStep). ShapedSecond s.link) (sym g) shape
+  gives_shaped (Ok (Some (Arrive a))) r sound shape g =
       subst (λ (s : SecondStep). ShapedSecond s.link) (sym g.step) (meets_shaped l _ sound g.meets)
-  gives_shaped SendNext r sound shape g =
+  gives_shaped (Ok (Some SendNext)) r sound shape g =
       subst (λ (s : SecondStep). ShapedSecond s.link) (sym g.step) (meets_shaped l _ sound g.meets)
-  gives_shaped (Fault n p) r sound shape g = subst (λ (s : SecondStep). ShapedSecond s.link) (sym g) shape
+  gives_shaped (Err _) r sound shape g = subst (λ (s : SecondStep). ShapedSecond s.link) (sym g) shape
 
   -- two answers are one
   calls_one : (call : Call) (to : ℕ) (r r' : SecondStep) → CallsSecond l call to r → CallsSecond l call to r' → r ≡ r'
@@ -76,22 +74,22 @@ module _ (l : Second) (place : ℕ) where
       ∙ sym y.step
 
   gives_one : (e : EventRead) (r r' : SecondStep) → GivesSecond l place e r → GivesSecond l place e r' → r ≡ r'
-  gives_one NoMore r r' x y = x ∙ sym y
-  gives_one (Arrive a) r r' x y = calls_one (arrival a.class (packet_in a)) (place + 8) r r' x y
-  gives_one SendNext r r' x y = calls_one send (place + 1) r r' x y
-  gives_one (Fault n p) r r' x y = x ∙ sym y
+  gives_one (Ok None) r r' x y = x ∙ sym y
+  gives_one (Ok (Some (Arrive a))) r r' x y = calls_one (arrival a.class (packet_in a)) (place + 8) r r' x y
+  gives_one (Ok (Some SendNext)) r r' x y = calls_one send (place + 1) r r' x y
+  gives_one (Err _) r r' x y = x ∙ sym y
 
   -- where the run goes on, the place has moved on, and is within the input
   gives_on : (input : List ℕ) (e : EventRead) (r : SecondStep) → event_at (drop place input) place ≡ e → GivesSecond l place e r
       → r.more ≡ true → (place < r.place) × (r.place ≤ length input)
-  gives_on input NoMore r same g m = absurd (not_true_and_false m (ap (λ (s : SecondStep). s.more) g))
-  gives_on input (Arrive a) r same g m =
+  gives_on input (Ok None) r same g m = absurd (not_true_and_false m (ap (λ (s : SecondStep). s.more) g))
+  gives_on input (Ok (Some (Arrive a))) r same g m =
       subst (λ (s : SecondStep). (place < s.place) × (s.place ≤ length input)) (sym g.step)
-      (omega arith, omega (arith, used_fits input place (Arrive a) same, length-drop place input))
-  gives_on input SendNext r same g m =
+      (omega arith, omega (arith, used_fits input place (Ok (Some (Arrive a))) same, length-drop place input))
+  gives_on input (Ok (Some SendNext)) r same g m =
       subst (λ (s : SecondStep). (place < s.place) × (s.place ≤ length input)) (sym g.step)
-      (omega arith, omega (arith, used_fits input place SendNext same, length-drop place input))
-  gives_on input (Fault n p) r same g m = absurd (not_true_and_false m (ap (λ (s : SecondStep). s.more) g))
+      (omega arith, omega (arith, used_fits input place (Ok (Some SendNext)) same, length-drop place input))
+  gives_on input (Err _) r same g m = absurd (not_true_and_false m (ap (λ (s : SecondStep). s.more) g))
 
   pub second_on : (input : List ℕ) (r : SecondStep) → GoesOnSecond l input place r → r.more ≡ true
       → (place < r.place) × (r.place ≤ length input)
@@ -115,13 +113,13 @@ fresh_begins t rules line place =
 
 plan_begins : (input : List ℕ) (v : Verdict) → (plan_of input).verdict ≡ v → (plan_gives v (plan_of input)).more ≡ true
     → Begins (plan_gives v (plan_of input))
-plan_begins input Passed e m = fresh_begins (plan_of input).tree (plan_rules input (plan_of input) refl e) _ _
-plan_begins input (Refused n p) e m = absurd (not_true_and_false m refl)
+plan_begins input (Ok _) e m = fresh_begins (plan_of input).tree (plan_rules input (plan_of input) refl e) _ _
+plan_begins input (Err _) e m = absurd (not_true_and_false m refl)
 
 input_begins : (input : List ℕ) (v : Verdict) → (input_gives v input).more ≡ true → Begins (input_gives v input)
 unfolding begin_of
-input_begins input Passed m = plan_begins input (plan_of input).verdict refl m
-input_begins input (Refused n p) m = absurd (not_true_and_false m refl)
+input_begins input (Ok _) m = plan_begins input (plan_of input).verdict refl m
+input_begins input (Err _) m = absurd (not_true_and_false m refl)
 
 begins : (input : List ℕ) → (program_begins input).more ≡ true → Begins (program_begins input)
 unfolding program_begins

@@ -1,8 +1,7 @@
 -- What the plan and each event of a run of the second engine give, and what a program over it prints.
-use Rattle.std.specs.Prelude.{true, false, List, [], ◌∷◌, ◌≡◌, ℕ, ◌+◌, drop, replicate}
-use Rattle.plan.specs.declared.EventRead.{EventRead}
-use Rattle.plan.specs.declared.EventRead.TheVariants.{NoMore, Arrive, SendNext, Fault}
-use Rattle.plan.specs.Event.{used_of, event_at}
+use Rattle.plan.specs.declared.event.Event.TheVariants.{Arrive, SendNext}
+use Rattle.std.specs.Prelude.{true, false, List, [], ◌∷◌, ◌≡◌, ℕ, ◌+◌, drop, replicate, Ok, Err, Some, None}
+use Rattle.plan.specs.Event.{used_of, event_at, EventRead}
 use Rattle.calls.specs.Run.{Call, arrival, send, Answer}
 use Rattle.lines.specs.declared.Line.{Line}
 use Rattle.run.specs.declared.Step.{Step}
@@ -42,10 +41,10 @@ pub record CallsSecond (l : Second) (call : Call) (place : ℕ) (r : SecondStep)
 
 -- what an event at a place gives on any record
 abbrev pub GivesSecond : Second → ℕ → EventRead → SecondStep → Type 0
-GivesSecond l place NoMore r = r ≡ last_of (last_line NoMore l.link) l place
-GivesSecond l place (Arrive a) r = CallsSecond l (arrival a.class (packet_in a)) (place + used_of (Arrive a)) r
-GivesSecond l place SendNext r = CallsSecond l send (place + used_of SendNext) r
-GivesSecond l place (Fault n p) r = r ≡ last_of (last_line (Fault n p) l.link) l place
+GivesSecond l place (Ok None) r = r ≡ last_of (last_line (Ok None) l.link) l place
+GivesSecond l place (Ok (Some (Arrive a))) r = CallsSecond l (arrival a.class (packet_in a)) (place + used_of (Ok (Some (Arrive a)))) r
+GivesSecond l place (Ok (Some SendNext)) r = CallsSecond l send (place + used_of (Ok (Some SendNext))) r
+GivesSecond l place (Err e) r = r ≡ last_of (last_line (Err e) l.link) l place
 
 abbrev pub GoesOnSecond : Second → List ℕ → ℕ → SecondStep → Type 0
 GoesOnSecond l input place r = GivesSecond l place (event_at (drop place input) place) r

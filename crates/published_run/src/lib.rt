@@ -5,11 +5,11 @@
 
 ghost use Rattle.std.specs.Prelude.{◌≡◌};
 ghost use Rattle.calls.specs.Run.{arrival, send};
-ghost use Rattle.plan.specs.declared.EventRead.TheVariants.{NoMore};
 ghost use Rattle.run.specs.Event.{packet_in, last_line};
 ghost use Rattle.published_run.specs.Steps.{second_begins, last_of, CallsSecond, GoesOnSecond};
 
 use lines::Line;
+use plan::event::Event;
 use plan::{Arrived, EventRead};
 use published_link::Second;
 use state::Packet;
@@ -28,28 +28,24 @@ pub fn first(input: &[u8]) -> SecondStep
     ensures { result ≡ second_begins input.now }
 {
     let step = run::first(input);
-    let line = step.line;
-    let link = step.link;
-    let quotas = [0u64; 64];
-    let second = Second {
-        link,
-        asked: 0,
-        quotas,
-    };
     SecondStep {
-        line,
+        line: step.line,
         more: step.more,
-        link: second,
+        link: Second {
+            link: step.link,
+            asked: 0,
+            quotas: [0u64; 64],
+        },
         place: step.place,
     }
 }
 
-// The run ends.
-fn last(line: Line, second: Second, place: usize) -> SecondStep
-    ensures { result ≡ last_of line second place }
+// The run ends with an event that is no call.
+fn last(read: EventRead, second: Second, place: usize) -> SecondStep
+    ensures { result ≡ last_of (last_line read second.link) second place }
 {
     SecondStep {
-        line,
+        line: run::last_line(read, second.link),
         more: false,
         link: second,
         place,
@@ -60,16 +56,15 @@ fn last(line: Line, second: Second, place: usize) -> SecondStep
 fn arrival(second: Second, a: Arrived, place: usize) -> SecondStep
     ensures { CallsSecond second (arrival a.class (packet_in a)) place result }
 {
-    let length = a.length;
-    let tag = a.tag;
-    let answered = published_link::arrive(second, a.class as usize, Packet { length, tag });
-    let answer = answered.answer;
-    let line = run::arrival_line(answer, a);
-    let after = answered.link;
+    let packet = Packet {
+        length: a.length,
+        tag: a.tag,
+    };
+    let answered = published_link::arrive(second, a.class as usize, packet);
     SecondStep {
-        line,
+        line: run::arrival_line(answered.answer, a),
         more: true,
-        link: after,
+        link: answered.link,
         place,
     }
 }
@@ -79,23 +74,12 @@ fn send(second: Second, place: usize) -> SecondStep
     ensures { CallsSecond second send place result }
 {
     let sent = published_link::send(second);
-    let answer = sent.answer;
-    let line = run::send_line(answer);
-    let after = sent.link;
     SecondStep {
-        line,
+        line: run::send_line(sent.answer),
         more: true,
-        link: after,
+        link: sent.link,
         place,
     }
-}
-
-// The line of the normal end.
-fn end_line(second: Second) -> Line
-    ensures { result ≡ last_line NoMore second.link }
-{
-    let link = second.link;
-    run::end_line(link)
 }
 
 // And goes on with the event at a place of its input.
@@ -106,9 +90,9 @@ pub fn next(second: Second, input: &[u8], place: usize) -> SecondStep
     let event = plan::read_event(rest, place);
     let after = place + plan::used(event);
     match event {
-        EventRead::NoMore => last(end_line(second), second, place),
-        EventRead::Arrive(a) => arrival(second, a, after),
-        EventRead::SendNext => send(second, after),
-        EventRead::Fault(n, p) => last(Line::Stop(n as u64, p as u64), second, place),
+        Ok(None) => last(event, second, place),
+        Ok(Some(Event::Arrive(a))) => arrival(second, a, after),
+        Ok(Some(Event::SendNext)) => send(second, after),
+        Err(_) => last(event, second, place),
     }
 }

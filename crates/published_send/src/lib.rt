@@ -98,21 +98,18 @@ pub struct Sent {
 fn has_gone(next: Turned, gone: Gone) -> Sent
     ensures { result ≡ gone_by next gone }
 {
-    let packet = gone.packet;
-    let size = next.size;
-    let stand = Stand {
-        known: next.known,
-        size,
-        active: gone.active,
-        place: next.leaf,
-        charged: gone.charged,
-    };
     Sent {
         class: next.leaf,
-        packet,
+        packet: gone.packet,
         rounds: next.rounds,
         asked: next.asked,
-        stand,
+        stand: Stand {
+            known: next.known,
+            size: next.size,
+            active: gone.active,
+            place: next.leaf,
+            charged: gone.charged,
+        },
     }
 }
 

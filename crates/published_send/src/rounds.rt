@@ -24,10 +24,7 @@ use units::Bytes;
 fn asked_first(surplus: bool) -> u64
     ensures { result ≡ asked_first (kind_is surplus) }
 {
-    if surplus {
-        return sets::with(0, 0);
-    }
-    0
+    if surplus { sets::with(0, 0) } else { 0 }
 }
 
 // Who has a quota when a round has opened, and the size in force.
@@ -55,10 +52,9 @@ fn open_unshared(
 {
     let begun = begin_round(shape, active, sums, size, balance, residual);
     quotas[0] = 0;
-    let after = begun.size;
     Opening {
         asked: asked_first(begun.surplus),
-        size: after,
+        size: begun.size,
     }
 }
 

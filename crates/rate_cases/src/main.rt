@@ -4,7 +4,7 @@
 // The expected lines are worked out by cases/rate_cases.py.
 #![tactic(auto)]
 
-ghost use Rattle.std.specs.Prelude.{◌≤◌, ◌<◌, length};
+ghost use Rattle.std.specs.Prelude.{◌<◌};
 
 use allot::Allotted;
 use checks::Verdict;
@@ -13,7 +13,6 @@ use shown::word;
 use std::io;
 use tree::{Class, Tree};
 use units::Weight;
-use words::Number;
 
 // A case: a tree, and what is asked of it.
 #[derive(Drop)]
@@ -23,102 +22,54 @@ struct Case {
     requests: [u64; Tree::CLASSES],
 }
 
-// The place after the next space, or the end.
-fn after_space(line: &[u8], at: usize) -> usize
-    requires { at ≤ length line.now }
-    ensures { result ≤ length line.now }
-{
-    let space = at + words::place_of(&line[at..], b' ');
-    if space == line.len() {
-        return space;
-    }
-    space + 1
-}
-
-// The number from a place up to the next space; 0 where there is none.
-fn number_at(line: &[u8], at: usize) -> u64
-    requires { at ≤ length line.now }
-{
-    let end = at + words::place_of(&line[at..], b' ');
-    let number = words::read_number(&line[at..end]);
-    match number {
-        Number::Is(n) => n,
-        Number::No => 0,
-    }
+// The number that a word of a line is, words parted by single spaces and counted from 0; 0 where there is none.
+fn number_at(line: &[u8], k: usize) -> u64 {
+    let word = line.split(|byte| *byte == b' ').nth(k).unwrap_or(&[]);
+    words::read_number(word).unwrap_or(0)
 }
 
 // The number after the command's name, and the next.
 fn first(line: &[u8]) -> u64 {
-    number_at(line, after_space(line, 0))
+    number_at(line, 1)
 }
 
 fn second(line: &[u8]) -> u64 {
-    number_at(line, after_space(line, after_space(line, 0)))
+    number_at(line, 2)
 }
 
 // A case begins.
 fn begun(rt: &impl Print, line: &[u8]) -> io::Result<Case> {
     word(rt, line)?;
     word(rt, b"\n")?;
-    let tree = Tree::none();
-    let requests = [0u64; Tree::CLASSES];
     Ok(Case {
-        tree,
+        tree: Tree::none(),
         capacity: 0,
-        requests,
+        requests: [0; Tree::CLASSES],
     })
 }
 
-// A class more; a leaf's longest packet is 1.
-fn with_class(mut case: Case, line: &[u8], leaf: bool) -> Case {
-    let tree = case.tree;
-    if 62 < tree.count {
-        return case;
+impl Case {
+    // A class more; a leaf's longest packet is 1.
+    fn add_class(&mut self, line: &[u8], leaf: bool) {
+        if self.tree.count < Tree::MOST {
+            let weight = Weight((second(line) % 4_294_967_296) as u32);
+            let parent = (first(line) % 256) as u8;
+            self.tree = self.tree.added(Class {
+                parent,
+                weight,
+                longest: u16::from(leaf),
+                leaf,
+            });
+        }
     }
-    let weight = Weight((second(line) % 4_294_967_296) as u32);
-    let parent = (first(line) % 256) as u8;
-    let class = Class {
-        parent,
-        weight,
-        longest: leaf as u16,
-        leaf,
-    };
-    let more = tree.added(class);
-    case.tree = more;
-    case
-}
 
-// Another class count.
-fn with_count(mut case: Case, line: &[u8]) -> Case {
-    let mut tree = case.tree;
-    tree.count = first(line) as usize;
-    case.tree = tree;
-    case
-}
-
-// Another capacity.
-fn with_capacity(mut case: Case, line: &[u8]) -> Case {
-    case.capacity = first(line);
-    case
-}
-
-// The same request at all 64 class numbers.
-fn with_every(mut case: Case, line: &[u8]) -> Case {
-    let n = first(line);
-    let requests = [n; Tree::CLASSES];
-    case.requests = requests;
-    case
-}
-
-// Another request.
-fn with_request(mut case: Case, line: &[u8]) -> Case {
-    let class = first(line);
-    if 63 < class {
-        return case;
+    // Another request.
+    fn set_request(&mut self, line: &[u8]) {
+        let class = first(line) as usize;
+        if class < Tree::CLASSES {
+            self.requests[class] = second(line);
+        }
     }
-    let i = class as usize;
-    case.requests[i] = second(line);
-    case
 }
 
 // The rates of class number k; nothing where all are 0 and none has to be shown.
@@ -137,43 +88,39 @@ fn print_rate(rt: &impl Print, a: Allotted, k: usize, show: bool) -> io::Result<
 // Where a tree is refused, and whether it is not.
 fn print_stop(rt: &impl Print, verdict: Verdict) -> io::Result<bool> {
     match verdict {
-        Verdict::Passed => Ok(true),
-        Verdict::Refused(n, place) => {
-            shown::print(rt, Line::Stop(n as u64, place as u64))?;
+        Ok(()) => Ok(true),
+        Err(refused) => {
+            shown::stop(rt, refused)?;
             Ok(false)
         }
     }
 }
 
 // The lines of an answer: each class, and any other number that is not 0.
-fn answered(rt: &impl Print, case: Case) -> io::Result<Case> {
-    let tree = case.tree;
-    let requests = case.requests;
-    let a = allot::rates(tree, case.capacity, requests);
+fn answered(rt: &impl Print, case: &Case) -> io::Result<()> {
+    let a = allot::rates(case.tree, case.capacity, case.requests);
     let verdict = a.verdict;
     let passed = print_stop(rt, verdict)?;
     for k in 0..Tree::CLASSES {
-        print_rate(rt, a, k, passed && k <= tree.count)?;
+        print_rate(rt, a, k, passed && k <= case.tree.count)?;
     }
-    Ok(case)
+    Ok(())
 }
 
-// One command.
-fn command(rt: &impl Print, case: Case, line: &[u8]) -> io::Result<Case> {
-    if line.len() == 0 {
-        return Ok(case);
+// One command, by its first letter.
+fn command(rt: &impl Print, case: &mut Case, line: &[u8]) -> io::Result<()> {
+    match line.first() {
+        Some(b'#') => *case = begun(rt, line)?,
+        Some(b'i') => case.add_class(line, false),
+        Some(b'l') => case.add_class(line, true),
+        Some(b'w') => case.tree.count = first(line) as usize,
+        Some(b'c') => case.capacity = first(line),
+        Some(b'e') => case.requests = [first(line); Tree::CLASSES],
+        Some(b'r') => case.set_request(line),
+        Some(b'a') => answered(rt, case)?,
+        _ => {}
     }
-    match line[0] {
-        b'#' => begun(rt, line),
-        b'i' => Ok(with_class(case, line, false)),
-        b'l' => Ok(with_class(case, line, true)),
-        b'w' => Ok(with_count(case, line)),
-        b'c' => Ok(with_capacity(case, line)),
-        b'e' => Ok(with_every(case, line)),
-        b'r' => Ok(with_request(case, line)),
-        b'a' => answered(rt, case),
-        _ => Ok(case),
-    }
+    Ok(())
 }
 
 // Each line of a text.
@@ -182,17 +129,13 @@ fn each_line(rt: &impl Print, text: &[u8]) -> io::Result<()> {
         rt,
         b"Rates: rate CLASS REQUEST GETS UNALLOTTED for each class, or stop NUMBER PLACE",
     )?;
-    let mut at = 0;
-    while at < text.len() {
-        let end = at + words::place_of(&text[at..], b'\n');
-        case = command(rt, case, &text[at..end])?;
-        at = end + 1;
+    for line in text.split(|byte| *byte == b'\n') {
+        command(rt, &mut case, line)?;
     }
     Ok(())
 }
 
 fn main(rt: HostRuntime) -> io::Result<()> {
-    let mut input = [0u8; 65_536];
-    let n = shown::read_full(&rt, &mut input)?;
-    each_line(&rt, &input[..n])
+    let mut room = [0u8; 65_536];
+    shown::with_input(&rt, &mut room, |text| each_line(&rt, text))
 }

@@ -9,8 +9,10 @@ use native.Mathlib.Decide.{dec_lt, ℕ_discrete}
 use native.Mathlib.Omega.{arith}
 use lib.Dec.{ltb}
 use lib.ListN.{length, get_or, length-append, get_or-append}
-use Rattle.checks.specs.declared.Verdict.TheVariants.{Passed, Refused}
-use Rattle.checks.specs.Check.{first_broken}
+use Rattle.checks.specs.declared.Refusal.TheVariants.{NothingWaits}
+use Rattle.checks.specs.declared.Refusal.{Refusal}
+use Rattle.std.specs.Prelude.{Ok, Err}
+use Rattle.checks.specs.Check.{first_broken, refusal_at}
 use Rattle.checks.proofs.Laws.{refused_or_passed, not_both}
 use Rattle.sets.specs.Set.{has}
 use Rattle.tree.specs.Class.{is_leaf}
@@ -81,11 +83,11 @@ arrived_kept s i j p wide u = record {
 
 -- what holds before an arrival, and of the state with the packet where it is accepted, holds after it
 pub by_arrival : (P : State → Type 0) (l : Link) (j : ℕ) (p : Packet) (a : AfterArrival) → SoundLink l → Arrives l j p a → P (meaning l)
-    → (a.answer.verdict ≡ Passed → j < 64 → P (arrived (meaning l) j p)) → P (meaning a.link)
+    → (a.answer.verdict ≡ Ok tt → j < 64 → P (arrived (meaning l) j p)) → P (meaning a.link)
 by_arrival P l j p a sound x before taken = go (refused_or_passed (first_broken (arrival_checks true (meaning l) j p)))
   where
-    go : (first_broken (arrival_checks true (meaning l) j p) ≡ Passed)
-        ⊎ ((n : ℕ) × (q : ℕ) × (first_broken (arrival_checks true (meaning l) j p) ≡ Refused n q))
+    go : (first_broken (arrival_checks true (meaning l) j p) ≡ Ok tt)
+        ⊎ ((n : Refusal) × (q : ℕ) × (first_broken (arrival_checks true (meaning l) j p) ≡ Err (refusal_at n q)))
         → P (meaning a.link)
     go (inl e) =
         let said = ap (λ (r : AfterArrival). r.answer.verdict) (arrives_as l j p a sound x ∙ arrival_taken true l j p e) in
@@ -139,7 +141,7 @@ module _ (l : Link) (d : AfterSend) (sound : SoundLink l) (x : Sends l d) where
   wide = meaning_wide l x.shape.accounts
 
   pub sent_now : some_waits (meaning l) ≡ true → next_leaf (meaning l) < 64
-      → (d.answer.verdict ≡ Passed) × (d.answer.class ≡ next_leaf (meaning l)) × (d.answer.rounds ≡ 0)
+      → (d.answer.verdict ≡ Ok tt) × (d.answer.class ≡ next_leaf (meaning l)) × (d.answer.rounds ≡ 0)
       × (meaning d.link ≡ sent_state (meaning l) (next_leaf (meaning l)))
   unfolding trace_of
   sent_now waits found =
@@ -162,7 +164,7 @@ module _ (l : Link) (d : AfterSend) (sound : SoundLink l) (x : Sends l d) where
           let count = ap (λ (r : AfterSend). r.answer.rounds) (sent_is l d sound x waits) in
           absurd (omega (arith, some, count, none))
 
-  pub nothing : some_waits (meaning l) ≡ false → (d.answer.verdict ≡ Refused 15 0) × (d.link ≡ l) × (d.answer.rounds ≡ 0)
+  pub nothing : some_waits (meaning l) ≡ false → (d.answer.verdict ≡ Err (refusal_at NothingWaits 0)) × (d.link ≡ l) × (d.answer.rounds ≡ 0)
   nothing none =
       let is = sends_as l d sound x ∙ send_nothing l none in (
         ap (λ (r : AfterSend). r.answer.verdict) is,
@@ -171,7 +173,7 @@ module _ (l : Link) (d : AfterSend) (sound : SoundLink l) (x : Sends l d) where
       )
 
   -- where none opens, a leaf that does not send is kept
-  pub quiet_kept : (i : ℕ) → is_leaf l.tree i ≡ true → d.answer.rounds ≡ 0 → (d.answer.verdict ≡ Passed → d.answer.class ≡ i → ⊥)
+  pub quiet_kept : (i : ℕ) → is_leaf l.tree i ≡ true → d.answer.rounds ≡ 0 → (d.answer.verdict ≡ Ok tt → d.answer.class ≡ i → ⊥)
       → Kept (meaning l) (meaning d.link) i
   quiet_kept i leaf none other = go (some_waits (meaning l)) refl
     where
@@ -186,7 +188,7 @@ module _ (l : Link) (d : AfterSend) (sound : SoundLink l) (x : Sends l d) where
 
   -- a leaf that the search does not find does not send
   pub quiet_other : (i : ℕ) → d.answer.rounds ≡ 0 → (next_leaf (meaning l) < 64 → next_leaf (meaning l) ≡ i → ⊥)
-      → d.answer.verdict ≡ Passed → d.answer.class ≡ i → ⊥
+      → d.answer.verdict ≡ Ok tt → d.answer.class ≡ i → ⊥
   quiet_other i none never passed at = go (some_waits (meaning l)) refl
     where
       go : (b : Bool) → some_waits (meaning l) ≡ b → ⊥

@@ -6,9 +6,8 @@ use native.Mathlib.Decide.{dec_le}
 use native.Mathlib.Omega.{arith}
 use lib.ListN.{length}
 use borrow.Author.Tests.{not-false}
-use Rattle.checks.specs.declared.Verdict.{Verdict}
-use Rattle.checks.specs.declared.Verdict.TheVariants.{Passed, Refused}
-use Rattle.checks.specs.Check.{first_broken}
+use Rattle.std.specs.Prelude.{Ok, Err}
+use Rattle.checks.specs.Check.{first_broken, Verdict, refusal_at}
 use Rattle.checks.proofs.Laws.{exactly_unique, not_both, not_true_and_false, passed_parts}
 use Rattle.sets.specs.Set.{has}
 use Rattle.units.specs.Cost.{cost_of}
@@ -22,8 +21,7 @@ use Rattle.rules.specs.Sending.{first_of}
 use Rattle.calls.specs.Arrival.{no_leaf}
 use Rattle.reasons.specs.declared.Reason.{Reason}
 use Rattle.reasons.specs.declared.Reason.TheVariants.{Empty, Waits, Short, Due}
-use Rattle.reasons.specs.declared.Silence.{Silence}
-use Rattle.reasons.specs.declared.Silence.TheVariants.{Because, NotTold}
+use Rattle.reasons.specs.Answer.{Silence}
 use Rattle.reasons.specs.Reason.{IsTrue}
 use Rattle.reasons.specs.Answer.{silent_checks, told_verdict, SaysWhy}
 
@@ -79,7 +77,7 @@ module _ (s : State) (sound : Sound s) (i : ℕ) (leaf : is_leaf s.tree i ≡ tr
   exactly_one = (some_reason.0, some_reason.1, λ q is. one_reason q some_reason.0 is some_reason.1)
 
 -- where nothing is refused the link is sound and the class is a leaf
-pub told : (l : Link) (class : ℕ) (b : Bool) → first_broken (silent_checks b (meaning l) class) ≡ Passed
+pub told : (l : Link) (class : ℕ) (b : Bool) → first_broken (silent_checks b (meaning l) class) ≡ Ok tt
     → (b ≡ true) × (is_leaf l.tree class ≡ true)
 unfolding no_leaf
 told l class b e =
@@ -98,19 +96,19 @@ one_answer l class a b x y = go a b refl refl
     verdicts = x.verdict ∙ ap (λ (z : Bool). first_broken (silent_checks z (meaning l) class)) same ∙ sym y.verdict
 
     go : (p q : Silence) → a ≡ p → b ≡ q → a ≡ b
-    go (Because r) (Because q) e f =
+    go (Ok r) (Ok q) e f =
         let t = told l class x.sound (sym x.verdict ∙ ap told_verdict e) in
         e
-        ∙ ap Because
+        ∙ ap Ok
         (one_reason (meaning l) (x.exactly.sound t.0).state class t.1 r q (x.reason r e) (y.reason q f))
         ∙ sym f
-    go (Because r) (NotTold n p) e f = absurd (not_both (ap told_verdict e) (verdicts ∙ ap told_verdict f))
-    go (NotTold n p) (Because q) e f = absurd (not_both (ap told_verdict f) (sym verdicts ∙ ap told_verdict e))
-    go (NotTold n p) (NotTold m o) e f = e ∙ again (sym (ap told_verdict e) ∙ verdicts ∙ ap told_verdict f) ∙ sym f
+    go (Ok r) (Err n) e f = absurd (not_both (ap told_verdict e) (verdicts ∙ ap told_verdict f))
+    go (Err n) (Ok q) e f = absurd (not_both (ap told_verdict f) (sym verdicts ∙ ap told_verdict e))
+    go (Err n) (Err m) e f = e ∙ again (sym (ap told_verdict e) ∙ verdicts ∙ ap told_verdict f) ∙ sym f
       where
         silence : Verdict → Silence
-        silence Passed = NotTold 0 0
-        silence (Refused n p) = NotTold n p
+        silence (Ok _) = Err n
+        silence (Err e) = Err e
 
-        again : Refused n p ≡ Refused m o → NotTold n p ≡ NotTold m o
+        again : ◌≡◌ {A = Verdict} (Err n) (Err m) → ◌≡◌ {A = Silence} (Err n) (Err m)
         again z = ap silence z

@@ -9,7 +9,7 @@ use Prim.Native.Nat.{ℕ, ◌+◌, ◌-◌, ◌≤◌, ◌<◌}
 use native.Mathlib.Decide.{dec_lt}
 use native.Mathlib.Omega.{arith}
 use lib.ListN.{length}
-use Rattle.checks.specs.declared.Verdict.TheVariants.{Passed}
+use Rattle.std.specs.Prelude.{Ok}
 use Rattle.checks.proofs.Laws.{not_both, not_true_and_false}
 use Rattle.sets.specs.Set.{has}
 use Rattle.units.specs.Cost.{cost_of}
@@ -107,7 +107,7 @@ short_promise i n ms l sound leaf w run opens =
 
 -- one call on a link whose class i holds no packet
 empty_arrival : (l : Link) (i j : ℕ) (p : Packet) (a : AfterArrival) → SoundLink l → HoldsNone (meaning l) i → Arrives l j p a
-    → (a.answer.verdict ≡ Passed → j ≡ i → ⊥) → HoldsNone (meaning a.link) i
+    → (a.answer.verdict ≡ Ok tt → j ≡ i → ⊥) → HoldsNone (meaning a.link) i
 empty_arrival l i j p a sound none x takes =
     let wide = meaning_wide l x.shape.accounts in
     by_arrival (λ r. HoldsNone r i) l j p a sound x none (λ said low. record {
@@ -115,11 +115,11 @@ empty_arrival l i j p a sound none x takes =
     })
 
 empty_send : (l : Link) (i : ℕ) (d : AfterSend) → SoundLink l → HoldsNone (meaning l) i → Sends l d
-    → (d.answer.verdict ≡ Passed → d.answer.class ≡ i → ⊥) × HoldsNone (meaning d.link) i
+    → (d.answer.verdict ≡ Ok tt → d.answer.class ≡ i → ⊥) × HoldsNone (meaning d.link) i
 empty_send l i d sound none x = go (some_waits (meaning l)) refl
   where
     go : (b : Bool) → some_waits (meaning l) ≡ b
-        → (d.answer.verdict ≡ Passed → d.answer.class ≡ i → ⊥) × HoldsNone (meaning d.link) i
+        → (d.answer.verdict ≡ Ok tt → d.answer.class ≡ i → ⊥) × HoldsNone (meaning d.link) i
     go false e = (
       λ passed at. not_both passed (nothing l d sound x e).0,
       subst (λ (m : Link). HoldsNone (meaning m) i) (sym (nothing l d sound x e).1) none,
@@ -129,7 +129,7 @@ empty_send l i d sound none x = go (some_waits (meaning l)) refl
         first : SendsFirst l d
         first = (progress l d sound x).sends e
 
-        not_i : d.answer.verdict ≡ Passed → d.answer.class ≡ i → ⊥
+        not_i : d.answer.verdict ≡ Ok tt → d.answer.class ≡ i → ⊥
         not_i passed at =
             let holds = ap length first.queue in
             let here = ap (λ (k : ℕ). length (queue_at (meaning l) k)) at in
@@ -169,7 +169,7 @@ due_send l i d sound leaf due x before = go (some_waits (meaning l)) refl
     go true e =
         let low = leaf_number l.tree i sound.state.fits.tree leaf in
         let now = sent_now l d sound x e (omega (arith, before, low)) in
-        let other : d.answer.verdict ≡ Passed → d.answer.class ≡ i → ⊥ = λ passed at. omega (arith, before, now.1, at) in
+        let other : d.answer.verdict ≡ Ok tt → d.answer.class ≡ i → ⊥ = λ passed at. omega (arith, before, now.1, at) in
         let k = quiet_kept l d sound x i leaf now.2 other in
         let place = ap (λ (s : State). s.round.place) now.3 in (
           now.2,
@@ -205,7 +205,7 @@ due_promise i (made send answer after ∷ ms) l sound leaf due run =
 
 -- when the search comes to it, it sends, or its balance is smaller than what its first packet is charged
 pub reached_then : (i : ℕ) (l : Link) (d : AfterSend) → SoundLink l → is_leaf l.tree i ≡ true → CameTo (meaning l) i → Sends l d
-    → d.answer.verdict ≡ Passed
+    → d.answer.verdict ≡ Ok tt
     → ((d.answer.class ≡ i) × (d.answer.rounds ≡ 0)) ⊎ (balance_of l.round.accounts i < cost_of (first_of (meaning l) i).length)
 unfolding next_leaf
 reached_then i l d sound leaf reached x passed = go (ready s i) refl

@@ -1,6 +1,5 @@
 -- What a reason promises of the calls that follow (R214 to R217): each said of one call, and of all calls of a run. Demand 2.
-use Rattle.std.specs.Prelude.{false, List, [], ◌∷◌, ◌⊎◌, ◌≡◌, ℕ, ◌≤◌, ◌<◌}
-use Rattle.checks.specs.declared.Verdict.TheVariants.{Passed}
+use Rattle.std.specs.Prelude.{false, List, [], ◌∷◌, ◌⊎◌, ◌≡◌, ℕ, ◌≤◌, ◌<◌, Ok}
 use Rattle.state.specs.declared.Link.{Link}
 use Rattle.state.specs.State.{State, meaning}
 use Rattle.rules.specs.Sending.{ready}
@@ -10,11 +9,11 @@ use Rattle.reasons.specs.Reason.{StillDue}
 -- the call sends no packet of class i (R214 to R217)
 abbrev pub SendsNone : ℕ → Made → Type 0
 SendsNone i (made (arrival class p) answer after) = Unit {0}
-SendsNone i (made send answer after) = answer.verdict ≡ Passed → answer.class ≡ i → ⊥
+SendsNone i (made send answer after) = answer.verdict ≡ Ok tt → answer.class ≡ i → ⊥
 
 -- the call is no accepted arrival to class i (R214)
 abbrev pub TakesNone : ℕ → Made → Type 0
-TakesNone i (made (arrival class p) answer after) = answer.verdict ≡ Passed → class ≡ i → ⊥
+TakesNone i (made (arrival class p) answer after) = answer.verdict ≡ Ok tt → class ≡ i → ⊥
 TakesNone i (made send answer after) = Unit {0}
 
 -- the call opens no round (R215 to R217)

@@ -10,9 +10,9 @@ ghost use Rattle.sound.specs.Sound.{SoundLink};
 ghost use Rattle.reasons.specs.Reason.{IsTrue};
 ghost use Rattle.reasons.specs.Answer.{SaysWhy};
 
+use checks::{Refusal, Refused};
 use state::Link;
 use state::queue::slot;
-use tree::wide;
 use units::Bytes;
 
 // Why a leaf sends nothing.
@@ -28,12 +28,8 @@ pub enum Reason {
     Due,
 }
 
-// The answer: a reason, or a refusal's number and place.
-#[derive(Clone, Copy)]
-pub enum Silence {
-    Because(Reason),
-    NotTold(u8, usize),
-}
+// The answer: a reason, or what is refused.
+pub type Silence = Result<Reason, Refused>;
 
 // What a balance lacks of what a packet is charged.
 pub fn shortfall(balance: Bytes, first: u16) -> Bytes
@@ -58,7 +54,7 @@ fn reason_of(link: Link, class: usize) -> Reason
     if link.round.place <= class {
         return Reason::Due;
     }
-    let at = slot(class, wide(link.start[class]));
+    let at = slot(class, usize::from(link.start[class]));
     let round = link.round;
     let account = round.accounts[class];
     let balance = account.balance;
@@ -71,12 +67,12 @@ pub fn why(link: Link, class: usize) -> Silence
     ensures { SaysWhy link class result }
 {
     if !sound::is_sound(link) {
-        return Silence::NotTold(checks::NOT_SOUND, 0);
+        return Err(Refused(Refusal::NotSound, 0));
     }
     let tree = link.tree;
     if !sets::holds(tree.leaves, class) {
-        return Silence::NotTold(checks::NO_LEAF, class);
+        return Err(Refused(Refusal::NoLeaf, class));
     }
     let reason = reason_of(link, class);
-    Silence::Because(reason)
+    Ok(reason)
 }

@@ -3,10 +3,8 @@ use mathlib.Core.List.{List}
 use mathlib.Core.Path.{◌≡◌, sym, ap, subst, ◌∙◌}
 use Prim.Native.Nat.{ℕ, ◌≤◌}
 use lib.ListN.{length, drop}
-use Rattle.checks.specs.declared.Verdict.{Verdict}
-use Rattle.checks.specs.Check.{first_broken, input_checks}
-use Rattle.plan.specs.declared.EventRead.{EventRead}
-use Rattle.plan.specs.Event.{used_of, event_at}
+use Rattle.checks.specs.Check.{first_broken, input_checks, Verdict}
+use Rattle.plan.specs.Event.{used_of, event_at, EventRead}
 use Rattle.plan.proofs.EventLaws.{event_fits}
 use Rattle.plan.specs.declared.PlanRead.{PlanRead}
 use Rattle.plan.specs.Reader.{plan_of}

@@ -5,15 +5,13 @@ use mathlib.Core.Path.{◌≡◌, refl, sym, ap, subst, ◌∙◌}
 use Prim.Native.Nat.{ℕ, zero, suc, ◌+◌, ◌-◌, ◌≤◌, ◌<◌}
 use native.Mathlib.Omega.{arith}
 use lib.ListN.{length, drop, length-drop}
-use Rattle.checks.specs.declared.Verdict.{Verdict}
-use Rattle.checks.specs.declared.Verdict.TheVariants.{Passed, Refused}
-use Rattle.checks.specs.Check.{first_broken, input_checks, Exactly}
+use Rattle.plan.specs.declared.event.Event.TheVariants.{Arrive, SendNext}
+use Rattle.std.specs.Prelude.{Ok, Err, Some, None}
+use Rattle.checks.specs.Check.{first_broken, input_checks, Exactly, Verdict}
 use Rattle.checks.proofs.Laws.{not_true_and_false, exactly_yes}
-use Rattle.plan.specs.declared.EventRead.{EventRead}
-use Rattle.plan.specs.declared.EventRead.TheVariants.{NoMore, Arrive, SendNext, Fault}
 use Rattle.plan.specs.Reader.{plan_of}
 use Rattle.plan.proofs.Numbers.{plan_rules}
-use Rattle.plan.specs.Event.{event_at}
+use Rattle.plan.specs.Event.{event_at, EventRead}
 use Rattle.state.specs.declared.Link.{Link}
 use Rattle.sound.specs.Sound.{SoundLink}
 use Rattle.calls.specs.Arrival.{arrival_of}
@@ -32,11 +30,11 @@ use Rattle.run.proofs.Events.{used_fits}
 module _ (l : Link) (input : List ℕ) (place : ℕ) where
   on_by : (sound : Bool) (e : EventRead) → event_at (drop place input) place ≡ e → (event_gives sound l place e).more ≡ true
       → (place < (event_gives sound l place e).place) × ((event_gives sound l place e).place ≤ length input)
-  on_by sound NoMore same m = absurd (not_true_and_false m refl)
-  on_by sound (Arrive a) same m =
-      (omega arith, omega (arith, used_fits input place (Arrive a) same, length-drop place input))
-  on_by sound SendNext same m = (omega arith, omega (arith, used_fits input place SendNext same, length-drop place input))
-  on_by sound (Fault n p) same m = absurd (not_true_and_false m refl)
+  on_by sound (Ok None) same m = absurd (not_true_and_false m refl)
+  on_by sound (Ok (Some (Arrive a))) same m =
+      (omega arith, omega (arith, used_fits input place (Ok (Some (Arrive a))) same, length-drop place input))
+  on_by sound (Ok (Some SendNext)) same m = (omega arith, omega (arith, used_fits input place (Ok (Some SendNext)) same, length-drop place input))
+  on_by sound (Err _) same m = absurd (not_true_and_false m refl)
 
   pub step_on : (sound : Bool) → (step_of sound l input place).more ≡ true
       → (place < (step_of sound l input place).place) × ((step_of sound l input place).place ≤ length input)
@@ -53,36 +51,36 @@ module _ (l : Link) (input : List ℕ) (place : ℕ) where
       subst (λ (s : Step). SoundLink s.link) (sym g.step) (meets_keeps l (made call g.answer g.after) sound g.meets)
 
   gives_as : (sound : Bool) (e : EventRead) (r : Step) → Exactly sound (SoundLink l) → Gives l place e r → r ≡ event_gives sound l place e
-  gives_as sound NoMore r x g = g
-  gives_as sound (Arrive a) r x g = calls_as sound (arrival a.class (packet_in a)) (place + 8) r x g
-  gives_as sound SendNext r x g = calls_as sound send (place + 1) r x g
-  gives_as sound (Fault n p) r x g = g
+  gives_as sound (Ok None) r x g = g
+  gives_as sound (Ok (Some (Arrive a))) r x g = calls_as sound (arrival a.class (packet_in a)) (place + 8) r x g
+  gives_as sound (Ok (Some SendNext)) r x g = calls_as sound send (place + 1) r x g
+  gives_as sound (Err _) r x g = g
 
   gives_keeps : (e : EventRead) (r : Step) → SoundLink l → Gives l place e r → SoundLink r.link
-  gives_keeps NoMore r sound g = subst (λ (s : Step). SoundLink s.link) (sym g) sound
-  gives_keeps (Arrive a) r sound g = calls_keeps (arrival a.class (packet_in a)) (place + 8) r sound g
-  gives_keeps SendNext r sound g = calls_keeps send (place + 1) r sound g
-  gives_keeps (Fault n p) r sound g = subst (λ (s : Step). SoundLink s.link) (sym g) sound
+  gives_keeps (Ok None) r sound g = subst (λ (s : Step). SoundLink s.link) (sym g) sound
+  gives_keeps (Ok (Some (Arrive a))) r sound g = calls_keeps (arrival a.class (packet_in a)) (place + 8) r sound g
+  gives_keeps (Ok (Some SendNext)) r sound g = calls_keeps send (place + 1) r sound g
+  gives_keeps (Err _) r sound g = subst (λ (s : Step). SoundLink s.link) (sym g) sound
 
   gives_on : (e : EventRead) (r : Step) → event_at (drop place input) place ≡ e → Gives l place e r → r.more ≡ true → (place < r.place)
       × (r.place ≤ length input)
-  gives_on NoMore r same g m = absurd (not_true_and_false m (ap (λ (s : Step). s.more) g))
-  gives_on (Arrive a) r same g m =
-      subst (λ (s : Step). (place < s.place) × (s.place ≤ length input)) (sym g.step) (on_by true (Arrive a) same refl)
-  gives_on SendNext r same g m =
-      subst (λ (s : Step). (place < s.place) × (s.place ≤ length input)) (sym g.step) (on_by true SendNext same refl)
-  gives_on (Fault n p) r same g m = absurd (not_true_and_false m (ap (λ (s : Step). s.more) g))
+  gives_on (Ok None) r same g m = absurd (not_true_and_false m (ap (λ (s : Step). s.more) g))
+  gives_on (Ok (Some (Arrive a))) r same g m =
+      subst (λ (s : Step). (place < s.place) × (s.place ≤ length input)) (sym g.step) (on_by true (Ok (Some (Arrive a))) same refl)
+  gives_on (Ok (Some SendNext)) r same g m =
+      subst (λ (s : Step). (place < s.place) × (s.place ≤ length input)) (sym g.step) (on_by true (Ok (Some SendNext)) same refl)
+  gives_on (Err _) r same g m = absurd (not_true_and_false m (ap (λ (s : Step). s.more) g))
 
   -- two answers are one: the contract of the call has the flag that decides
   gives_one : (e : EventRead) (r r' : Step) → Gives l place e r → Gives l place e r' → r ≡ r'
-  gives_one NoMore r r' x y = x ∙ sym y
-  gives_one (Arrive a) r r' x y =
+  gives_one (Ok None) r r' x y = x ∙ sym y
+  gives_one (Ok (Some (Arrive a))) r r' x y =
       let m = x.meets in
-      gives_as m.sound (Arrive a) r m.exactly x ∙ sym (gives_as m.sound (Arrive a) r' m.exactly y)
-  gives_one SendNext r r' x y =
+      gives_as m.sound (Ok (Some (Arrive a))) r m.exactly x ∙ sym (gives_as m.sound (Ok (Some (Arrive a))) r' m.exactly y)
+  gives_one (Ok (Some SendNext)) r r' x y =
       let m = x.meets in
-      gives_as m.sound SendNext r m.exactly x ∙ sym (gives_as m.sound SendNext r' m.exactly y)
-  gives_one (Fault n p) r r' x y = x ∙ sym y
+      gives_as m.sound (Ok (Some SendNext)) r m.exactly x ∙ sym (gives_as m.sound (Ok (Some SendNext)) r' m.exactly y)
+  gives_one (Err _) r r' x y = x ∙ sym y
 
   pub next_as : (sound : Bool) (r : Step) → Exactly sound (SoundLink l) → GoesOn l input place r → r ≡ step_of sound l input place
   unfolding step_of
@@ -91,10 +89,10 @@ module _ (l : Link) (input : List ℕ) (place : ℕ) where
   -- an event on a record that is not sound leaves it
   gives_unsound : (e : EventRead) → (event_gives false l place e).link ≡ l
   unfolding arrival_of send_of first_broken
-  gives_unsound NoMore = refl
-  gives_unsound (Arrive a) = refl
-  gives_unsound SendNext = refl
-  gives_unsound (Fault n p) = refl
+  gives_unsound (Ok None) = refl
+  gives_unsound (Ok (Some (Arrive a))) = refl
+  gives_unsound (Ok (Some SendNext)) = refl
+  gives_unsound (Err _) = refl
 
   step_unsound : (step_of false l input place).link ≡ l
   unfolding step_of
@@ -124,8 +122,8 @@ unfolding begin_of
 begin_sound input m = go (plan_of input).verdict refl m
   where
     go : (v : Verdict) → (plan_of input).verdict ≡ v → (plan_gives v (plan_of input)).more ≡ true → SoundLink (plan_gives v (plan_of input)).link
-    go Passed e m = fresh_sound (plan_of input).tree (plan_rules input (plan_of input) refl e)
-    go (Refused n p) e m = absurd (not_true_and_false m refl)
+    go (Ok _) e m = fresh_sound (plan_of input).tree (plan_rules input (plan_of input) refl e)
+    go (Err _) e m = absurd (not_true_and_false m refl)
 
 -- ---- the lines, without a count of steps
 
@@ -138,13 +136,13 @@ events_suc n input place = refl
 -- what is read after an event matters only where it is a call, from a place within the input
 first_same : (input : List ℕ) (place : ℕ) (e : EventRead) (x y : ℕ → EventsRead) → event_at (drop place input) place ≡ e
     → ((used : ℕ) → 1 ≤ used → place + used ≤ length input → x used ≡ y used) → event_first e x ≡ event_first e y
-first_same input place NoMore x y same later = refl
-first_same input place (Arrive a) x y same later =
+first_same input place (Ok None) x y same later = refl
+first_same input place (Ok (Some (Arrive a))) x y same later =
     ap (call_first (arrival a.class (packet_in a)))
-    (later 8 (omega arith) (omega (arith, used_fits input place (Arrive a) same, length-drop place input)))
-first_same input place SendNext x y same later =
-    ap (call_first send) (later 1 (omega arith) (omega (arith, used_fits input place SendNext same, length-drop place input)))
-first_same input place (Fault n p) x y same later = refl
+    (later 8 (omega arith) (omega (arith, used_fits input place (Ok (Some (Arrive a))) same, length-drop place input)))
+first_same input place (Ok (Some SendNext)) x y same later =
+    ap (call_first send) (later 1 (omega arith) (omega (arith, used_fits input place (Ok (Some SendNext)) same, length-drop place input)))
+first_same input place (Err _) x y same later = refl
 
 -- enough events are enough
 events_enough : (n m : ℕ) (input : List ℕ) (place : ℕ) → place ≤ length input → length input < place + n → length input < place + m
@@ -194,10 +192,10 @@ lines_next l input place =
 
     go : (e : EventRead) → event_lines l (event_first e (λ used. events_from (suc (length input)) input (place + used)))
         ≡ (event_gives true l place e).line ∷ rest_of (event_gives true l place e)
-    go NoMore = lines_last l NoMore
-    go (Arrive a) = lines_call l (arrival a.class (packet_in a)) (events_from (suc (length input)) input (place + 8))
-    go SendNext = lines_call l send (events_from (suc (length input)) input (place + 1))
-    go (Fault n p) = lines_last l (Fault n p)
+    go (Ok None) = lines_last l (Ok None)
+    go (Ok (Some (Arrive a))) = lines_call l (arrival a.class (packet_in a)) (events_from (suc (length input)) input (place + 8))
+    go (Ok (Some SendNext)) = lines_call l send (events_from (suc (length input)) input (place + 1))
+    go (Err e) = lines_last l (Err e)
 
 pub lines_begin : (input : List ℕ) → lines_of input ≡ (begin_of input).line ∷ following (begin_of input).link input (begin_of input).place
     (begin_of input).more
@@ -220,8 +218,8 @@ lines_first input = go (first_broken (input_checks (length input)))
   where
     go : (v : Verdict) → lines_after v input ≡ (input_gives v input).line ∷ following (input_gives v input).link input
         (input_gives v input).place (input_gives v input).more
-    go Passed = lines_begin input
-    go (Refused n p) = refl
+    go (Ok _) = lines_begin input
+    go (Err _) = refl
 
 -- it goes on with a sound link
 pub first_sound : (input : List ℕ) → (program_begins input).more ≡ true → SoundLink (program_begins input).link
@@ -229,8 +227,8 @@ unfolding program_begins
 first_sound input m = go (first_broken (input_checks (length input))) m
   where
     go : (v : Verdict) → (input_gives v input).more ≡ true → SoundLink (input_gives v input).link
-    go Passed m = begin_sound input m
-    go (Refused n p) m = absurd (not_true_and_false m refl)
+    go (Ok _) m = begin_sound input m
+    go (Err _) m = absurd (not_true_and_false m refl)
 
 -- how many steps a run has left at most: a loop over them, or over parts, ends
 pub steps_left : List ℕ → Bool → ℕ → ℕ

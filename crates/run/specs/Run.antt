@@ -1,12 +1,9 @@
 -- The lines of a whole run, from the input's bytes (R185 to R188). Demands 1 and 2.
-use Rattle.std.specs.Prelude.{true, false, List, [], ◌∷◌, ◌++◌, map, ℕ, zero, suc, ◌+◌, length, drop}
-use Rattle.checks.specs.declared.Verdict.{Verdict}
-use Rattle.checks.specs.declared.Verdict.TheVariants.{Passed, Refused}
-use Rattle.checks.specs.Check.{first_broken, input_checks}
-use Rattle.plan.specs.declared.EventRead.{EventRead}
-use Rattle.plan.specs.declared.EventRead.TheVariants.{NoMore, Arrive, SendNext, Fault}
+use Rattle.plan.specs.declared.event.Event.TheVariants.{Arrive, SendNext}
+use Rattle.std.specs.Prelude.{true, false, List, [], ◌∷◌, ◌++◌, map, ℕ, zero, suc, ◌+◌, length, drop, Ok, Err, Some, None}
+use Rattle.checks.specs.Check.{first_broken, input_checks, Verdict, number}
 use Rattle.plan.specs.declared.PlanRead.{PlanRead}
-use Rattle.plan.specs.Event.{used_of, event_at}
+use Rattle.plan.specs.Event.{used_of, event_at, EventRead}
 use Rattle.plan.specs.Reader.{plan_of}
 use Rattle.state.specs.declared.Link.{Link}
 use Rattle.state.specs.State.{no_link}
@@ -20,13 +17,13 @@ use Rattle.run.specs.Event.{packet_in, call_line, last_line}
 
 -- `link` classes Q, and the events follow; or `stop` number place for a refused plan (R187, R188, R195)
 abbrev pub plan_gives : Verdict → PlanRead → Step
-plan_gives Passed read = record {
+plan_gives (Ok _) read = record {
   line = LinkLine read.tree.count (round_size read.tree);
   more = true;
   link = (fresh_of true read.tree).link;
   place = read.used;
 }
-plan_gives (Refused n p) read = record { line = Stop n p; more = false; link = no_link; place = 0 }
+plan_gives (Err e) read = record { line = Stop (number e.0) e.1; more = false; link = no_link; place = 0 }
 
 unfoldable pub begin_of : List ℕ → Step
 begin_of input = plan_gives (plan_of input).verdict (plan_of input)
@@ -44,14 +41,14 @@ call_first call rest = record { calls = call ∷ rest.calls; last = rest.last }
 
 -- an event, and those after the bytes that it used
 abbrev pub event_first : EventRead → (ℕ → EventsRead) → EventsRead
-event_first NoMore later = no_call NoMore
-event_first (Arrive a) later = call_first (arrival a.class (packet_in a)) (later (used_of (Arrive a)))
-event_first SendNext later = call_first send (later (used_of SendNext))
-event_first (Fault n p) later = no_call (Fault n p)
+event_first (Ok None) later = no_call (Ok None)
+event_first (Ok (Some (Arrive a))) later = call_first (arrival a.class (packet_in a)) (later (used_of (Ok (Some (Arrive a)))))
+event_first (Ok (Some SendNext)) later = call_first send (later (used_of (Ok (Some SendNext))))
+event_first (Err e) later = no_call (Err e)
 
 -- the events from a place on; n is more than there can be
 unfoldable pub events_from : ℕ → List ℕ → ℕ → EventsRead
-events_from zero input place = no_call NoMore
+events_from zero input place = no_call (Ok None)
 events_from (suc n) input place = event_first (event_at (drop place input) place) (λ used. events_from n input (place + used))
 
 -- their lines: one for each call of the run that they make from a link, and the last line (R185)
@@ -68,16 +65,16 @@ lines_of input =
 
 -- what the program prints: 10 before all else, and then nothing runs (R2, R186)
 abbrev pub lines_after : Verdict → List ℕ → List Line
-lines_after Passed input = lines_of input
-lines_after (Refused n p) input = Stop n p ∷ []
+lines_after (Ok _) input = lines_of input
+lines_after (Err e) input = Stop (number e.0) e.1 ∷ []
 
 unfoldable pub program_lines : List ℕ → List Line
 program_lines input = lines_after (first_broken (input_checks (length input))) input
 
 -- its first step: the plan's, or number 10 (R186)
 abbrev pub input_gives : Verdict → List ℕ → Step
-input_gives Passed input = begin_of input
-input_gives (Refused n p) input = record { line = Stop n p; more = false; link = no_link; place = 0 }
+input_gives (Ok _) input = begin_of input
+input_gives (Err e) input = record { line = Stop (number e.0) e.1; more = false; link = no_link; place = 0 }
 
 unfoldable pub program_begins : List ℕ → Step
 program_begins input = input_gives (first_broken (input_checks (length input))) input

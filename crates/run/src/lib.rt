@@ -2,17 +2,19 @@
 // Serves demands 1 and 2: the lines are those of R185 to R195, from the input's bytes, whatever they are (R196).
 #![tactic(auto)]
 
-ghost use Rattle.std.specs.Prelude.{◌≡◌, true};
-ghost use Rattle.checks.specs.declared.Verdict.TheVariants.{Passed};
+ghost use Rattle.checks.specs.Check.{refusal_at};
+ghost use Rattle.std.specs.Prelude.{◌≡◌, Ok};
 ghost use Rattle.tree.specs.Rules.{PlanRules};
-ghost use Rattle.plan.specs.declared.EventRead.TheVariants.{NoMore, Fault};
 ghost use Rattle.calls.specs.Run.{arrival, send};
-ghost use Rattle.run.specs.Event.{packet_in, arrival_line, send_line, last_line, event_gives, Calls, GoesOn};
+ghost use Rattle.checks.specs.Check.{number};
+ghost use Rattle.lines.specs.declared.Line.TheVariants.{Stop};
+ghost use Rattle.run.specs.Event.{packet_in, arrival_line, send_line, last_line, last_step, Calls, GoesOn};
 ghost use Rattle.run.specs.Run.{plan_gives, begin_of, program_begins};
 
-use checks::Verdict;
+use checks::Refused;
 use lines::Line;
 use link::{Arrival, Departure};
+use plan::event::Event;
 use plan::{Arrived, EventRead, PlanRead};
 use state::{Link, Packet};
 
@@ -34,8 +36,8 @@ pub fn arrival_line(answer: Arrival, a: Arrived) -> Line
     let tag = a.tag as u64;
     let verdict = answer.verdict;
     match verdict {
-        Verdict::Passed => Line::In(class, length, tag, answer.bytes.0),
-        Verdict::Refused(n, _) => Line::No(class, length, tag, n as u64),
+        Ok(()) => Line::In(class, length, tag, answer.bytes.0),
+        Err(refused) => Line::No(class, length, tag, refused.0.number() as u64),
     }
 }
 
@@ -45,46 +47,41 @@ pub fn send_line(d: Departure) -> Line
 {
     let verdict = d.verdict;
     match verdict {
-        Verdict::Passed => Line::Out(
+        Ok(()) => Line::Out(
             d.class as u64,
             d.length as u64,
             d.tag as u64,
             d.rounds as u64,
             d.waited,
         ),
-        Verdict::Refused(_, _) => Line::Nothing,
+        Err(_) => Line::Nothing,
     }
 }
 
-// The line of the normal end: the packets still waiting, as the root counts them.
-pub fn end_line(link: Link) -> Line
-    ensures { result ≡ last_line NoMore link }
+// The line of what is refused: its number and its place.
+pub fn stop_line(refused: Refused) -> Line
+    ensures { result ≡ Stop (number refused.0) refused.1 }
 {
-    let totals = link.totals;
-    let packets = totals.packets;
-    Line::End(packets[0])
+    let Refused(refusal, place) = refused;
+    Line::Stop(refusal.number() as u64, place as u64)
 }
 
-// The normal end.
-fn end(link: Link, place: usize) -> Step
-    ensures { result ≡ event_gives true link place NoMore }
+// The last line, of an event that is no call: the packets still waiting, as the root counts them, or the refusal of a record.
+pub fn last_line(read: EventRead, link: Link) -> Line
+    ensures { result ≡ last_line read link }
 {
-    let line = end_line(link);
-    Step {
-        line,
-        more: false,
-        link,
-        place,
+    match read {
+        Ok(_) => Line::End(link.totals.packets[0]),
+        Err(refused) => stop_line(refused),
     }
 }
 
-// A refused record, or a refused plan.
-fn stop(link: Link, place: usize, n: u8, p: usize) -> Step
-    ensures { result ≡ event_gives true link place (Fault n p) }
+// The run ends with an event that is no call, or with a refused plan.
+fn last(read: EventRead, link: Link, place: usize) -> Step
+    ensures { result ≡ last_step read link place }
 {
-    let line = Line::Stop(n as u64, p as u64);
     Step {
-        line,
+        line: last_line(read, link),
         more: false,
         link,
         place,
@@ -128,7 +125,7 @@ fn send(link: Link, place: usize) -> Step
 // A fresh link of an accepted plan.
 fn linked(read: PlanRead) -> Step
     requires { PlanRules read.tree }
-    ensures { result ≡ plan_gives Passed read }
+    ensures { result ≡ plan_gives (Ok tt) read }
 {
     let tree = read.tree;
     let made = link::fresh(tree);
@@ -150,8 +147,8 @@ pub fn begin(input: &[u8]) -> Step
     let read = plan::read_plan(input);
     let verdict = read.verdict;
     match verdict {
-        Verdict::Passed => linked(read),
-        Verdict::Refused(n, p) => stop(Link::none(), 0, n, p),
+        Ok(()) => linked(read),
+        Err(refused) => last(Err(refused), Link::none(), 0),
     }
 }
 
@@ -161,8 +158,8 @@ pub fn first(input: &[u8]) -> Step
 {
     let verdict = checks::input_length(input.len());
     match verdict {
-        Verdict::Passed => begin(input),
-        Verdict::Refused(n, p) => stop(Link::none(), 0, n, p),
+        Ok(()) => begin(input),
+        Err(refused) => last(Err(refused), Link::none(), 0),
     }
 }
 
@@ -174,9 +171,9 @@ pub fn next(link: Link, input: &[u8], place: usize) -> Step
     let event = plan::read_event(rest, place);
     let after = place + plan::used(event);
     match event {
-        EventRead::NoMore => end(link, place),
-        EventRead::Arrive(a) => arrival(link, a, after),
-        EventRead::SendNext => send(link, after),
-        EventRead::Fault(n, p) => stop(link, place, n, p),
+        Ok(None) => last(event, link, place),
+        Ok(Some(Event::Arrive(a))) => arrival(link, a, after),
+        Ok(Some(Event::SendNext)) => send(link, after),
+        Err(_) => last(event, link, place),
     }
 }

@@ -19,10 +19,7 @@ pub fn has(set: u64, class: usize) -> bool
 pub fn holds(set: u64, number: usize) -> bool
     ensures { (result ≡ has set number) × (result ≡ true → number < 64) }
 {
-    if CLASSES <= number {
-        return false;
-    }
-    has(set, number)
+    number < CLASSES && has(set, number)
 }
 
 // The set with the class put in.
@@ -38,10 +35,7 @@ pub fn with_if(set: u64, class: usize, put: bool) -> u64
     requires { class < 64 }
     ensures { result ≡ cond put (with set class) set }
 {
-    if put {
-        return with(set, class);
-    }
-    set
+    if put { with(set, class) } else { set }
 }
 
 // The set with the class taken out.
@@ -68,5 +62,5 @@ pub fn next(set: u64, place: usize) -> usize
         return CLASSES;
     }
     let rest = (set >> place) << place;
-    u64::trailing_zeros(rest) as usize
+    rest.trailing_zeros() as usize
 }

@@ -1,17 +1,17 @@
 -- The plan rules and what the walk from the highest class down decides of each class: a parent is lower, so children come later. Demand 1.
-use mathlib.Core.Bool.{Bool, true, false, cond}
-use mathlib.Core.Path.{◌≡◌, refl, sym, ap, ap₂, subst, ◌∙◌}
+use mathlib.Core.Bool.{Bool, true, false}
+use mathlib.Core.Path.{◌≡◌, refl, sym, ap, subst, ◌∙◌}
 use Prim.Native.Nat.{ℕ, ◌^◌, ◌≤◌, ◌<◌}
 use native.Mathlib.Decide.{dec_le, ℕ_discrete}
 use native.Mathlib.Omega.{arith}
 use borrow.Author.Tests.{le-ltb, ltb-false, eqb-true, ne_eqb, not-false}
-use Rattle.checks.proofs.Laws.{not_true_and_false, exactly_unique}
+use Rattle.checks.proofs.Laws.{not_true_and_false}
 use Rattle.tree.specs.declared.Tree.{Tree}
-use Rattle.shape.specs.declared.size.PlanSize.{PlanSize}
+use Rattle.std.specs.Prelude.{Option, None, Some}
+use Rattle.units.specs.declared.Bytes.{Bytes}
 use Rattle.tree.specs.Class.{parent_of, weight_of, is_class, is_leaf, is_inner, is_child, of_child, children_sum, children_weight, has_child}
 use Rattle.tree.specs.Rules.{too_many, bad_parent, too_heavy, childless, no_class, ClassesPass, UnsetIsZero, PlanRules}
 use Rattle.shape.specs.Steps.{NumberUnset, RestUnset, children_after, ClassesObey, Sizes}
-use Rattle.tree.specs.Size.{round_size}
 use Rattle.tree.specs.Sum.{some_to}
 use Rattle.tree.proofs.Classes.{class_in_lem, class_range, class_past, root_no_class, child_own, child_other}
 use Rattle.tree.proofs.Rules.{few_classes, lower_parent, weight_range}
@@ -142,8 +142,8 @@ module _ (t : Tree) (rest : RestUnset t) (right : ClassesObey t) where
   }
 
 -- the decision of a tree with its size has one answer
-pub plan_size_one_answer : (t : Tree) (r s : PlanSize) → Sizes t r → Sizes t s → r ≡ s
-plan_size_one_answer t r s x y =
-    let same = exactly_unique x.right y.right in
-    ap₂ (λ (b : Bool) (n : ℕ). record { right = b; size = record { 0 = n } }) same
-    (x.size ∙ ap (λ (b : Bool). cond b (round_size t) 0) same ∙ sym y.size)
+pub plan_size_one_answer : (t : Tree) (r s : Option Bytes) → Sizes t r → Sizes t s → r ≡ s
+plan_size_one_answer t None None x y = refl
+plan_size_one_answer t None (Some b) x y = absurd (not_true_and_false (x.right.complete (y.right.sound refl)) refl)
+plan_size_one_answer t (Some a) None x y = absurd (not_true_and_false (y.right.complete (x.right.sound refl)) refl)
+plan_size_one_answer t (Some a) (Some b) x y = ap (λ (n : ℕ). Some (record { 0 = n })) (x.size ∙ sym y.size)

@@ -1,8 +1,8 @@
 -- What the inner functions of the decision say, of a class number and of all; no rule of its own.
-use Rattle.std.specs.Prelude.{true, false, cond, ◌≡◌, ℕ, ◌-◌, ◌≤◌, ◌<◌}
+use Rattle.std.specs.Prelude.{true, false, ◌≡◌, ℕ, ◌-◌, ◌≤◌, ◌<◌, Option, is_some, IfSome}
 use Rattle.checks.specs.Check.{Exactly}
 use Rattle.tree.specs.declared.Tree.{Tree}
-use Rattle.shape.specs.declared.size.PlanSize.{PlanSize}
+use Rattle.units.specs.declared.Bytes.{Bytes}
 use Rattle.tree.specs.Class.{parent_of, weight_of, longest_of, is_class, is_leaf, of_child}
 use Rattle.tree.specs.Rules.{bad_parent, bad_weight, bad_longest, NothingSet, PlanRules}
 use Rattle.tree.specs.Size.{round_size}
@@ -45,7 +45,7 @@ children_after t i = sum_to (of_child t (weight_of t) i) t.count - sum_to (of_ch
 pub record ClassesObey (t : Tree) : Type 0 where
   pub at : (i : ℕ) → is_class t i ≡ true → ClassObeys t i (children_after t i)
 
--- whether a tree obeys the plan rules, and if so its round size, otherwise 0
-pub record Sizes (t : Tree) (r : PlanSize) : Type 0 where
-  pub right : Exactly r.right (PlanRules t)
-  pub size : r.size.0 ≡ cond r.right (round_size t) 0
+-- a size is given exactly where a tree obeys the plan rules, and it is its round size
+pub record Sizes (t : Tree) (r : Option Bytes) : Type 0 where
+  pub right : Exactly (is_some r) (PlanRules t)
+  pub size : IfSome r (λ q. q.0 ≡ round_size t)

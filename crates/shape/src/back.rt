@@ -17,12 +17,10 @@ pub fn tree_of(shape: &[u64; 195]) -> Tree
     let mut parent = [0u8; Tree::CLASSES];
     let mut weight = [none; Tree::CLASSES];
     let mut longest = [0u16; Tree::CLASSES];
-    let mut i: usize = 0;
-    while i < Tree::CLASSES {
+    for i in 0..Tree::CLASSES {
         parent[i] = shape[i] as u8;
         weight[i] = Weight(shape[WEIGHTS + i] as u32);
         longest[i] = shape[LONGEST + i] as u16;
-        i += 1;
     }
     Tree {
         count: shape[COUNT] as usize,

@@ -11,7 +11,7 @@ ghost use Rattle.tree.specs.Rules.{PlanRules};
 ghost use Rattle.shape.specs.Shape.{tree_in, rule_number, Families};
 
 pub use back::tree_of;
-pub use size::{PlanSize, is_plan, plan_size, plan_size_at, round_size};
+pub use size::{is_plan, plan_size, plan_size_at, round_size};
 use tree::Tree;
 use units::Weight;
 
@@ -71,21 +71,11 @@ pub fn follows(shape: &[u64; 195]) -> bool
     shape[FOLLOWS] == 1
 }
 
-// A weight as a wide number.
-fn heavy(weight: Weight) -> u64
-    ensures { result ≡ weight.0 }
-{
-    weight.0 as u64
-}
-
 // 1 for rule 2, 0 for rule 1.
 fn rule(follows: bool) -> u64
     ensures { result ≡ rule_number follows }
 {
-    if follows {
-        return 1;
-    }
-    0
+    u64::from(follows)
 }
 
 // The shape of a tree, any tree whatever.
@@ -93,13 +83,10 @@ pub fn shape_of(tree: Tree) -> [u64; 195]
     ensures { tree_in result ≡ tree }
 {
     let mut out = [0u64; 195];
-    let mut i: usize = 0;
-    while i < Tree::CLASSES {
-        let w = tree.weight[i];
-        out[i] = tree.parent[i] as u64;
-        out[WEIGHTS + i] = heavy(w);
-        out[LONGEST + i] = tree.longest[i] as u64;
-        i += 1;
+    for i in 0..Tree::CLASSES {
+        out[i] = u64::from(tree.parent[i]);
+        out[WEIGHTS + i] = u64::from(tree.weight[i].0);
+        out[LONGEST + i] = u64::from(tree.longest[i]);
     }
     out[COUNT] = tree.count as u64;
     out[LEAVES] = tree.leaves;
@@ -113,12 +100,9 @@ pub fn families(shape: &[u64; 195]) -> [u64; 64]
     ensures { Families (tree_in shape.now) result }
 {
     let mut out = [0u64; 64];
-    let last = count(shape);
-    let mut i: usize = 1;
-    while i <= last {
+    for i in 1..=count(shape) {
         let p = parent(shape, i);
         out[p] = sets::with(out[p], i);
-        i += 1;
     }
     out
 }

@@ -1,76 +1,24 @@
 // The plan rules decided for the numbers of any shape whatever, and with them the round size; so of any tree, over its shape. Named for
 // specs/Size of the tree.
 // Serves demand 1 (numbers 3 to 9) and demand 3 (Q).
-ghost use Rattle.std.specs.Prelude.{◌≡◌, true, false, ℕ, ◌^◌, ◌≤◌, ◌<◌};
+ghost use Rattle.std.specs.Prelude.{◌≡◌, ℕ, ◌^◌, ◌≤◌, ◌<◌, is_some, IfSome};
 ghost use Rattle.checks.specs.Check.{Exactly};
 ghost use Rattle.tree.specs.declared.Tree.{Tree};
 ghost use Rattle.tree.specs.Class.{parent_of, weight_of, longest_of, is_leaf};
-ghost use Rattle.tree.specs.Rules.{bad_parent, bad_weight, bad_longest};
 ghost use Rattle.tree.specs.Rules.{PlanRules};
 ghost use Rattle.tree.specs.Size.{round_size, all_weights, all_longest, longest_cost};
 ghost use Rattle.shape.specs.Steps.{Sizes, Numbers, NumberUnset, RestUnset, InnerRight, ClassObeys, ClassesObey};
 ghost use Rattle.shape.specs.Shape.{tree_in, Families};
 
 use crate::{COUNT, LEAVES, LONGEST, WEIGHTS};
-use tree::Tree;
+use tree::{Tree, bad_longest, bad_parent, bad_weight};
 use units::{Bytes, Weight};
 
-// What a walk over the classes gives: whether all are right, and if so all weights and what all leaves' longest packets cost.
+// What a walk over right classes gives: all weights, and what all leaves' longest packets cost.
 #[derive(Drop)]
 pub struct Walked {
-    pub right: bool,
     pub weights: u64,
     pub packets: u64,
-}
-
-// Whether a class is right, and if so what its longest packet costs: nothing where it is inner.
-#[derive(Drop)]
-pub struct ClassJudged {
-    pub right: bool,
-    pub cost: u64,
-}
-
-// Whether a tree obeys the plan rules, and if so its round size, otherwise 0.
-#[derive(Drop)]
-pub struct PlanSize {
-    pub right: bool,
-    pub size: Bytes,
-}
-
-// Number 4: parent not lower than the class, or a leaf.
-fn bad_parent(leaves: u64, parent: u64, i: usize) -> bool
-    requires { i < 64 }
-    ensures { (t : Tree) → t.leaves ≡ leaves → parent_of t i ≡ parent → result ≡ bad_parent t i }
-{
-    let p = parent as usize;
-    if i <= p {
-        return true;
-    }
-    sets::has(leaves, p)
-}
-
-// Number 5: weight outside its range.
-fn bad_weight(weight: u64) -> bool
-    ensures { (t : Tree) (i : ℕ) → weight_of t i ≡ weight → result ≡ bad_weight t i }
-{
-    if weight < 1 {
-        return true;
-    }
-    1_000_000 < weight
-}
-
-// Number 6: longest outside its range.
-fn bad_longest(leaf: bool, longest: u64) -> bool
-    ensures { ((t : Tree) (i : ℕ) → is_leaf t i ≡ leaf → longest_of t i ≡ longest → result ≡ bad_longest t i)
-        × (result ≡ false → leaf ≡ true → longest ≤ 9_216) }
-{
-    if !leaf {
-        return false;
-    }
-    if longest < 1 {
-        return true;
-    }
-    9_216 < longest
 }
 
 // Whether nothing is set of a class number.
@@ -78,16 +26,7 @@ fn number_unset(leaf: bool, parent: u64, weight: u64, longest: u64) -> bool
     ensures { (t : Tree) (i : ℕ) → is_leaf t i ≡ leaf → parent_of t i ≡ parent → weight_of t i ≡ weight → longest_of t i ≡ longest
         → Exactly result (NumberUnset t i) }
 {
-    if leaf {
-        return false;
-    }
-    if parent != 0 {
-        return false;
-    }
-    if weight != 0 {
-        return false;
-    }
-    longest == 0
+    !leaf && parent == 0 && weight == 0 && longest == 0
 }
 
 // The same of a class number of a shape.
@@ -104,16 +43,13 @@ fn rest_unset(shape: &[u64; 195]) -> bool
     requires { (tree_in shape.now).count ≤ 63 }
     ensures { Exactly result (RestUnset (tree_in shape.now)) }
 {
-    let last = crate::count(shape);
     if !unset_at(shape, 0) {
         return false;
     }
-    let mut i = last + 1;
-    while i < Tree::CLASSES {
+    for i in crate::count(shape) + 1..Tree::CLASSES {
         if !unset_at(shape, i) {
             return false;
         }
-        i += 1;
     }
     true
 }
@@ -122,17 +58,11 @@ fn rest_unset(shape: &[u64; 195]) -> bool
 fn inner_right(weight: u64, longest: u64, children: u64) -> bool
     ensures { Exactly result (InnerRight weight longest children) }
 {
-    if longest != 0 {
-        return false;
-    }
-    if children < 1 {
-        return false;
-    }
-    children <= weight
+    longest == 0 && 1 <= children && children <= weight
 }
 
-// Whether a class is right: numbers 4, 5 and 6, and where it is inner what its children weigh, which all come after it; if so what its
-// longest packet costs.
+// What the longest packet of a class costs, nothing where it is inner; of a class that is right: numbers 4, 5 and 6, and where it is inner
+// what its children weigh, which all come after it.
 fn class_right(
     leaves: u64,
     i: usize,
@@ -140,117 +70,62 @@ fn class_right(
     weight: u64,
     longest: u64,
     children: u64,
-) -> ClassJudged
+) -> Option<u64>
     requires { i < 64 }
     ensures { (t : Tree) → Numbers t i leaves parent weight longest
-        → Exactly result.right (ClassObeys t i children) × (result.right ≡ true → result.cost ≡ longest_cost t i) }
+        → Exactly (is_some result) (ClassObeys t i children) × IfSome result (λ cost. cost ≡ longest_cost t i) }
 {
     let leaf = sets::has(leaves, i);
-    if bad_parent(leaves, parent, i) {
-        return ClassJudged {
-            right: false,
-            cost: 0,
-        };
+    if bad_parent(leaves, parent as usize, i) || bad_weight(weight) || bad_longest(leaf, longest) {
+        return None;
     }
-    if bad_weight(weight) {
-        return ClassJudged {
-            right: false,
-            cost: 0,
-        };
+    if leaf {
+        return Some(units::cost(longest as u16).0);
     }
-    if !leaf {
-        return ClassJudged {
-            right: inner_right(weight, longest, children),
-            cost: 0,
-        };
-    }
-    if bad_longest(leaf, longest) {
-        return ClassJudged {
-            right: false,
-            cost: 0,
-        };
-    }
-    ClassJudged {
-        right: true,
-        cost: units::cost(longest as u16).0,
-    }
+    inner_right(weight, longest, children).then_some(0)
 }
 
-// The classes from the highest down, each adding its weight to its parent's sum and itself to its parent's children: whether all are
-// right, and what goes into the round size.
-fn walk(shape: &[u64; 195], children: &mut [u64; 64]) -> Walked
+// The classes from the highest down, each adding its weight to its parent's sum and itself to its parent's children: where all are right,
+// what goes into the round size.
+fn walk(shape: &[u64; 195], children: &mut [u64; 64]) -> Option<Walked>
     requires { (tree_in shape.now).count ≤ 63 }
-    ensures { Exactly result.right (ClassesObey (tree_in shape.now))
-        × (result.right ≡ true
-        → (result.weights ≡ all_weights (tree_in shape.now)) × (result.packets ≡ all_longest (tree_in shape.now)))
-        × ((tree_in shape.now).leaves < 2 ^ 64)
-        × (result.right ≡ true → Families (tree_in shape.now) children.new) }
+    ensures { Exactly (is_some result) (ClassesObey (tree_in shape.now))
+        × IfSome result (λ w. (w.weights ≡ all_weights (tree_in shape.now)) × (w.packets ≡ all_longest (tree_in shape.now))
+        × Families (tree_in shape.now) children.new)
+        × ((tree_in shape.now).leaves < 2 ^ 64) }
 {
     *children = [0u64; 64];
     let leaves = crate::leaves(shape);
     let mut sums = [0u64; Tree::CLASSES];
     let mut weights: u64 = 0;
     let mut packets: u64 = 0;
-    let mut i = crate::count(shape);
-    while 1 <= i {
+    for i in (1..=crate::count(shape)).rev() {
         let w = shape[WEIGHTS + i];
         let p = crate::parent(shape, i);
-        let judged = class_right(leaves, i, shape[i], w, shape[LONGEST + i], sums[i]);
-        if !judged.right {
-            return Walked {
-                right: false,
-                weights,
-                packets,
-            };
-        }
+        let cost = class_right(leaves, i, shape[i], w, shape[LONGEST + i], sums[i])?;
         sums[p] += w;
         children[p] = sets::with(children[p], i);
         weights += w;
-        packets += judged.cost;
-        i -= 1;
+        packets += cost;
     }
-    Walked {
-        right: true,
-        weights,
-        packets,
-    }
+    Some(Walked { weights, packets })
 }
 
-// A shape that breaks the plan rules has no round size: 0.
-fn no_size() -> PlanSize
-    ensures { result ≡ record { right = false; size = record { 0 = 0 } } }
-{
-    let size = Bytes(0);
-    PlanSize { right: false, size }
-}
-
-// Whether a shape, any numbers whatever, obeys the plan rules, and then its round size and the sets of children of its class numbers.
-pub fn plan_size_at(shape: &[u64; 195], children: &mut [u64; 64]) -> PlanSize
-    ensures { Sizes (tree_in shape.now) result
-        × (result.right ≡ true → Families (tree_in shape.now) children.new) }
+// The round size of a shape, any numbers whatever, where it obeys the plan rules, and then the sets of children of its class numbers too.
+pub fn plan_size_at(shape: &[u64; 195], children: &mut [u64; 64]) -> Option<Bytes>
+    ensures { Sizes (tree_in shape.now) result × IfSome result (λ size. Families (tree_in shape.now) children.new) }
 {
     let last = crate::count(shape);
-    if Tree::MOST < last {
-        return no_size();
+    if Tree::MOST < last || last == 0 || !rest_unset(shape) {
+        return None;
     }
-    if last == 0 {
-        return no_size();
-    }
-    if !rest_unset(shape) {
-        return no_size();
-    }
-    let walked = walk(shape, children);
-    if !walked.right {
-        return no_size();
-    }
+    let walked = walk(shape, children)?;
     let weights = Weight(walked.weights as u32);
-    let packets = Bytes(walked.packets);
-    let size = units::size(weights, packets);
-    PlanSize { right: true, size }
+    Some(units::size(weights, Bytes(walked.packets)))
 }
 
-// Whether a tree, any tree whatever, obeys the plan rules, and then its round size.
-pub fn plan_size(tree: Tree) -> PlanSize
+// The round size of a tree, any tree whatever, where it obeys the plan rules.
+pub fn plan_size(tree: Tree) -> Option<Bytes>
     ensures { Sizes tree result }
 {
     let shape = crate::shape_of(tree);
@@ -262,7 +137,7 @@ pub fn plan_size(tree: Tree) -> PlanSize
 pub fn is_plan(tree: Tree) -> bool
     ensures { Exactly result (PlanRules tree) }
 {
-    plan_size(tree).right
+    plan_size(tree).is_some()
 }
 
 // The round size Q.
@@ -270,6 +145,5 @@ pub fn round_size(tree: Tree) -> Bytes
     requires { PlanRules tree }
     ensures { result.0 ≡ round_size tree }
 {
-    let judged = plan_size(tree);
-    judged.size
+    plan_size(tree).unwrap()
 }

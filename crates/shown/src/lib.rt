@@ -8,35 +8,61 @@ ghost use Rattle.std.specs.Prelude.{◌≡◌, ◌≤◌, length, IfOk};
 ghost use Rattle.io.specs.Counts.{IsPrefixLen};
 ghost use Rattle.lines.specs.Line.{bytes_of};
 
+use checks::Refused;
 use lines::Line;
 use std::env::{Env, FillError};
 use std::io;
 use std::io::{Input, Read};
 
-// Reads standard input until a buffer is full or the input ends, and answers how many bytes it put at the buffer's start.
-pub fn read_full(rt: &impl Input, buf: &mut [u8]) -> io::Result<usize>
+// The bytes of a window of standard input, where a program keeps no more of it than one window.
+pub const WINDOW: usize = 65_536;
+
+// As many windows as 2 to the power 63 bytes have.
+pub const WINDOWS: u64 = 140_737_488_355_328;
+
+// Reads standard input behind the first bytes of a buffer, until it is full or the input ends, and answers how many bytes it then holds.
+pub fn read_after(rt: &impl Input, buf: &mut [u8], held: usize) -> io::Result<usize>
+    requires { held ≤ length buf.old }
     ensures { IfOk result (λ n. IsPrefixLen n buf.new) }
 {
     let mut reader = rt.reader();
-    let mut done = 0;
+    let mut done = held;
     while done < buf.len() {
-        let n = reader.read(&mut buf[done..])?;
-        if n == 0 {
-            break;
+        match reader.read(&mut buf[done..])? {
+            0 => break,
+            n => done += n,
         }
-        done += n;
     }
     Ok(done)
 }
 
+// Reads standard input until a buffer is full or the input ends, and answers how many bytes it put at the buffer's start.
+pub fn read_full(rt: &impl Input, buf: &mut [u8]) -> io::Result<usize>
+    ensures { IfOk result (λ n. IsPrefixLen n buf.new) }
+{
+    read_after(rt, buf, 0)
+}
+
+// What a program makes of the next bytes of standard input, as many as there is room for.
+pub fn with_input<R: Input, T, F: FnOnce(&[u8]) -> io::Result<T>>(
+    rt: &R,
+    room: &mut [u8],
+    make: F,
+) -> io::Result<T>
+    requires { F.IsAlwaysCallable make }
+{
+    let n = read_full(rt, room)?;
+    make(&room[..n])
+}
+
+// The room for a word: Linux hands a program none that is longer, where its pages have 4,096 bytes.
+pub const LONGEST_WORD: usize = 131_072;
+
 // How many words the program was started with, its own name among them.
 pub fn arg_count(rt: &impl Env) -> usize {
-    for i in 0..usize::MAX {
-        if let Err(FillError::NotPresent) = rt.arg(i, &mut []) {
-            return i;
-        }
-    }
-    usize::MAX
+    (0..usize::MAX)
+        .find(|i| matches!(rt.arg(*i, &mut []), Err(FillError::NotPresent)))
+        .unwrap_or(usize::MAX)
 }
 
 // Prints a line, and answers how many bytes it has.
@@ -66,6 +92,28 @@ pub fn pair(rt: &impl Print, text: &[u8], a: u64, b: u64) -> io::Result<()> {
     number(rt, b" ", b)
 }
 
+// Prints where something is refused: its number and its place.
+pub fn stop(rt: &impl Print, refused: Refused) -> io::Result<()> {
+    let Refused(refusal, place) = refused;
+    print(rt, Line::Stop(refusal.number() as u64, place as u64))?;
+    Ok(())
+}
+
+// What a program answers for its whole input; number 10 before all else.
+pub fn with_whole<R: Input + Print, F: FnOnce(&[u8]) -> io::Result<()>>(
+    rt: &R,
+    answer: F,
+) -> io::Result<()>
+    requires { F.IsAlwaysCallable answer }
+{
+    let mut room = [0u8; checks::MOST_INPUT + 1];
+    let n = read_full(rt, &mut room)?;
+    match checks::input_length(n) {
+        Ok(()) => answer(&room[..n]),
+        Err(refused) => stop(rt, refused),
+    }
+}
+
 // Prints one of two words.
 pub fn either(rt: &impl Print, is: bool, one: &[u8], other: &[u8]) -> io::Result<()> {
     if is { word(rt, one) } else { word(rt, other) }
@@ -81,31 +129,15 @@ pub fn say(stderr: &impl Print, text: &[u8]) -> io::Result<()> {
 
 // A byte as a message shows it: one that would end the line as `?`.
 fn plain(byte: u8) -> u8 {
-    if byte < b' ' {
-        return b'?';
-    }
-    byte
-}
-
-// How much of a word a message shows.
-fn part_of(word: &[u8]) -> usize
-    ensures { (result ≤ 60) × (result ≤ length word.now) }
-{
-    let n = word.len();
-    if n < MOST {
-        return n;
-    }
-    MOST
+    if byte < b' ' { b'?' } else { byte }
 }
 
 // The start of a word.
 fn show(stderr: &impl Print, word: &[u8]) -> io::Result<()> {
+    let n = word.len().min(MOST);
     let mut text = [0u8; MOST];
-    let last = part_of(word);
-    let mut n = 0;
-    while n < last {
-        text[n] = plain(word[n]);
-        n += 1;
+    for (shown, byte) in text.iter_mut().zip(word) {
+        *shown = plain(*byte);
     }
     say(stderr, &text[..n])?;
     if n < word.len() {

@@ -8,7 +8,7 @@ use native.Mathlib.Omega.{arith}
 use lib.Dec.{leb}
 use lib.ListN.{take, drop, take-append-drop}
 use borrow.Author.Tests.{leb-true}
-use Rattle.checks.specs.declared.Verdict.TheVariants.{Passed}
+use Rattle.std.specs.Prelude.{Ok}
 use Rattle.checks.specs.Check.{first_broken, class_by_class}
 use Rattle.checks.proofs.Laws.{not_true_and_false}
 use Rattle.sets.specs.Set.{has, with, without}
@@ -78,7 +78,7 @@ passes_three : (follows : Bool) → ClassesPass (three follows)
 unfolding leaf one two three bad_parent bad_weight bad_longest is_leaf has with
 passes_three follows = classes_kept (two follows) (leaf 1 2_000) (passes_two follows) refl refl refl
 
-ends : (follows : Bool) → (first_broken (closing_checks (two follows)) ≡ Passed) × (first_broken (closing_checks (three follows)) ≡ Passed)
+ends : (follows : Bool) → (first_broken (closing_checks (two follows)) ≡ Ok tt) × (first_broken (closing_checks (three follows)) ≡ Ok tt)
     × (too_many (two follows) ≡ false) × (too_many (three follows) ≡ false)
 unfolding leaf one two three too_many first_broken class_by_class too_heavy childless no_class is_inner is_class is_leaf is_child of_child children_sum
     children_weight has_child sum_to some_to has with

@@ -7,9 +7,10 @@ use Prim.Native.Nat.{ℕ, ◌+◌, ◌≤◌, ◌<◌}
 use native.Mathlib.Omega.{arith}
 use lib.Dec.{eqb}
 use lib.ListN.{length, get_or}
-use Rattle.checks.specs.declared.Verdict.{Verdict}
-use Rattle.checks.specs.declared.Verdict.TheVariants.{Passed, Refused}
-use Rattle.checks.specs.Check.{first_broken, passed}
+use Rattle.checks.specs.declared.Refusal.TheVariants.{NothingWaits}
+use Rattle.checks.specs.declared.Refusal.{Refusal}
+use Rattle.std.specs.Prelude.{Ok, Err}
+use Rattle.checks.specs.Check.{first_broken, passed, Verdict, refusal_at}
 use Rattle.checks.proofs.Laws.{refused_or_passed}
 use Rattle.sets.specs.Set.{has}
 use Rattle.units.specs.Cost.{cost_of}
@@ -100,8 +101,8 @@ arrival_charges : (k : ℕ) (l : Link) (i : ℕ) (p : Packet) (a : AfterArrival)
     → Charges k (meaning l) (made (arrival i p) a.answer a.link)
 arrival_charges k l i p a sound x = go (refused_or_passed (first_broken (arrival_checks true (meaning l) i p)))
   where
-    go : (first_broken (arrival_checks true (meaning l) i p) ≡ Passed)
-        ⊎ ((n : ℕ) × (q : ℕ) × (first_broken (arrival_checks true (meaning l) i p) ≡ Refused n q))
+    go : (first_broken (arrival_checks true (meaning l) i p) ≡ Ok tt)
+        ⊎ ((n : Refusal) × (q : ℕ) × (first_broken (arrival_checks true (meaning l) i p) ≡ Err (refusal_at n q)))
         → Charges k (meaning l) (made (arrival i p) a.answer a.link)
     go (inl e) =
         let same = left_taken l i p a sound x e in
@@ -220,7 +221,7 @@ module _
         steps,
       )
     where
-      this_is : send_leaves answer after ≡ send_gives (Refused 15 0) l
+      this_is : send_leaves answer after ≡ send_gives (Err (refusal_at NothingWaits 0)) l
       this_is = sends_as l (send_leaves answer after) sound x ∙ send_nothing l none
 
   send_steps : Steps k (meaning l) (map closed (turns_in l this) ++ (called this ∷ later))
@@ -238,8 +239,8 @@ unfolding send_of
 send_tree l d sound x = ap (λ (a : AfterSend). a.link.tree) (sends_as l d sound x) ∙ go (first_broken (send_checks true (meaning l)))
   where
     go : (v : Verdict) → (send_gives v l).link.tree ≡ l.tree
-    go Passed = refl
-    go (Refused n q) = refl
+    go (Ok _) = refl
+    go (Err _) = refl
 
 -- the moments of any run follow on the state of its link
 pub run_steps : (ms : List Made) (k : ℕ) (l : Link) → SoundLink l → is_leaf l.tree k ≡ true → Run l ms

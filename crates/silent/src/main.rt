@@ -6,34 +6,28 @@
 use checks::MOST_INPUT;
 use lines::Line;
 use run::Step;
+use shown::LONGEST_WORD;
 use state::Link;
 use std::env::Env;
 use std::io;
-use words::Number;
-
-// The room for a word: Linux hands a program none that is longer, where its pages have 4,096 bytes.
-const LONGEST_WORD: usize = 131_072;
 
 // The number that a word is, and a message where it is none.
-fn judged(stderr: &impl Print, i: usize, word: &[u8]) -> io::Result<Number> {
+fn judged(stderr: &impl Print, i: usize, word: &[u8]) -> io::Result<Option<u64>> {
     let number = words::read_number(word);
-    match number {
-        Number::Is(_) => Ok(number),
-        Number::No => {
-            shown::refuse(
-                stderr,
-                b"silent",
-                i,
-                word,
-                b"a class number: one or more digits, below 2 to the power 64",
-            )?;
-            Ok(number)
-        }
+    if number.is_none() {
+        shown::refuse(
+            stderr,
+            b"silent",
+            i,
+            word,
+            b"a class number: one or more digits, below 2 to the power 64",
+        )?;
     }
+    Ok(number)
 }
 
 // The number that word i is; a word that is longer than its room is none.
-fn class_word(rt: &impl Env, stderr: &impl Print, i: usize) -> io::Result<Number> {
+fn class_word(rt: &impl Env, stderr: &impl Print, i: usize) -> io::Result<Option<u64>> {
     let mut room = [0u8; LONGEST_WORD];
     match rt.arg(i, &mut room) {
         Ok(n) => judged(stderr, i, &room[..n]),
@@ -44,21 +38,15 @@ fn class_word(rt: &impl Env, stderr: &impl Print, i: usize) -> io::Result<Number
 // Whether word i is a number.
 fn good(rt: &impl Env, stderr: &impl Print, i: usize) -> io::Result<bool> {
     let number = class_word(rt, stderr, i)?;
-    match number {
-        Number::Is(_) => Ok(true),
-        Number::No => Ok(false),
-    }
+    Ok(number.is_some())
 }
 
 // Whether every word is a number; the first that is not has a message.
 fn all_good(rt: &impl Env, stderr: &impl Print) -> io::Result<bool> {
-    let count = shown::arg_count(rt);
-    let mut i = 1;
-    while i < count {
+    for i in 1..shown::arg_count(rt) {
         if !good(rt, stderr, i)? {
             return Ok(false);
         }
-        i += 1;
     }
     Ok(true)
 }
@@ -70,54 +58,38 @@ fn print_word(
     link: Link,
     i: usize,
 ) -> io::Result<()> {
-    let number = class_word(rt, stderr, i)?;
-    match number {
-        Number::Is(class) => {
-            shown::print(rt, desk::line(link, class as usize))?;
-        }
-        Number::No => {}
+    if let Some(class) = class_word(rt, stderr, i)? {
+        shown::print(rt, desk::line(link, class as usize))?;
     }
     Ok(())
 }
 
 // The lines of the words, in their order.
 fn print_words(rt: &(impl Print + Env), stderr: &impl Print, link: Link) -> io::Result<()> {
-    let count = shown::arg_count(rt);
-    let mut i = 1;
-    while i < count {
+    for i in 1..shown::arg_count(rt) {
         print_word(rt, stderr, link, i)?;
-        i += 1;
     }
     Ok(())
 }
 
 // The lines of all leaves, in class order.
 fn print_leaves(rt: &impl Print, link: Link) -> io::Result<()> {
-    let tree = link.tree;
-    for class in 1..Link::CLASSES {
-        if sets::has(tree.leaves, class) {
-            shown::print(rt, desk::line(link, class))?;
-        }
+    for class in (1..Link::CLASSES).filter(|class| sets::has(link.tree.leaves, *class)) {
+        shown::print(rt, desk::line(link, class))?;
     }
     Ok(())
 }
 
 // What is asked of a run that has ended: a `stop` is the only line.
 fn reply(rt: &(impl Print + Env), stderr: &impl Print, end: Step) -> io::Result<()> {
-    let line = end.line;
-    let link = end.link;
-    match line {
-        Line::Stop(_, _) => {
-            shown::print(rt, line)?;
-            Ok(())
-        }
-        _ => {
-            if shown::arg_count(rt) < 2 {
-                print_leaves(rt, link)
-            } else {
-                print_words(rt, stderr, link)
-            }
-        }
+    if matches!(end.line, Line::Stop(_, _)) {
+        shown::print(rt, end.line)?;
+        return Ok(());
+    }
+    if shown::arg_count(rt) < 2 {
+        print_leaves(rt, end.link)
+    } else {
+        print_words(rt, stderr, end.link)
     }
 }
 
@@ -126,7 +98,8 @@ fn main(rt: HostRuntime) -> io::Result<()> {
     if !all_good(&rt, &stderr)? {
         return Ok(());
     }
-    let mut input = [0u8; MOST_INPUT + 1];
-    let n = shown::read_full(&rt, &mut input)?;
-    reply(&rt, &stderr, desk::last_step(&input[..n]))
+    let mut room = [0u8; MOST_INPUT + 1];
+    shown::with_input(&rt, &mut room, |input| {
+        reply(&rt, &stderr, desk::last_step(input))
+    })
 }

@@ -19,7 +19,7 @@ use queue::queue_right;
 use state::lent_accounts::{account_of, balances, residuals};
 use state::queue::slot;
 use state::{Account, Link, Round, Totals};
-use tree::{Tree, wide};
+use tree::Tree;
 use units::Bytes;
 
 // The numbers of one class that the clauses of soundness speak of: child says whether a child of it is active; packets and bytes are its
@@ -47,26 +47,14 @@ pub struct View {
 fn leaf_right(v: View) -> bool
     ensures { Exactly result (LeafRight v) }
 {
-    if (Link::PLACES as u8) < v.held {
-        return false;
-    }
-    if v.packets != v.held as u64 {
-        return false;
-    }
-    if v.account.residual.0 != 0 {
-        return false;
-    }
-    if !v.active {
-        return v.account.balance.0 == 0;
-    }
-    if v.held < 1 {
-        return false;
-    }
-    if v.place <= v.class {
-        return true;
-    }
-    let first = v.first;
-    v.account.balance.0 < units::cost(first).0
+    usize::from(v.held) <= Link::PLACES
+        && v.packets == u64::from(v.held)
+        && v.account.residual.0 == 0
+        && if v.active {
+            1 <= v.held && (v.place <= v.class || v.account.balance < units::cost(v.first))
+        } else {
+            v.account.balance.0 == 0
+        }
 }
 
 // The clauses at any other number: it holds no packet, its totals are its children's together, it is active exactly when a child is, and
@@ -74,47 +62,25 @@ fn leaf_right(v: View) -> bool
 fn other_right(v: View) -> bool
     ensures { Exactly result (OtherRight v) }
 {
-    if v.held != 0 {
-        return false;
-    }
-    if v.packets != v.waiting {
-        return false;
-    }
-    if v.bytes != v.cost {
-        return false;
-    }
-    if v.active {
-        return v.child;
-    }
-    if v.child {
-        return false;
-    }
-    if v.class < 1 {
-        return true;
-    }
-    if v.account.balance.0 != 0 {
-        return false;
-    }
-    v.account.residual.0 == 0
+    v.held == 0
+        && v.packets == v.waiting
+        && v.bytes == v.cost
+        && v.active == v.child
+        && (v.active || v.class == 0 || v.account == Account::none())
 }
 
 // The clauses of soundness at one class number, but for the lengths of its packets.
 fn view_is_right(v: View) -> bool
     ensures { Exactly result (ViewRight v) }
 {
-    if 31 < v.start {
-        return false;
-    }
-    if v.size.0 < v.account.balance.0 {
-        return false;
-    }
-    if v.size.0 < v.account.residual.0 {
-        return false;
-    }
-    if v.leaf {
-        return leaf_right(v);
-    }
-    other_right(v)
+    v.start <= 31
+        && v.account.balance <= v.size
+        && v.account.residual <= v.size
+        && if v.leaf {
+            leaf_right(v)
+        } else {
+            other_right(v)
+        }
 }
 
 // A class right, in its numbers and its packets.
@@ -122,13 +88,7 @@ fn class_right(v: View, lengths: &[u16; 2048], longest: u16) -> bool
     requires { (v.class < 64) × (longest ≤ 9_216) }
     ensures { Exactly result (ClassRight v lengths.now longest) }
 {
-    if !view_is_right(v) {
-        return false;
-    }
-    if !v.leaf {
-        return true;
-    }
-    queue_right(v, lengths, longest)
+    view_is_right(v) && (!v.leaf || queue_right(v, lengths, longest))
 }
 
 // Every class right, from the highest down, and all B and R add to the size. Each class adds its totals to what its parent's are to be.
@@ -157,9 +117,7 @@ fn classes_right(
     let mut waiting = [0u64; Link::CLASSES];
     let mut cost = [0u64; Link::CLASSES];
     let mut sum = Bytes(0);
-    let mut n = Link::CLASSES;
-    while 0 < n {
-        let i = n - 1;
+    for i in (0..Link::CLASSES).rev() {
         let account = account_of(i, balance, residual);
         let v = View {
             class: i,
@@ -170,7 +128,7 @@ fn classes_right(
             child: sets::both(children[i], active) != 0,
             start: start[i],
             held: held[i],
-            first: lengths[slot(i, wide(start[i]) % Link::PLACES)],
+            first: lengths[slot(i, usize::from(start[i]) % Link::PLACES)],
             account,
             packets: packets[i],
             bytes: bytes[i],
@@ -184,7 +142,6 @@ fn classes_right(
         let up = shape::parent(shape, i);
         waiting[up] += v.packets;
         cost[up] += v.bytes;
-        n -= 1;
     }
     sum.0 == size.0
 }
@@ -194,23 +151,10 @@ fn size_right(follows: bool, whole: Bytes, size: Bytes) -> bool
     ensures { Exactly result (SizeWithin follows whole.0 size.0) }
 {
     if follows {
-        return size.0 <= whole.0;
+        size.0 <= whole.0
+    } else {
+        size.0 == whole.0
     }
-    size.0 == whole.0
-}
-
-// An array of 64 numbers has 64: a function is told so of what it is given, but not of what it is lent.
-fn given_64(numbers: [u64; 64]) -> bool
-    ensures { length numbers ≡ 64 }
-{
-    true
-}
-
-fn lent_64(numbers: &[u64; 64]) -> bool
-    ensures { length numbers.now ≡ 64 }
-{
-    let all = *numbers;
-    given_64(all)
 }
 
 // Whether the link that these lent numbers make up is sound; its tags, its marks and its running total have no say. Where it is, the
@@ -235,26 +179,17 @@ pub fn is_sound_at(
         (round_of size.0 active place (zip_accounts balance.now residual.now)))) }
     ensures families { result ≡ true → Families (tree_in shape.now) children.new }
 {
-    let balances = lent_64(balance);
-    let residuals = lent_64(residual);
-    let plan = shape::plan_size_at(shape, children);
-    if !plan.right {
+    let Some(whole) = shape::plan_size_at(shape, children) else {
         return false;
-    }
-    let whole = plan.size;
+    };
     if !size_right(shape::follows(shape), whole, size) {
         return false;
     }
-    if place < 1 {
-        return false;
-    }
-    if Link::CLASSES < place {
-        return false;
-    }
-    classes_right(
-        shape, size, active, place, balance, residual, start, held, lengths, packets, bytes,
-        children,
-    )
+    (1..=Link::CLASSES).contains(&place)
+        && classes_right(
+            shape, size, active, place, balance, residual, start, held, lengths, packets, bytes,
+            children,
+        )
 }
 
 // Whether the link that these fields make up is sound; its tags and its marks have no say.

@@ -1,7 +1,7 @@
 // The waiting packets of a leaf, place by place and not in the order of the queue, without an early end. All numbers of the loop have 16
 // bits, and a turn of it looks at four places: so a processor looks at 32 places in one turn. Named for specs/Steps.
 // Serves demand 1.
-ghost use Rattle.std.specs.Prelude.{◌≡◌, ◌+◌, ◌-◌, ◌*◌, ◌%◌, ◌<◌, ◌≤◌, max};
+ghost use Rattle.std.specs.Prelude.{◌≡◌, ◌+◌, ◌-◌, ◌*◌, ◌%◌, ◌<◌, ◌≤◌};
 ghost use Rattle.checks.specs.Check.{Exactly};
 ghost use Rattle.tree.specs.Sum.{sum_to};
 ghost use Rattle.sound.specs.Steps.{seen_of, seen_at, most_to, four_over, QueueRight};
@@ -35,35 +35,15 @@ fn seen_at(class: usize, start: u16, held: u16, lengths: &[u16; 2048], k: u16) -
     ensures { result ≡ seen_at lengths.now class start held k }
 {
     let turn = (k + 32 - start) % 32;
-    seen(lengths[slot(class, k as usize)], turn, held)
-}
-
-// The larger of two numbers.
-fn larger(a: u16, b: u16) -> u16
-    ensures { result ≡ max a b }
-{
-    if a < b {
-        return b;
-    }
-    a
-}
-
-// What is above 59 of a number.
-fn above(x: u16) -> u16
-    ensures { result ≡ x - 59 }
-{
-    if x < 59 {
-        return 0;
-    }
-    x - 59
+    seen(lengths[slot(class, usize::from(k))], turn, held)
 }
 
 // What is above 59 of four numbers, together: it wraps.
 fn above_of(a: u16, b: u16, c: u16, d: u16) -> u16
     ensures { result ≡ ((a - 59) + (b - 59) + (c - 59) + (d - 59)) % 65_536 }
 {
-    let first = std::num::wrapping_add_u16(above(a), above(b));
-    let last = std::num::wrapping_add_u16(above(c), above(d));
+    let first = std::num::wrapping_add_u16(a.saturating_sub(59), b.saturating_sub(59));
+    let last = std::num::wrapping_add_u16(c.saturating_sub(59), d.saturating_sub(59));
     std::num::wrapping_add_u16(first, last)
 }
 
@@ -76,17 +56,15 @@ fn seen_in(class: usize, start: u16, held: u16, lengths: &[u16; 2048]) -> AllSee
     let mut most: u16 = 0;
     let mut low: u16 = 0;
     let mut high: u16 = 0;
-    let mut k: u16 = 0;
-    while k < 8 {
+    for k in 0..8 {
         let a = seen_at(class, start, held, lengths, k);
         let b = seen_at(class, start, held, lengths, k + 8);
         let c = seen_at(class, start, held, lengths, k + 16);
         let d = seen_at(class, start, held, lengths, k + 24);
-        most = larger(most, larger(larger(a, b), larger(c, d)));
+        most = most.max(a.max(b).max(c.max(d)));
         let over = above_of(a, b, c, d);
         low += over % 256;
         high += over / 256;
-        k += 1;
     }
     AllSeen { most, low, high }
 }
@@ -100,9 +78,7 @@ pub(crate) fn queue_right(v: View, lengths: &[u16; 2048], longest: u16) -> bool
     if v.held == 0 {
         return v.bytes == 0;
     }
-    let all = seen_in(v.class, v.start as u16, v.held as u16, lengths);
-    if longest <= all.most {
-        return false;
-    }
-    v.bytes == all.high as u64 * 256 + all.low as u64 + 84 * v.held as u64
+    let all = seen_in(v.class, u16::from(v.start), u16::from(v.held), lengths);
+    all.most < longest
+        && v.bytes == u64::from(all.high) * 256 + u64::from(all.low) + 84 * u64::from(v.held)
 }

@@ -1,10 +1,11 @@
 -- Laws of the timed loops: a run goes on event by event, all its answers in one number; tags have no say in soundness.
+use Rattle.plan.specs.declared.event.Event.{Event}
+use Rattle.plan.specs.declared.event.Event.TheVariants.{Arrive, SendNext}
+use Rattle.std.specs.Prelude.{Ok, Err, Some, None}
 use Rattle.std.proofs.Common.{◌≡◌, ℕ, zero, suc, ◌+◌, ◌<◌, Bool, true, false, cond, List, [], ◌∷◌, ◌++◌, length, drop, sym, refl, ap, ◌∙◌, subst, arith}
 use Rattle.checks.specs.Check.{Exactly}
 use Rattle.checks.proofs.Laws.{exactly_yes}
-use Rattle.plan.specs.declared.EventRead.{EventRead}
-use Rattle.plan.specs.declared.EventRead.TheVariants.{NoMore, Arrive, SendNext, Fault}
-use Rattle.plan.specs.Event.{event_at}
+use Rattle.plan.specs.Event.{event_at, EventRead}
 use Rattle.state.specs.declared.Link.{Link}
 use Rattle.sound.specs.Sound.{SoundLink}
 use Rattle.sound.proofs.AnyMarks.{marks_as, any_marks_sound}
@@ -34,10 +35,10 @@ timed_calls zero input place = refl
 timed_calls (suc n) input place = go (event_at (drop place input) place)
   where
     go : (e : EventRead) → calls_in input (timed_by n place e) ≡ (event_first e (λ used. events_from n input (place + used))).calls
-    go NoMore = refl
-    go (Arrive a) = refl
-    go SendNext = refl
-    go (Fault m p) = refl
+    go (Ok None) = refl
+    go (Ok (Some (Arrive a))) = refl
+    go (Ok (Some SendNext)) = refl
+    go (Err _) = refl
 
 -- a call is one of those asked for
 pub timed_less : (n : ℕ) (input : List ℕ) (place : ℕ) → calls_left (timed_at n input place) < suc n
@@ -46,10 +47,9 @@ timed_less zero input place = omega arith
 timed_less (suc n) input place = go (event_at (drop place input) place)
   where
     go : (e : EventRead) → calls_left (timed_by n place e) < suc (suc n)
-    go NoMore = omega arith
-    go (Arrive a) = omega arith
-    go SendNext = omega arith
-    go (Fault m p) = omega arith
+    go (Ok None) = omega arith
+    go (Ok (Some x)) = omega arith
+    go (Err _) = omega arith
 
 -- ---- a run, event by event
 
@@ -57,24 +57,24 @@ timed_less (suc n) input place = go (event_at (drop place input) place)
 abbrev pub made_from : List ℕ → Link → TimedEvent → List Made
 made_from input l e = made_in (run_of true l (calls_in input e))
 
-made_none : (input : List ℕ) (l : Link) (e : TimedEvent) → e.call ≡ false → made_from input l e ≡ []
+made_none : (input : List ℕ) (l : Link) (e : TimedEvent) → e.call ≡ None → made_from input l e ≡ []
 unfolding calls_in run_of made_in
 made_none input l e off = rw off refl
 
-calls_first : (input : List ℕ) (e next : TimedEvent) → e.call ≡ true → next ≡ timed_at e.more input e.place
-    → calls_in input e ≡ call_in e ∷ calls_in input next
+calls_first : (input : List ℕ) (e next : TimedEvent) (x : Event) → e.call ≡ Some x → next ≡ timed_at e.more input e.place
+    → calls_in input e ≡ call_in x ∷ calls_in input next
 unfolding calls_in
-calls_first input e next on after =
+calls_first input e next x on after =
     rw on
-    (ap (λ (calls : List Call). call_in e ∷ calls) (sym (timed_calls e.more input e.place) ∙ ap (calls_in input) (sym after)))
+    (ap (λ (calls : List Call). call_in x ∷ calls) (sym (timed_calls e.more input e.place) ∙ ap (calls_in input) (sym after)))
 
-made_first_lem : (input : List ℕ) (l : Link) (e next : TimedEvent) (m : Made) → e.call ≡ true → call_of m ≡ call_in e → SoundLink l → Meets l m
+made_first_lem : (input : List ℕ) (l : Link) (e next : TimedEvent) (m : Made) (x : Event) → e.call ≡ Some x → call_of m ≡ call_in x → SoundLink l → Meets l m
     → next ≡ timed_at e.more input e.place → made_from input l e ≡ m ∷ made_from input (link_left m) next
-made_first_lem input l e next m on call sound meets after =
-    let is : m ≡ makes true l (call_in e) = meets_by l m true (exactly_yes sound) meets ∙ ap (makes true l) call in
-    ap (λ (calls : List Call). made_in (run_of true l calls)) (calls_first input e next on after)
-    ∙ made_next true l (call_in e) (calls_in input next)
-    ∙ ap (λ (x : Made). x ∷ made_from input (link_left x) next) (sym is)
+made_first_lem input l e next m x on call sound meets after =
+    let is : m ≡ makes true l (call_in x) = meets_by l m true (exactly_yes sound) meets ∙ ap (makes true l) call in
+    ap (λ (calls : List Call). made_in (run_of true l calls)) (calls_first input e next x on after)
+    ∙ made_next true l (call_in x) (calls_in input next)
+    ∙ ap (λ (y : Made). y ∷ made_from input (link_left y) next) (sym is)
 
 -- a loop that has come to a link, an event and a number: what is left from here is what was to do from the start
 pub record Served (input : List ℕ) (first : Link) (start : TimedEvent) (l : Link) (e : TimedEvent) (tally : ℕ) : Type 0 where
@@ -87,12 +87,12 @@ module _ (input : List ℕ) (first : Link) (start : TimedEvent) where
   served_starts sound = record { sound = sound; answers = refl; last = refl }
 
   -- a call is made, and the next event is read
-  pub served_on : (l : Link) (e next : TimedEvent) (tally tally' : ℕ) (m : Made) → Served input first start l e tally → e.call ≡ true
-      → call_of m ≡ call_in e → Meets l m → tally' ≡ heard tally m → next ≡ timed_at e.more input e.place
+  pub served_on : (l : Link) (e next : TimedEvent) (tally tally' : ℕ) (m : Made) (x : Event) → Served input first start l e tally → e.call ≡ Some x
+      → call_of m ≡ call_in x → Meets l m → tally' ≡ heard tally m → next ≡ timed_at e.more input e.place
       → Served input first start (link_left m) next tally'
   unfolding tally_of last_link
-  served_on l e next tally tally' m s on call meets told after =
-      let made = made_first_lem input l e next m on call s.sound meets after in
+  served_on l e next tally tally' m x s on call meets told after =
+      let made = made_first_lem input l e next m x on call s.sound meets after in
       record {
         sound = meets_keeps l m s.sound meets;
         answers = s.answers ∙ ap (tally_of tally) made ∙ ap (λ (t : ℕ). tally_of t (made_from input (link_left m) next)) (sym told);
@@ -100,7 +100,7 @@ module _ (input : List ℕ) (first : Link) (start : TimedEvent) where
       }
 
   -- where no call is left, the number and the link are those of the run
-  module _ (l : Link) (e : TimedEvent) (tally : ℕ) (s : Served input first start l e tally) (off : e.call ≡ false) where
+  module _ (l : Link) (e : TimedEvent) (tally : ℕ) (s : Served input first start l e tally) (off : e.call ≡ None) where
     pub served_tally : tally ≡ tally_of 0 (made_from input first start)
     unfolding tally_of
     served_tally = sym (s.answers ∙ ap (tally_of tally) (made_none input l e off))

@@ -1,8 +1,7 @@
 -- One packet more offered, and one round more opened: the steps of the timed loop.
+use Rattle.std.specs.Prelude.{Ok, Err}
 use Rattle.std.proofs.Common.{◌≡◌, ℕ, zero, suc, ◌+◌, true, false, List, length, sym, refl, ap, ◌∙◌, subst, ap₂, add-one}
-use Rattle.checks.specs.declared.Verdict.{Verdict}
-use Rattle.checks.specs.declared.Verdict.TheVariants.{Passed, Refused}
-use Rattle.checks.specs.Check.{first_broken}
+use Rattle.checks.specs.Check.{first_broken, Verdict}
 use Rattle.units.specs.declared.Bytes.{Bytes}
 use Rattle.tree.specs.declared.Tree.{Tree}
 use Rattle.state.specs.declared.Account.{Account}
@@ -82,8 +81,8 @@ same_size {t} {size} {new} {active} {place} {on} {start} {held} {lengths} {tags}
 
 -- no arrival changes the tree
 given_tree : (v : Verdict) (l : Link) (i : ℕ) → (arrival_gives v l i one_packet).link.tree ≡ l.tree
-given_tree Passed l i = refl
-given_tree (Refused n q) l i = refl
+given_tree (Ok _) l i = refl
+given_tree (Err _) l i = refl
 
 pub offered_tree : (n : ℕ) (l : Link) → (offered_to n l).tree ≡ l.tree
 unfolding offered_to arrival_of

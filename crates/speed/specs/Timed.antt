@@ -1,16 +1,12 @@
 -- What the timed loops answer: a recording's first events as a run, all its answers in one number, or its lines. No rule of its own.
-use Rattle.std.specs.Prelude.{◌≡◌, ℕ, zero, suc, ◌+◌, ◌*◌, ◌%◌, ◌^◌, Bool, true, false, cond, List, [], ◌∷◌, ◌++◌, length, drop}
-use Rattle.checks.specs.declared.Verdict.{Verdict}
-use Rattle.checks.specs.declared.Verdict.TheVariants.{Passed, Refused}
-use Rattle.checks.specs.Check.{Exactly}
+use Rattle.plan.specs.declared.event.Event.{Event}
+use Rattle.plan.specs.declared.event.Event.TheVariants.{Arrive, SendNext}
+use Rattle.std.specs.Prelude.{◌≡◌, ℕ, zero, suc, ◌+◌, ◌*◌, ◌%◌, ◌^◌, Bool, true, cond, List, [], ◌∷◌, ◌++◌, length, drop, Ok, Err, Option, Some, None}
+use Rattle.checks.specs.Check.{Exactly, Verdict}
 use Rattle.plan.specs.declared.PlanRead.{PlanRead}
-use Rattle.plan.specs.declared.EventRead.{EventRead}
-use Rattle.plan.specs.declared.EventRead.TheVariants.{NoMore, Arrive, SendNext, Fault}
-use Rattle.plan.specs.Event.{used_of, event_at}
+use Rattle.plan.specs.Event.{used_of, event_at, EventRead}
 use Rattle.tree.specs.Size.{round_size}
 use Rattle.state.specs.declared.Link.{Link}
-use Rattle.state.specs.Mark.{unmarked}
-use Rattle.state.specs.Queue.{no_packet}
 use Rattle.sound.specs.Sound.{SoundLink}
 use Rattle.calls.specs.declared.Departure.{Departure}
 use Rattle.calls.specs.Run.{Call, arrival, send, Made, made, run_of, made_in}
@@ -29,8 +25,8 @@ timed_run n input =
 
 -- a send as one number: class, length, rounds and tag; 1 where it is refused
 abbrev pub send_number : Verdict → Departure → ℕ
-send_number Passed d = (d.class * 2 ^ 50 + d.length * 2 ^ 34 + d.rounds * 2 ^ 32 + d.tag) % 2 ^ 64
-send_number (Refused n p) d = 1
+send_number (Ok _) d = (d.class * 2 ^ 50 + d.length * 2 ^ 34 + d.rounds * 2 ^ 32 + d.tag) % 2 ^ 64
+send_number (Err _) d = 1
 
 -- one answer more: 33 times what it was, and the next
 abbrev pub tallied : ℕ → ℕ → ℕ
@@ -38,8 +34,8 @@ tallied tally next = (tally * 33 + next) % 2 ^ 64
 
 -- an arrival counts where it is refused, a send by its number
 abbrev pub heard_arrival : Verdict → ℕ → ℕ
-heard_arrival Passed tally = tally
-heard_arrival (Refused n p) tally = tallied tally 2
+heard_arrival (Ok _) tally = tally
+heard_arrival (Err _) tally = tallied tally 2
 
 abbrev pub heard : ℕ → Made → ℕ
 heard tally (made (arrival class p) answer after) = heard_arrival answer.verdict tally
@@ -66,42 +62,44 @@ SoundTimes l times r = (sound : Bool) → Exactly sound (SoundLink l) → r ≡ 
 
 -- the round size of the fresh link of a plan that was read; 0 where it is refused
 abbrev pub fresh_size : Verdict → PlanRead → ℕ
-fresh_size Passed read = round_size read.tree
-fresh_size (Refused n p) read = 0
+fresh_size (Ok _) read = round_size read.tree
+fresh_size (Err _) read = 0
 
 -- ---- its events, one by one
 
--- an event that is no arrival
-abbrev pub plain_timed : Bool → ℕ → ℕ → TimedEvent
-plain_timed call place more = record { call = call; arrives = false; class = 0; packet = unmarked no_packet; place = place; more = more }
+-- an event that is no call: none is asked for after it
+abbrev pub no_timed : ℕ → TimedEvent
+no_timed place = record { call = None; place = place; more = 0 }
 
--- the event that was read at a place, with n more asked for; after one that is no call none is
+-- the event that was read at a place, with n more asked for
 abbrev pub timed_by : ℕ → ℕ → EventRead → TimedEvent
-timed_by n place NoMore = plain_timed false place 0
-timed_by n place (Arrive a) = record {
-  call = true;
-  arrives = true;
-  class = a.class;
-  packet = packet_in a;
-  place = place + used_of (Arrive a);
-  more = n;
-}
-timed_by n place SendNext = plain_timed true (place + used_of SendNext) n
-timed_by n place (Fault m p) = plain_timed false place 0
+timed_by n place (Ok None) = no_timed place
+timed_by n place (Ok (Some e)) = record { call = Some e; place = place + used_of (Ok (Some e)); more = n }
+timed_by n place (Err _) = no_timed place
 
 -- the event at a place, one of so many that are asked for
 unfoldable pub timed_at : ℕ → List ℕ → ℕ → TimedEvent
-timed_at zero input place = plain_timed false place 0
+timed_at zero input place = no_timed place
 timed_at (suc n) input place = timed_by n place (event_at (drop place input) place)
 
--- the call that it is
-abbrev pub call_in : TimedEvent → Call
-call_in e = cond e.arrives (arrival e.class e.packet) send
+-- the call that an event is
+abbrev pub call_in : Event → Call
+call_in (Arrive a) = arrival a.class (packet_in a)
+call_in SendNext = send
+
+-- that call, if any, and then others
+abbrev pub call_before : Option Event → List Call → List Call
+call_before None calls = []
+call_before (Some e) calls = call_in e ∷ calls
 
 -- that call and those of the events after it
 unfoldable pub calls_in : List ℕ → TimedEvent → List Call
-calls_in input e = cond e.call (call_in e ∷ (events_from e.more input e.place).calls) []
+calls_in input e = call_before e.call (events_from e.more input e.place).calls
 
 -- an event that is a call, and those after it: the loops end because each call is one of those asked for
+abbrev pub left_by : Option Event → ℕ → ℕ
+left_by None more = 0
+left_by (Some _) more = suc more
+
 abbrev pub calls_left : TimedEvent → ℕ
-calls_left e = cond e.call (suc e.more) 0
+calls_left e = left_by e.call e.more

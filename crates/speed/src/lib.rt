@@ -11,10 +11,10 @@ ghost use Rattle.calls.specs.Run.{run_of, made_in, last_link};
 ghost use Rattle.run.specs.Event.{packet_in};
 ghost use Rattle.run.specs.Run.{begin_of};
 ghost use Rattle.speed.specs.Timed.{timed_run, send_number, tallied, heard_arrival, tally_of, SoundTimes, fresh_size};
-ghost use Rattle.speed.specs.Timed.{plain_timed, timed_at, calls_in, timed_text, LaysText};
+ghost use Rattle.speed.specs.Timed.{no_timed, timed_at, calls_in, timed_text, LaysText};
 
-use checks::Verdict;
 use link::{Arrival, Departure};
+use plan::event::Event;
 use plan::{Arrived, EventRead};
 use state::{Link, Packet};
 
@@ -31,7 +31,7 @@ fn number(d: Departure) -> u64
 {
     let verdict = d.verdict;
     match verdict {
-        Verdict::Passed => {
+        Ok(()) => {
             let packet = std::num::wrapping_add_u64(
                 (d.class as u64) << 50,
                 (d.length as u64) << 34,
@@ -41,7 +41,7 @@ fn number(d: Departure) -> u64
                 d.tag as u64,
             )
         }
-        Verdict::Refused(_, _) => 1,
+        Err(_) => 1,
     }
 }
 
@@ -58,8 +58,8 @@ fn after_arrival(tally: u64, answer: Arrival) -> u64
 {
     let verdict = answer.verdict;
     match verdict {
-        Verdict::Passed => tally,
-        Verdict::Refused(_, _) => tallied(tally, 2),
+        Ok(()) => tally,
+        Err(_) => tallied(tally, 2),
     }
 }
 
@@ -70,29 +70,22 @@ fn after_send(tally: u64, d: Departure) -> u64
     tallied(tally, number(d))
 }
 
-// An event of a timed run: whether it is a call, and which; the class and the packet of an arrival; the place after it, and how many more
-// events are asked for.
+// An event of a timed run: the call that it is, if any; the place after it, and how many more events are asked for.
 #[derive(Drop)]
 pub struct TimedEvent {
-    pub call: bool,
-    pub arrives: bool,
-    pub class: usize,
-    pub packet: Packet,
+    pub call: Option<Event>,
     pub place: usize,
     pub more: usize,
 }
 
-// An event that is no arrival.
-fn plain(call: bool, place: usize, more: usize) -> TimedEvent
-    ensures { result ≡ plain_timed call place more }
+// An event that is no call: none is asked for after it.
+fn no_call(place: usize) -> TimedEvent
+    ensures { result ≡ no_timed place }
 {
     TimedEvent {
-        call,
-        arrives: false,
-        class: 0,
-        packet: Packet { length: 0, tag: 0 },
+        call: None,
         place,
-        more,
+        more: 0,
     }
 }
 
@@ -111,24 +104,19 @@ fn event_at(input: &[u8], place: usize, asked: usize) -> TimedEvent
     ensures { result ≡ timed_at asked input.now place }
 {
     if asked == 0 {
-        return plain(false, place, 0);
+        return no_call(place);
     }
-    let more = asked - 1;
     let rest = plan::events_after(input, place);
     let read = plan::read_event(rest, place);
     let after = place + plan::used(read);
     match read {
-        EventRead::NoMore => plain(false, place, 0),
-        EventRead::Arrive(a) => TimedEvent {
-            call: true,
-            arrives: true,
-            class: a.class as usize,
-            packet: packet_of(a),
+        Ok(Some(event)) => TimedEvent {
+            call: Some(event),
             place: after,
-            more,
+            more: asked - 1,
         },
-        EventRead::SendNext => plain(true, after, more),
-        EventRead::Fault(_, _) => plain(false, place, 0),
+        Ok(None) => no_call(place),
+        Err(_) => no_call(place),
     }
 }
 
@@ -141,18 +129,21 @@ fn by_value(first: Link, input: &[u8], start: TimedEvent) -> Ran
     let mut link = first;
     let mut event = start;
     let mut tally: u64 = 0;
-    while event.call {
-        if event.arrives {
-            let answered = link::arrive(link, event.class, event.packet);
-            tally = after_arrival(tally, answered.answer);
-            link = answered.link;
-            event = event_at(input, event.place, event.more);
-            continue;
+    while let Some(call) = event.call {
+        match call {
+            Event::Arrive(a) => {
+                let answered = link::arrive(link, a.class as usize, packet_of(a));
+                tally = after_arrival(tally, answered.answer);
+                link = answered.link;
+                event = event_at(input, event.place, event.more);
+            }
+            Event::SendNext => {
+                let gone = link::send(link);
+                tally = after_send(tally, gone.answer);
+                link = gone.link;
+                event = event_at(input, event.place, event.more);
+            }
         }
-        let gone = link::send(link);
-        tally = after_send(tally, gone.answer);
-        link = gone.link;
-        event = event_at(input, event.place, event.more);
     }
     Ran { link, tally }
 }
@@ -184,10 +175,7 @@ fn found_so(found: usize, sound: bool) -> usize
     requires { found + 1 < 2 ^ 64 }
     ensures { result ≡ (if sound then found + 1 else found) }
 {
-    if sound {
-        return found + 1;
-    }
-    found
+    if sound { found + 1 } else { found }
 }
 
 // How often a link is found sound, asked so many times. A tag changes between two times, so that each is asked: tags have no say.
@@ -196,11 +184,9 @@ fn sound_times(first: Link, times: usize) -> usize
 {
     let mut link = first;
     let mut found: usize = 0;
-    let mut n: usize = 0;
-    while n < times {
+    for n in 0..times {
         found = found_so(found, sound::is_sound(link));
         link.tags[n % 32] = 7;
-        n += 1;
     }
     found
 }
@@ -223,12 +209,6 @@ pub extern "C" fn speed_plan(input: &[u8]) -> usize
     read.used
 }
 
-fn wide(x: u16) -> u64
-    ensures { result ≡ x }
-{
-    x as u64
-}
-
 // The round size of a plan's fresh link, and a length of a waiting place, which is 0; 0 where the plan is refused.
 #[unsafe(no_mangle)]
 pub extern "C" fn speed_fresh(input: &[u8], at: usize) -> u64
@@ -236,13 +216,13 @@ pub extern "C" fn speed_fresh(input: &[u8], at: usize) -> u64
 {
     let read = plan::read_plan(input);
     let verdict = read.verdict;
-    if let Verdict::Refused(_, _) = verdict {
+    if let Err(_) = verdict {
         return 0;
     }
     let made = link::fresh(read.tree);
     let link = made.link;
     let size = link.round.size;
-    std::num::wrapping_add_u64(size.0, wide(link.lengths[at % 2048]))
+    std::num::wrapping_add_u64(size.0, u64::from(link.lengths[at % 2048]))
 }
 
 // The lines of a recording's events by the box's loop, one part of them: as many as the buffer has room for; how many bytes they are. None

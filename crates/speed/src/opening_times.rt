@@ -18,9 +18,7 @@ fn backlogged(link: Link) -> Link
     ensures { (result ≡ offered_to 63 link) × SoundLink result }
 {
     let mut link = link;
-    let mut i: usize = 0;
-    while i < 63 {
-        i += 1;
+    for i in 1..Link::CLASSES {
         let answered = link::arrive(link, i, Packet { length: 1, tag: 0 });
         link = answered.link;
     }
@@ -69,11 +67,9 @@ fn open_times(link: Link, times: usize) -> Link
     let mut residual = state::lent_accounts::residuals(before);
     let mut active = link.round.active;
     let mut place = link.round.place;
-    let mut n: usize = 0;
-    while n < times {
+    for _n in 0..times {
         active = open_next(&shape, &mut kept, size, &held, &mut balance, &mut residual);
         place = 1;
-        n += 1;
     }
     let accounts = state::lent_accounts::zipped(&balance, &residual);
     let round = Round {
@@ -106,10 +102,7 @@ pub extern "C" fn speed_openings(input: &[u8], times: usize) -> u64
     let begun = run::begin(input);
     let link = begun.link;
     let tree = link.tree;
-    if !begun.more {
-        return 0;
-    }
-    if tree.follows {
+    if !begun.more || tree.follows {
         return 0;
     }
     root_left(link, times)

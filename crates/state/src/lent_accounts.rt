@@ -4,7 +4,7 @@ ghost use Rattle.std.specs.Prelude.{◌≡◌, ℕ, ◌<◌, List, length, if◌
 ghost use Rattle.state.specs.Account.{account_of, balance_of, residual_of, zip_accounts};
 ghost use Rattle.tree.specs.Sum.{table};
 
-use crate::{Account, Link};
+use crate::Account;
 use units::Bytes;
 
 // The account of a class.
@@ -37,41 +37,17 @@ pub fn keep_balance(i: usize, account: Account, balance: &mut [u64; 64])
     balance[i] = account.balance.0;
 }
 
-// A number of an account: its residual, or its balance.
-fn number(account: Account, residual: bool) -> u64
-    ensures { result ≡ (if residual then account.residual.0 else account.balance.0) }
-{
-    if residual {
-        return account.residual.0;
-    }
-    account.balance.0
-}
-
-// That number of each account.
-fn numbers(accounts: [Account; 64], residual: bool) -> [u64; 64]
-    ensures { result ≡ table (λ i. (if residual then residual_of accounts i else balance_of accounts i)) 64 }
-{
-    let mut out = [0u64; 64];
-    let mut i: usize = 0;
-    while i < Link::CLASSES {
-        let a = accounts[i];
-        out[i] = number(a, residual);
-        i += 1;
-    }
-    out
-}
-
 // The balances of the accounts, and their residuals.
 pub fn balances(accounts: [Account; 64]) -> [u64; 64]
     ensures { result ≡ table (balance_of accounts) 64 }
 {
-    numbers(accounts, false)
+    accounts.map(|account| account.balance.0)
 }
 
 pub fn residuals(accounts: [Account; 64]) -> [u64; 64]
     ensures { result ≡ table (residual_of accounts) 64 }
 {
-    numbers(accounts, true)
+    accounts.map(|account| account.residual.0)
 }
 
 // And the accounts of both.
@@ -81,10 +57,8 @@ pub fn zipped(balance: &[u64; 64], residual: &[u64; 64]) -> [Account; 64]
 {
     let none = Account::none();
     let mut out = [none; 64];
-    let mut i: usize = 0;
-    while i < Link::CLASSES {
-        out[i] = account_of(i, balance, residual);
-        i += 1;
+    for (i, account) in out.iter_mut().enumerate() {
+        *account = account_of(i, balance, residual);
     }
     out
 }

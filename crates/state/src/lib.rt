@@ -15,21 +15,21 @@ use tree::Tree;
 use units::Bytes;
 
 // What a class holds: a balance B, and for the root and inner classes a residual R.
-#[derive(Clone, Copy)]
+#[derive(Clone, Copy, Debug, PartialEq, Eq)]
 pub struct Account {
     pub balance: Bytes,
     pub residual: Bytes,
 }
 
 // A packet as it comes and goes.
-#[derive(Clone, Copy)]
+#[derive(Clone, Copy, Debug, PartialEq, Eq)]
 pub struct Packet {
     pub length: u16,
     pub tag: u32,
 }
 
 // One that waits: its mark is the running total when it was accepted.
-#[derive(Clone, Copy)]
+#[derive(Clone, Copy, Debug, PartialEq, Eq)]
 pub struct Waiting {
     pub length: u16,
     pub tag: u32,
@@ -38,7 +38,7 @@ pub struct Waiting {
 
 // The totals of each class number, the packets and their charged bytes that wait at the leaves at or below it; and the running total of the
 // bytes charged on the link, 64 bits that wrap.
-#[derive(Clone, Copy)]
+#[derive(Clone, Copy, Debug, PartialEq, Eq)]
 pub struct Totals {
     pub packets: [u64; Link::CLASSES],
     pub bytes: [u64; Link::CLASSES],
@@ -46,7 +46,7 @@ pub struct Totals {
 }
 
 // Where a link stands in its round: the round size in force, the set of active classes, the place, and each class's account.
-#[derive(Clone, Copy)]
+#[derive(Clone, Copy, Debug, PartialEq, Eq)]
 pub struct Round {
     pub size: Bytes,
     pub active: u64,
@@ -56,7 +56,7 @@ pub struct Round {
 
 // The link: class i's packets lie in the 32 places from i * 32 on, the first of them at its start, and the others follow round the 32.
 // Its round stands last: a small field that joins it moves no other.
-#[derive(Clone, Copy)]
+#[derive(Clone, Copy, Debug, PartialEq, Eq)]
 pub struct Link {
     pub tree: Tree,
     pub lengths: [u16; 2048],

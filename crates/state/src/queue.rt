@@ -5,7 +5,6 @@ ghost use Rattle.state.specs.declared.Link.{Link};
 ghost use Rattle.state.specs.Queue.{slot, packet_at, queued, laid_last, lifted_first};
 
 use crate::{Link, Waiting};
-use tree::wide;
 
 // The waiting place at a position of a class: class times 32 plus position.
 pub fn slot(class: usize, position: usize) -> usize
@@ -20,7 +19,10 @@ pub fn free_place(class: usize, start: u8, held: u8) -> usize
     requires { class < 64 }
     ensures { (result ≡ slot class ((start + held) % 32)) × (result < 2_048) }
 {
-    slot(class, (wide(start) + wide(held)) % Link::PLACES)
+    slot(
+        class,
+        (usize::from(start) + usize::from(held)) % Link::PLACES,
+    )
 }
 
 // A packet is laid last in its class's queue.
@@ -58,7 +60,7 @@ pub fn first(
     ensures { (l : Link) (held : List ℕ)
         → result ≡ packet_at (queued l start.now held lengths.now tags.now marks.now) class 0 }
 {
-    let at = slot(class, wide(start[class]));
+    let at = slot(class, usize::from(start[class]));
     Waiting {
         length: lengths[at],
         tag: tags[at],
@@ -72,7 +74,7 @@ pub fn take(class: usize, start: &mut [u8; 64], held: &mut [u8; 64])
     ensures { (l : Link) (lengths tags marks : List ℕ) → queued l start.new held.new lengths tags marks
         ≡ lifted_first (queued l start.old held.old lengths tags marks) class }
 {
-    let s = start[class] as usize;
+    let s = usize::from(start[class]);
     start[class] = ((s + 1) % Link::PLACES) as u8;
     held[class] -= 1;
 }

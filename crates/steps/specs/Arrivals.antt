@@ -1,8 +1,6 @@
 -- What the steps of an arrival say; no rule of its own.
-use Rattle.std.specs.Prelude.{Bool, true, List, ◌≡◌, ℕ, ◌<◌, length}
-use Rattle.checks.specs.declared.Verdict.{Verdict}
-use Rattle.checks.specs.declared.Verdict.TheVariants.{Passed}
-use Rattle.checks.specs.Check.{first_broken}
+use Rattle.std.specs.Prelude.{Bool, true, List, ◌≡◌, ℕ, ◌<◌, length, Ok}
+use Rattle.checks.specs.Check.{first_broken, Verdict}
 use Rattle.tree.specs.Class.{longest_of, is_leaf}
 use Rattle.state.specs.declared.Link.{Link}
 use Rattle.state.specs.declared.Packet.{Packet}
@@ -18,7 +16,7 @@ use Rattle.calls.specs.Arrival.{arrival_checks, arrival_leaves, arrival_of}
 pub record JudgesLeaf (class n longest held : ℕ) (r : Verdict) : Type 0 where
   pub verdict : (s : State) (p : Packet) → is_leaf s.tree class ≡ true → p.length ≡ n → longest_of s.tree class ≡ longest
       → length (queue_at s class) ≡ held → r ≡ first_broken (arrival_checks true s class p)
-  pub room : r ≡ Passed → held < 32
+  pub room : r ≡ Ok tt → held < 32
 
 -- the link with these queues and totals
 abbrev pub lent_waiting : Link → List ℕ → List ℕ → List ℕ → List ℕ → List ℕ → Totals → Link

@@ -1,6 +1,7 @@
 -- What opening rounds and a whole send ask of the fields of a link, and what they give; no rule of its own.
-use Rattle.std.specs.Prelude.{Bool, true, false, List, ◌≡◌, ℕ, ◌<◌, length}
-use Rattle.checks.specs.declared.Verdict.TheVariants.{Refused}
+use Rattle.checks.specs.declared.Refusal.TheVariants.{NothingWaits}
+use Rattle.checks.specs.Check.{refusal_at}
+use Rattle.std.specs.Prelude.{Bool, true, false, List, ◌≡◌, ℕ, ◌<◌, length, Err}
 use Rattle.units.specs.declared.Bytes.{Bytes}
 use Rattle.tree.specs.declared.Tree.{Tree}
 use Rattle.state.specs.declared.Link.{Link}
@@ -99,7 +100,7 @@ pub record Departs (l : Link) (r : Went) (after : Link) : Type 0 where
 -- what the call answers, of what the step gives
 abbrev pub answer_of : Bool → ℕ → Waiting → ℕ → ℕ → Departure
 answer_of true class p rounds total = goes class p rounds total
-answer_of false class p rounds total = refused_send (Refused 15 0)
+answer_of false class p rounds total = refused_send (Err (refusal_at NothingWaits 0))
 
 abbrev pub went_answers : Went → Departure
 went_answers w = answer_of w.some w.class w.packet w.rounds w.stand.charged

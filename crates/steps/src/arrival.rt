@@ -10,7 +10,7 @@ ghost use Rattle.calls.specs.Arrival.{arrival_answer};
 ghost use Rattle.steps.specs.Arrivals.{JudgesLeaf, ArrivesOn, TakesOn, lent_waiting};
 
 use calls::Arrival;
-use checks::Verdict;
+use checks::{Refusal, Refused, Verdict};
 use state::mark::marked_with;
 use state::{Link, Packet, queue};
 use totals::count;
@@ -20,10 +20,7 @@ use units::Bytes;
 fn out_of_range(length: u16, longest: u16) -> bool
     ensures { result ≡ (ltb length 1 || ltb longest length) }
 {
-    if length < 1 {
-        return true;
-    }
-    longest < length
+    length < 1 || longest < length
 }
 
 // Checks 13 and 14 of an arrival to a leaf of a sound link, in this order.
@@ -31,12 +28,12 @@ fn judge(class: usize, length: u16, longest: u16, held: u8) -> Verdict
     ensures { JudgesLeaf class length longest held result }
 {
     if out_of_range(length, longest) {
-        return Verdict::Refused(checks::LENGTH, class);
+        return Err(Refused(Refusal::BadLength, class));
     }
-    if Link::PLACES as u8 <= held {
-        return Verdict::Refused(checks::FULL, class);
+    if Link::PLACES <= usize::from(held) {
+        return Err(Refused(Refusal::Full, class));
     }
-    Verdict::Passed
+    Ok(())
 }
 
 // What a refused arrival answers: 0 bytes.
@@ -74,11 +71,11 @@ pub fn arrive(
     ensures near { Near packets.old packets.new × Near bytes.old bytes.new }
 {
     if !sound {
-        return refused(Verdict::Refused(checks::NOT_SOUND, 0));
+        return refused(Err(Refused(Refusal::NotSound, 0)));
     }
     let leaf = sets::holds(shape::leaves(shape), class);
     if !leaf {
-        return refused(Verdict::Refused(checks::NO_LEAF, class));
+        return refused(Err(Refused(Refusal::NoLeaf, class)));
     }
     let verdict = judge(
         class,
@@ -86,7 +83,7 @@ pub fn arrive(
         shape::longest(shape, class),
         held[class],
     );
-    if let Verdict::Passed = verdict {
+    if let Ok(()) = verdict {
         queue::put(
             class,
             marked_with(charged, packet),

@@ -39,10 +39,7 @@ fn has_active_child(children: &[u64; 64], active: u64, p: usize) -> bool
     requires { p < 64 }
     ensures { (t : Tree) → PlanRules t → Families t children.now → result ≡ some_to (active_child t active p) t.count }
 {
-    if sets::both(active, children[p]) == 0 {
-        return false;
-    }
-    true
+    sets::both(active, children[p]) != 0
 }
 
 // A leaf turns inactive, and so on up.

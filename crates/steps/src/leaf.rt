@@ -19,7 +19,6 @@ use state::lent_accounts::{account_of, keep_balance};
 use state::mark::grown;
 use state::{Link, Waiting, queue};
 use totals::count;
-use tree::wide;
 use units::Bytes;
 
 // Step 1: the lowest-numbered active leaf not below the place whose balance covers its first packet, or 64 where the round has closed.
@@ -40,7 +39,7 @@ pub(crate) fn next_leaf(
         if i == Link::CLASSES {
             return Link::CLASSES;
         }
-        let s = start[i] as usize;
+        let s = usize::from(start[i]);
         let cost = units::cost(lengths[queue::slot(i, s)]);
         let held = Bytes(balance[i]);
         if held.covers(cost) {
@@ -112,7 +111,7 @@ pub fn goes(
     pay(i, cost, balance, residual);
     count(true, i, packet.length, packets, bytes);
     let total = grown(charged, cost.0);
-    let waiting = wide(held[i]);
+    let waiting = usize::from(held[i]);
     queue::take(i, start, held);
     if 1 < waiting {
         return Gone {

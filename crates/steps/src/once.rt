@@ -74,8 +74,6 @@ pub fn send(
         held.new
         lengths.now tags.now marks.now packets.new bytes.new) }
 {
-    let many = totals::lent_64(packets);
-    let wide = totals::lent_64(bytes);
     let went = crate::send(
         shape, children, kept, stand, balance, residual, start, held, lengths, tags, marks,
         packets, bytes,

@@ -4,8 +4,8 @@ use mathlib.Core.List.{List, ◌++◌}
 use mathlib.Core.Path.{◌≡◌, refl, ap}
 use Prim.Native.Nat.{ℕ, ◌≤◌}
 use lib.ListN.{length}
-use Rattle.checks.specs.declared.Verdict.{Verdict}
-use Rattle.checks.specs.declared.Verdict.TheVariants.{Passed, Refused}
+use Rattle.checks.specs.Check.{Verdict}
+use Rattle.std.specs.Prelude.{Ok, Err}
 use Rattle.checks.proofs.Laws.{not_true_and_false}
 use Rattle.plan.specs.declared.PlanRead.{PlanRead}
 use Rattle.plan.specs.Reader.{plan_of}
@@ -21,5 +21,5 @@ unfolding begin_of
 begin_inside s m = go (plan_of s).verdict refl m
   where
     go : (v : Verdict) → (plan_of s).verdict ≡ v → (plan_gives v (plan_of s)).more ≡ true → (plan_gives v (plan_of s)).place ≤ length s
-    go Passed e m = plan_inside s e
-    go (Refused n p) e m = absurd (not_true_and_false m refl)
+    go (Ok _) e m = plan_inside s e
+    go (Err _) e m = absurd (not_true_and_false m refl)

@@ -5,10 +5,10 @@ use mathlib.Core.Path.{◌≡◌, refl, sym, ap, ap₂, subst, ◌∙◌}
 use Prim.Native.Nat.{ℕ, suc, ◌-◌, ◌≤◌, ◌<◌}
 use native.Mathlib.Omega.{arith}
 use lib.ListN.{length, drop, length-append}
+use Rattle.plan.specs.declared.event.Event.TheVariants.{Arrive, SendNext}
+use Rattle.std.specs.Prelude.{Ok, Err, Some, None}
 use Rattle.checks.proofs.Laws.{not_true_and_false}
-use Rattle.plan.specs.declared.EventRead.{EventRead}
-use Rattle.plan.specs.declared.EventRead.TheVariants.{NoMore, Arrive, SendNext, Fault}
-use Rattle.plan.specs.Event.{event_at}
+use Rattle.plan.specs.Event.{event_at, EventRead}
 use Rattle.state.specs.declared.Link.{Link}
 use Rattle.lines.specs.Line.{bytes_of, line_room}
 use Rattle.run.specs.Event.{last_line, event_gives, step_of}
@@ -30,10 +30,10 @@ module _ (sound : Bool) (window : List ℕ) (room : ℕ) where
       go : (e : EventRead) → event_at (drop p.place window) p.place ≡ e → (event_gives sound p.link p.place e).more ≡ false
           → let s = event_gives sound p.link p.place e in
           length (bytes_of (last_line (event_at (drop s.place window) s.place) s.link)) ≤ length (p.text ++ bytes_of s.line)
-      go NoMore same f = rw same (omega (arith, length-append p.text (bytes_of (last_line NoMore p.link))))
-      go (Arrive a) same f = absurd (not_true_and_false refl f)
-      go SendNext same f = absurd (not_true_and_false refl f)
-      go (Fault n q) same f = rw same (omega (arith, length-append p.text (bytes_of (last_line (Fault n q) p.link))))
+      go (Ok None) same f = rw same (omega (arith, length-append p.text (bytes_of (last_line (Ok None) p.link))))
+      go (Ok (Some (Arrive a))) same f = absurd (not_true_and_false refl f)
+      go (Ok (Some SendNext)) same f = absurd (not_true_and_false refl f)
+      go (Err e) same f = rw same (omega (arith, length-append p.text (bytes_of (last_line (Err e) p.link))))
 
   part_within : (l : Link) (place : ℕ) → Within (part_of sound l window place room)
   unfolding Within
@@ -72,10 +72,10 @@ unfolding step_of
 last_place sound l window place m = go (event_at (drop place window) place) m
   where
     go : (e : EventRead) → (event_gives sound l place e).more ≡ false → (event_gives sound l place e).place ≡ place
-    go NoMore f = refl
-    go (Arrive a) f = absurd (not_true_and_false refl f)
-    go SendNext f = absurd (not_true_and_false refl f)
-    go (Fault n q) f = refl
+    go (Ok None) f = refl
+    go (Ok (Some (Arrive a))) f = absurd (not_true_and_false refl f)
+    go (Ok (Some SendNext)) f = absurd (not_true_and_false refl f)
+    go (Err _) f = refl
 
 -- a part stays within the window
 part_inside : (sound : Bool) (window : List ℕ) (room : ℕ) (l : Link) (place : ℕ) → place ≤ length window

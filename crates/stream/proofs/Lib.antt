@@ -2,5 +2,4 @@
 pub mod Longer
 pub mod Begins
 pub mod Ends
-pub mod Carried
 pub mod Windows

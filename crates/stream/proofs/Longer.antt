@@ -5,13 +5,13 @@ use mathlib.Core.List.{List, ◌++◌}
 use mathlib.Core.Path.{◌≡◌, refl, sym, ap, ◌∙◌}
 use Prim.Native.Nat.{ℕ, ◌≤◌}
 use lib.ListN.{length}
+use Rattle.plan.specs.declared.event.Event.TheVariants.{Arrive, SendNext}
+use Rattle.std.specs.Prelude.{Ok, Err, Some, None}
 use Rattle.checks.proofs.Laws.{not_true_and_false}
-use Rattle.plan.specs.declared.EventRead.{EventRead}
-use Rattle.plan.specs.declared.EventRead.TheVariants.{NoMore, Arrive, SendNext, Fault}
 use Rattle.plan.specs.declared.kind.Section.TheVariants.{Events}
 use Rattle.plan.specs.Kind.{gives_arrival}
 use Rattle.plan.specs.Record.{kind_at, missing, unknown, cut}
-use Rattle.plan.specs.Event.{arrived_of, event_of, event_at}
+use Rattle.plan.specs.Event.{arrived_of, event_of, event_at, EventRead}
 use Rattle.plan.proofs.Records.{there_length}
 use Rattle.plan.proofs.Longer.{same_kind, same_there, same_unknown, same_cut, same_body}
 use Rattle.plan.proofs.EventLaws.{event_end, event_unknown, event_cut, event_whole, event_arrival, event_send}
@@ -19,10 +19,10 @@ use Rattle.stream.specs.Window.{waits_for_more, unfinished_at}
 
 -- an arrival or a send
 abbrev pub is_call : EventRead → Bool
-is_call NoMore = false
-is_call (Arrive a) = true
-is_call SendNext = true
-is_call (Fault n p) = false
+is_call (Ok None) = false
+is_call (Ok (Some (Arrive a))) = true
+is_call (Ok (Some SendNext)) = true
+is_call (Err _) = false
 
 module _ (xs ys : List ℕ) where
   same_event : 1 ≤ length xs → cut xs ≡ false → event_of (xs ++ ys) ≡ event_of xs
@@ -33,7 +33,7 @@ module _ (xs ys : List ℕ) where
 
       go : (b : Bool) → gives_arrival (kind_at xs) ≡ b → event_of (xs ++ ys) ≡ event_of xs
       go true g =
-          event_arrival (xs ++ ys) (gives true g) ∙ ap (λ (body : List ℕ). Arrive (arrived_of body)) (same_body xs ys h e)
+          event_arrival (xs ++ ys) (gives true g) ∙ ap (λ (body : List ℕ). Ok (Some (Arrive (arrived_of body)))) (same_body xs ys h e)
           ∙ sym (event_arrival xs g)
       go false g = event_send (xs ++ ys) (gives false g) ∙ sym (event_send xs g)
 

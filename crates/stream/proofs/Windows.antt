@@ -6,11 +6,11 @@ use Prim.Native.Nat.{ℕ, suc, ◌+◌, ◌-◌, ◌≤◌}
 use native.Mathlib.Omega.{arith}
 use lib.ListN.{length, take, drop, length-append, length-drop}
 use lib.Seq.{take_at, take-take, drop-append-le, drop-drop}
+use Rattle.plan.specs.declared.event.Event.TheVariants.{Arrive, SendNext}
+use Rattle.std.specs.Prelude.{Ok, Err, Some, None}
 use Rattle.checks.proofs.Laws.{not_true_and_false}
 use Rattle.tree.proofs.Classes.{both_true}
-use Rattle.plan.specs.declared.EventRead.{EventRead}
-use Rattle.plan.specs.declared.EventRead.TheVariants.{NoMore, Arrive, SendNext, Fault}
-use Rattle.plan.specs.Event.{event_at}
+use Rattle.plan.specs.Event.{event_at, EventRead}
 use Rattle.state.specs.declared.Link.{Link}
 use Rattle.sound.specs.Sound.{SoundLink}
 use Rattle.calls.specs.Run.{arrival, send, makes, link_left}
@@ -46,14 +46,14 @@ lines_by l input place e same =
 lines_end : (l : Link) (input : List ℕ) (place : ℕ) (e : EventRead) → event_at (drop place input) place ≡ e → is_call e ≡ false
     → printed (lines_from l input place) ≡ bytes_of (last_line e l)
 unfolding following
-lines_end l input place NoMore same n =
-    lines_by l input place NoMore same ∙ ap (λ (x : List ℕ). bytes_of (last_line NoMore l) ++ x) text_none
-    ∙ append-nil (bytes_of (last_line NoMore l))
-lines_end l input place (Arrive a) same n = absurd (not_true_and_false refl n)
-lines_end l input place SendNext same n = absurd (not_true_and_false refl n)
-lines_end l input place (Fault k p) same n =
-    lines_by l input place (Fault k p) same ∙ ap (λ (x : List ℕ). bytes_of (last_line (Fault k p) l) ++ x) text_none
-    ∙ append-nil (bytes_of (last_line (Fault k p) l))
+lines_end l input place (Ok None) same n =
+    lines_by l input place (Ok None) same ∙ ap (λ (x : List ℕ). bytes_of (last_line (Ok None) l) ++ x) text_none
+    ∙ append-nil (bytes_of (last_line (Ok None) l))
+lines_end l input place (Ok (Some (Arrive a))) same n = absurd (not_true_and_false refl n)
+lines_end l input place (Ok (Some SendNext)) same n = absurd (not_true_and_false refl n)
+lines_end l input place (Err e) same n =
+    lines_by l input place (Err e) same ∙ ap (λ (x : List ℕ). bytes_of (last_line (Err e) l) ++ x) text_none
+    ∙ append-nil (bytes_of (last_line (Err e) l))
 
 -- ---- one window: the input from its offset on is the window and what comes after it
 
@@ -137,17 +137,17 @@ module _ (input window rest : List ℕ) (offset : ℕ) (is : drop offset input �
         }
 
         go : (e : EventRead) → event_at (drop p.place window) p.place ≡ e → Along (way e)
-        go NoMore same = ended NoMore same refl
-        go (Arrive x) same =
-            called (Arrive x) (call_line (makes true p.link (arrival x.class (packet_in x))))
+        go (Ok None) same = ended (Ok None) same refl
+        go (Ok (Some (Arrive x))) same =
+            called (Ok (Some (Arrive x))) (call_line (makes true p.link (arrival x.class (packet_in x))))
             (link_left (makes true p.link (arrival x.class (packet_in x)))) 8
-            (sym (lines_by p.link input (offset + p.place) (Arrive x) (call_at p.place (Arrive x) a.inside same refl)))
-            (omega (arith, used_fits window p.place (Arrive x) same, length-drop p.place window, a.inside))
-        go SendNext same =
-            called SendNext (call_line (makes true p.link send)) (link_left (makes true p.link send)) 1
-            (sym (lines_by p.link input (offset + p.place) SendNext (call_at p.place SendNext a.inside same refl)))
-            (omega (arith, used_fits window p.place SendNext same, length-drop p.place window, a.inside))
-        go (Fault n q) same = ended (Fault n q) same refl
+            (sym (lines_by p.link input (offset + p.place) (Ok (Some (Arrive x))) (call_at p.place (Ok (Some (Arrive x))) a.inside same refl)))
+            (omega (arith, used_fits window p.place (Ok (Some (Arrive x))) same, length-drop p.place window, a.inside))
+        go (Ok (Some SendNext)) same =
+            called (Ok (Some SendNext)) (call_line (makes true p.link send)) (link_left (makes true p.link send)) 1
+            (sym (lines_by p.link input (offset + p.place) (Ok (Some SendNext)) (call_at p.place (Ok (Some SendNext)) a.inside same refl)))
+            (omega (arith, used_fits window p.place (Ok (Some SendNext)) same, length-drop p.place window, a.inside))
+        go (Err e) same = ended (Err e) same refl
 
     part_along : (room : ℕ) → place ≤ length window → Along (part_of true l window place room)
     part_along room h =

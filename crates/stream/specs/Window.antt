@@ -1,9 +1,8 @@
 -- A run whose input is read window by window (R243 to R248): what a part of it gives in a window, and the windows one after the other until
 -- the run ends. Put together, their texts are the run's lines: proofs/Windows. Demands 1 and 2.
-use Rattle.std.specs.Prelude.{Bool, true, false, cond, List, ◌++◌, ◌≡◌, ℕ, ◌+◌, ◌-◌, ◌≤◌, eqb, length, take, drop}
-use Rattle.plan.specs.declared.EventRead.{EventRead}
-use Rattle.plan.specs.declared.EventRead.TheVariants.{NoMore, Arrive, SendNext, Fault}
-use Rattle.plan.specs.Event.{event_at}
+use Rattle.std.specs.Prelude.{Bool, true, false, cond, List, ◌++◌, ◌≡◌, ℕ, ◌+◌, ◌-◌, ◌≤◌, eqb, length, take, drop, Ok, Err, Some, None}
+use Rattle.checks.specs.Check.{number}
+use Rattle.plan.specs.Event.{event_at, EventRead}
 use Rattle.state.specs.declared.Link.{Link}
 use Rattle.lines.specs.Line.{bytes_of}
 use Rattle.run.specs.Event.{last_line}
@@ -27,10 +26,9 @@ pub record InWindow (l : Link) (window : List ℕ) (place : ℕ) (before : List 
 
 -- a window's last bytes wait for more: there is none, or a record that is cut (R244)
 abbrev pub waits_for_more : EventRead → Bool
-waits_for_more NoMore = true
-waits_for_more (Arrive a) = false
-waits_for_more SendNext = false
-waits_for_more (Fault n p) = eqb n 1
+waits_for_more (Ok None) = true
+waits_for_more (Ok (Some e)) = false
+waits_for_more (Err e) = eqb (number e.0) 1
 
 unfoldable pub unfinished_at : List ℕ → Bool
 unfinished_at rest = waits_for_more (event_at rest 0)

@@ -5,12 +5,12 @@
 
 ghost use Rattle.std.specs.Prelude.{◌≡◌, ◌++◌, ◌-◌, ◌≤◌, length, take, drop};
 ghost use Rattle.io.specs.Counts.{IsPrefixLen};
-ghost use Rattle.plan.specs.declared.EventRead.TheVariants.{NoMore};
 ghost use Rattle.plan.specs.Event.{event_at};
 ghost use Rattle.lines.specs.Line.{bytes_of};
 ghost use Rattle.run.specs.Event.{last_line};
 ghost use Rattle.stream.specs.Window.{unfinished_at, InWindow};
 
+use checks::Refusal;
 use lines::Line;
 use parts::PartRun;
 use plan::EventRead;
@@ -20,13 +20,7 @@ use state::Link;
 pub fn last_line(link: Link, rest: &[u8], place: usize) -> Line
     ensures { result ≡ last_line (event_at rest.now place) link }
 {
-    let event = plan::read_event(rest, place);
-    match event {
-        EventRead::NoMore => run::end_line(link),
-        EventRead::Arrive(_) => run::end_line(link),
-        EventRead::SendNext => run::end_line(link),
-        EventRead::Fault(n, p) => Line::Stop(n as u64, p as u64),
-    }
+    run::last_line(plan::read_event(rest, place), link)
 }
 
 // How many bytes the line has that ends a run at a place of its input.
@@ -63,10 +57,9 @@ pub fn unfinished(rest: &[u8]) -> bool
 {
     let event = plan::read_event(rest, 0);
     match event {
-        EventRead::NoMore => true,
-        EventRead::Arrive(_) => false,
-        EventRead::SendNext => false,
-        EventRead::Fault(n, _) => n == checks::CUT,
+        Ok(None) => true,
+        Ok(Some(_)) => false,
+        Err(refused) => refused.0.number() == Refusal::Cut.number(),
     }
 }
 
@@ -76,11 +69,6 @@ pub fn carry(window: &mut [u8], from: usize, to: usize) -> usize
     ensures value { result ≡ to - from }
     ensures window_after { window.new ≡ take (to - from) (drop from window.old) ++ drop (to - from) window.old }
 {
-    let n = to - from;
-    let mut k = 0;
-    while k < n {
-        window[k] = window[from + k];
-        k += 1;
-    }
-    n
+    window.copy_within(from..to, 0);
+    to - from
 }

@@ -19,24 +19,7 @@ fn changed(fewer: bool, by: u64, n: u64) -> u64
     requires { (n + by < 2 ^ 64) × (fewer ≡ true → by ≤ n) }
     ensures { result ≡ changed fewer by n }
 {
-    if !fewer {
-        return n + by;
-    }
-    n - by
-}
-
-// An array of 64 numbers has 64: a function is told so of what it is given, but not of what it is lent.
-fn given_64(numbers: [u64; 64]) -> bool
-    ensures { length numbers ≡ 64 }
-{
-    true
-}
-
-pub fn lent_64(numbers: &[u64; 64]) -> bool
-    ensures { length numbers.now ≡ 64 }
-{
-    let all = *numbers;
-    given_64(all)
+    if fewer { n - by } else { n + by }
 }
 
 // A table counts so much more, or less, at a leaf and at the root.
@@ -46,7 +29,6 @@ fn count_in(fewer: bool, by: u64, class: usize, table: &mut [u64; 64])
         × (table.new ≡ changed_ends (changed fewer by) class table.old)
         × Near table.old table.new }
 {
-    let wide = lent_64(table);
     table[class] = changed(fewer, by, table[class]);
     table[0] = changed(fewer, by, table[0]);
 }
@@ -121,11 +103,9 @@ fn work_out_inner(
         × (bytes.new ≡ worked_out (tree_in shape.now) bytes.old) }
 {
     let leaves = shape::leaves(shape);
-    let mut i = shape::count(shape);
-    while 0 < i {
+    for i in (1..=shape::count(shape)).rev() {
         let leaf = sets::has(leaves, i);
         work_out_class(leaf, i, children[i], packets, bytes);
-        i -= 1;
     }
 }
 
@@ -143,8 +123,6 @@ pub fn work_out(
     ensures { (packets.new ≡ table_for sound (tree_in shape.now) packets.old)
         × (bytes.new ≡ table_for sound (tree_in shape.now) bytes.old) }
 {
-    let many = lent_64(packets);
-    let wide = lent_64(bytes);
     if !sound {
         return;
     }

@@ -4,10 +4,10 @@ use mathlib.Core.Path.{◌≡◌, refl}
 use Prim.Native.Nat.{ℕ, ◌≤◌, ◌<◌, zero-le}
 use lib.Dec.{leb}
 use borrow.Author.Tests.{le-leb, lt-leb, leb-true, eq-eqb, ne_eqb}
+use Rattle.std.specs.Prelude.{Ok}
 use Rattle.tree.specs.declared.Tree.{Tree}
 use Rattle.tree.specs.Class.{parent_of, is_class, is_child, of_child}
 use Rattle.checks.specs.Check.{first_broken}
-use Rattle.checks.specs.declared.Verdict.TheVariants.{Passed}
 use Rattle.checks.proofs.Laws.{passed_parts}
 use Rattle.tree.specs.Rules.{bad_parent, bad_weight, bad_longest, childless, too_heavy, class_checks, closing_of}
 
@@ -62,18 +62,18 @@ unfolding of_child is_child
 child_other t x i p ne = rw (ne_eqb (parent_of t i) p ne)
 
 -- where the checks of a class pass none of its numbers is broken
-pub class_passed : (t : Tree) (i p : ℕ) → first_broken (class_checks t i p) ≡ Passed → (bad_parent t i ≡ false) × (bad_weight t i ≡ false)
+pub class_passed : (t : Tree) (i p : ℕ) → first_broken (class_checks t i p) ≡ Ok tt → (bad_parent t i ≡ false) × (bad_weight t i ≡ false)
     × (bad_longest t i ≡ false)
 class_passed t i p e =
     let a = passed_parts _ _ e in
     let b = passed_parts _ _ a.1 in
     (a.0, b.0, (passed_parts _ _ b.1).0)
 
-pub closing_passes : (t : Tree) (i : ℕ) → childless t i ≡ false → too_heavy t i ≡ false → first_broken (closing_of t i) ≡ Passed
+pub closing_passes : (t : Tree) (i : ℕ) → childless t i ≡ false → too_heavy t i ≡ false → first_broken (closing_of t i) ≡ Ok tt
 unfolding first_broken
 closing_passes t i a b = rw (a, b)
 
-pub closing_passed : (t : Tree) (i : ℕ) → first_broken (closing_of t i) ≡ Passed → (childless t i ≡ false) × (too_heavy t i ≡ false)
+pub closing_passed : (t : Tree) (i : ℕ) → first_broken (closing_of t i) ≡ Ok tt → (childless t i ≡ false) × (too_heavy t i ≡ false)
 closing_passed t i e =
     let a = passed_parts _ _ e in
     (a.0, (passed_parts _ _ a.1).0)

@@ -1,4 +1,5 @@
 -- The plan rules on a tree (R25 to R37): numbers 3 to 9, and that what a plan does not set is 0. Demand 1.
+use Rattle.checks.specs.declared.Refusal.TheVariants.{BadParent, BadWeight, BadLongest, TooHeavy, Childless, NoClass}
 use Rattle.std.specs.Prelude.{Bool, true, false, ◌&&◌, ◌||◌, not, List, [], ◌∷◌, ◌≡◌, ℕ, ◌^◌, ◌≤◌, ◌<◌, eqb, leb, ltb}
 use Rattle.checks.specs.Check.{Check, check, class_by_class}
 use Rattle.tree.specs.declared.Tree.{Tree}
@@ -35,14 +36,14 @@ no_class t = eqb t.count 0
 -- a class record is checked in the order 4, 5, 6, at its record's place (R32, R57)
 abbrev pub class_checks : Tree → ℕ → ℕ → List Check
 class_checks t i place =
-    check 4 (bad_parent t i) place ∷ check 5 (bad_weight t i) place ∷ check 6 (bad_longest t i) place ∷ []
+    check BadParent (bad_parent t i) place ∷ check BadWeight (bad_weight t i) place ∷ check BadLongest (bad_longest t i) place ∷ []
 
 -- after the end record come 9, then class by class upward 8 and 7 (R33, R60)
 abbrev pub closing_of : Tree → ℕ → List Check
-closing_of t i = check 8 (childless t i) i ∷ check 7 (too_heavy t i) i ∷ []
+closing_of t i = check Childless (childless t i) i ∷ check TooHeavy (too_heavy t i) i ∷ []
 
 abbrev pub closing_checks : Tree → List Check
-closing_checks t = check 9 (no_class t) 0 ∷ class_by_class (closing_of t) t.count
+closing_checks t = check NoClass (no_class t) 0 ∷ class_by_class (closing_of t) t.count
 
 -- numbers 4, 5 and 6 are broken at no class (R37)
 pub record ClassesPass (t : Tree) : Type 0 where

@@ -6,8 +6,8 @@ ghost use Rattle.tree.specs.declared.Tree.{Tree};
 ghost use Rattle.tree.specs.Class.{no_weight, weight_of, is_class, is_leaf, children_weight, has_child};
 ghost use Rattle.tree.specs.Rules.{closing_of, closing_checks, Light};
 
-use crate::{Tree, wide};
-use checks::Verdict;
+use crate::Tree;
+use checks::{Refusal, Refused, Verdict};
 use units::Weight;
 
 // What the children of each number weigh together, one pass from the highest class down: each class adds itself to its parent, which is any
@@ -18,14 +18,11 @@ fn children_weights(tree: Tree) -> [Weight; 256]
 {
     let none = Weight(0);
     let mut sums = [none; 256];
-    let last = tree.count;
-    let mut i = last;
-    while 0 < i {
-        let p = wide(tree.parent[i]);
+    for i in (1..=tree.count).rev() {
+        let p = usize::from(tree.parent[i]);
         let w = tree.weight[i];
         let s = sums[p];
         sums[p] = s.plus(w);
-        i -= 1;
     }
     sums
 }
@@ -34,11 +31,12 @@ fn children_weights(tree: Tree) -> [Weight; 256]
 fn with_parent(parents: u64, parent: u8) -> u64
     ensures { (p : ℕ) → p < 64 → has result p ≡ (has parents p || eqb parent p) }
 {
-    let p = parent as usize;
-    if Tree::CLASSES <= p {
-        return parents;
+    let p = usize::from(parent);
+    if p < Tree::CLASSES {
+        sets::with(parents, p)
+    } else {
+        parents
     }
-    sets::with(parents, p)
 }
 
 // The class numbers that have a child, as a set.
@@ -46,12 +44,9 @@ fn parents(tree: Tree) -> u64
     requires { tree.count ≤ 63 }
     ensures { (p : ℕ) → p < 64 → has result p ≡ has_child tree p }
 {
-    let last = tree.count;
     let mut parents: u64 = 0;
-    let mut child: usize = 1;
-    while child <= last {
+    for child in 1..=tree.count {
         parents = with_parent(parents, tree.parent[child]);
-        child += 1;
     }
     parents
 }
@@ -62,15 +57,15 @@ fn closing_fault(leaf: bool, child: bool, weight: Weight, children: Weight, i: u
         → children_weight t i ≡ children.0 → result ≡ first_broken (closing_of t i) }
 {
     if leaf {
-        return Verdict::Passed;
+        return Ok(());
     }
     if !child {
-        return Verdict::Refused(checks::CHILDLESS, i);
+        return Err(Refused(Refusal::Childless, i));
     }
     if weight.0 < children.0 {
-        return Verdict::Refused(checks::TOO_HEAVY, i);
+        return Err(Refused(Refusal::TooHeavy, i));
     }
-    Verdict::Passed
+    Ok(())
 }
 
 // Number 9, then class by class upward numbers 8 and 7.
@@ -80,21 +75,16 @@ pub fn closing(tree: Tree) -> Verdict
 {
     let last = tree.count;
     if last == 0 {
-        return Verdict::Refused(checks::NO_CLASS, 0);
+        return Err(Refused(Refusal::NoClass, 0));
     }
     let sums = children_weights(tree);
     let parents = parents(tree);
-    let mut i: usize = 1;
-    while i <= last {
+    for i in 1..=last {
         let w = tree.weight[i];
         let sum = sums[i];
         let leaf = sets::has(tree.leaves, i);
         let child = sets::has(parents, i);
-        let v = closing_fault(leaf, child, w, sum, i);
-        if let Verdict::Refused(_, _) = v {
-            return v;
-        }
-        i += 1;
+        closing_fault(leaf, child, w, sum, i)?;
     }
-    Verdict::Passed
+    Ok(())
 }

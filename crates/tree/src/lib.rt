@@ -9,11 +9,11 @@ ghost use Rattle.std.specs.Prelude.{◌≡◌, ◌<◌};
 ghost use Rattle.tree.specs.Class.{no_tree, added};
 
 pub use after_end::closing;
-pub use class_rules::class_fault;
+pub use class_rules::{bad_longest, bad_parent, bad_weight, class_fault};
 use units::Weight;
 
 // Classes 1 to count, by number; class 0 is the root. What a plan does not set is 0.
-#[derive(Clone, Copy)]
+#[derive(Clone, Copy, Debug, PartialEq, Eq)]
 pub struct Tree {
     pub count: usize,
     pub leaves: u64,
@@ -25,7 +25,7 @@ pub struct Tree {
 }
 
 // One class record of a plan; an inner class has no longest packet.
-#[derive(Drop)]
+#[derive(Debug, PartialEq, Eq, Drop)]
 pub struct Class {
     pub parent: u8,
     pub weight: Weight,
@@ -73,11 +73,4 @@ impl Tree {
         self.longest[i] = class.longest;
         self
     }
-}
-
-// A byte as a number.
-pub fn wide(byte: u8) -> usize
-    ensures { (result ≡ byte) × (result < 256) }
-{
-    byte as usize
 }

@@ -2,16 +2,16 @@
 // Serves demand 2: a share is never taken for a byte count.
 #![tactic(auto)]
 
-ghost use Rattle.std.specs.Prelude.{◌≡◌, ◌+◌, ◌-◌, ◌*◌, ◌^◌, ◌<◌, ◌≤◌, max, leb};
+ghost use Rattle.std.specs.Prelude.{◌≡◌, ◌+◌, ◌-◌, ◌*◌, ◌^◌, ◌<◌, ◌≤◌, leb};
 ghost use Rattle.units.specs.Unit.{due_of, quota_of, surplus_of, size_of};
 ghost use Rattle.units.specs.Cost.{cost_of};
 
 // A class's share of its parent, or a sum of such shares: a bare number.
-#[derive(Clone, Copy)]
+#[derive(Clone, Copy, Debug, PartialEq, Eq, PartialOrd, Ord)]
 pub struct Weight(pub u32);
 
 // Bytes: a balance, a residual, a round size, what a packet costs.
-#[derive(Clone, Copy)]
+#[derive(Clone, Copy, Debug, PartialEq, Eq, PartialOrd, Ord)]
 pub struct Bytes(pub u64);
 
 impl Weight {
@@ -45,7 +45,7 @@ impl Bytes {
     pub fn covers(self, cost: Bytes) -> bool
         ensures { result ≡ leb cost.0 self.0 }
     {
-        cost.0 <= self.0
+        cost <= self
     }
 }
 
@@ -54,24 +54,21 @@ pub fn due(weight: Weight, quota: u64) -> Bytes
     requires { weight.0 * quota < 2 ^ 64 }
     ensures { result.0 ≡ due_of weight.0 quota }
 {
-    Bytes(weight.0 as u64 * quota)
+    Bytes(u64::from(weight.0) * quota)
 }
 
 // Balance over a weight sum, rounded down, gives a fair quota; 0 where the sum is 0.
 pub fn quota(balance: Bytes, sum: Weight) -> u64
     ensures { result ≡ quota_of balance.0 sum.0 }
 {
-    if sum.0 == 0 {
-        return 0;
-    }
-    balance.0 / sum.0 as u64
+    balance.0.checked_div(u64::from(sum.0)).unwrap_or(0)
 }
 
 // The surplus test reads a weight sum as bytes.
 pub fn surplus(funds: Bytes, sum: Weight) -> bool
     ensures { result ≡ surplus_of funds.0 sum.0 }
 {
-    sum.0 as u64 <= funds.0
+    u64::from(sum.0) <= funds.0
 }
 
 // The round size adds weights to bytes.
@@ -79,22 +76,12 @@ pub fn size(weights: Weight, packets: Bytes) -> Bytes
     requires { weights.0 + packets.0 < 2 ^ 64 }
     ensures { result.0 ≡ size_of weights.0 packets.0 }
 {
-    Bytes(weights.0 as u64 + packets.0)
+    Bytes(u64::from(weights.0) + packets.0)
 }
 
-// The charge of a packet of this length: the one way from a length to bytes.
+// The charge of a packet of this length, whose frame on the wire has at least 64 bytes: the one way from a length to bytes.
 pub fn cost(length: u16) -> Bytes
     ensures { result.0 ≡ cost_of length }
 {
-    Bytes(padded(length as u64 + 4) + 20)
-}
-
-// A frame on the wire has at least 64 bytes.
-fn padded(frame: u64) -> u64
-    ensures { result ≡ max frame 64 }
-{
-    if frame < 64 {
-        return 64;
-    }
-    frame
+    Bytes((u64::from(length) + 4).max(64) + 20)
 }

@@ -8,7 +8,7 @@ use native.Mathlib.Nat.{add-mul, mul_comm, mul-le-mul, mul-le-mul_left}
 use native.Mathlib.Omega.{arith}
 use lib.ListN.{length, get_or, length-set}
 use lib.Seq.{take_all}
-use Rattle.checks.specs.declared.Verdict.TheVariants.{Passed}
+use Rattle.std.specs.Prelude.{Ok}
 use Rattle.checks.specs.Check.{first_broken}
 use Rattle.units.specs.Cost.{most_cost}
 use Rattle.units.proofs.Laws.{cost_ceiling}
@@ -53,7 +53,7 @@ leaf_bound_small s i sound u leaf =
     (size_ceiling s.tree rules)
 
 module _ (s : State) (i : ℕ) (p : Packet) (sound : Sound s) (wide : Wide s) (u : i < 64)
-    (accepted : first_broken (arrival_checks true s i p) ≡ Passed) where
+    (accepted : first_broken (arrival_checks true s i p) ≡ Ok tt) where
   inside : i < length s.queues
   inside = omega (arith, wide.queues)
 

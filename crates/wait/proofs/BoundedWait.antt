@@ -8,7 +8,7 @@ use mathlib.Core.List.{List, [], ◌∷◌, ◌++◌}
 use mathlib.Core.Path.{◌≡◌, refl, sym, ap, ap₂, subst, ◌∙◌}
 use Prim.Native.Nat.{ℕ, ◌+◌, ◌^◌, ◌≤◌, ◌<◌}
 use native.Mathlib.Omega.{arith}
-use Rattle.checks.specs.declared.Verdict.TheVariants.{Passed}
+use Rattle.std.specs.Prelude.{Ok}
 use Rattle.checks.specs.Check.{first_broken}
 use Rattle.state.specs.declared.Link.{Link}
 use Rattle.state.specs.declared.Packet.{Packet}
@@ -33,11 +33,11 @@ use Rattle.wait.proofs.AnyRun.{GoneWithin, run_keeps}
 use Rattle.wait.proofs.Accepted.{accepted_holds, starts_within, fits_64}
 
 -- an arrival of packet p to class i with the answer a, that is accepted
-module _ (l : Link) (i : ℕ) (p : Packet) (a : AfterArrival) (arrives : Arrives l i p a) (accepted : a.answer.verdict ≡ Passed) where
+module _ (l : Link) (i : ℕ) (p : Packet) (a : AfterArrival) (arrives : Arrives l i p a) (accepted : a.answer.verdict ≡ Ok tt) where
   pub sound : SoundLink l
   sound = accepted_sound l i p a arrives accepted
 
-  pub passes : first_broken (arrival_checks true (meaning l) i p) ≡ Passed
+  pub passes : first_broken (arrival_checks true (meaning l) i p) ≡ Ok tt
   passes =
       sym (arrival_verdict true l i p)
       ∙ ap (λ (x : AfterArrival). x.answer.verdict) (sym (arrives_as l i p a sound arrives))
@@ -124,7 +124,7 @@ run_after (m ∷ xs) ys l run = run_after xs ys (link_left m) run.1
 -- in any run, from a fresh link or from any record at all, whatever was called before: what is answered of an accepted packet when it goes
 -- is what the link was charged from its acceptance to its end (R312, R313)
 pub true_in_runs : (xs ys : List Made) (l : Link) (i : ℕ) (p : Packet) (answer : Arrival) (after : Link)
-    → Run l (xs ++ (made (arrival i p) answer after ∷ ys)) → answer.verdict ≡ Passed
+    → Run l (xs ++ (made (arrival i p) answer after ∷ ys)) → answer.verdict ≡ Ok tt
     → (followed i (held_of (last_link l xs) i) ys).gone ≡ true
     → (followed i (held_of (last_link l xs) i) ys).waited ≡ (followed i (held_of (last_link l xs) i) ys).sent
 unfolding Run

@@ -10,8 +10,9 @@ use native.Mathlib.Omega.{arith}
 use lib.ListN.{length, take, length-set}
 use lib.Seq.{take-append-le}
 use borrow.Author.Tests.{le-leb}
-use Rattle.checks.specs.declared.Verdict.TheVariants.{Passed, Refused}
-use Rattle.checks.specs.Check.{first_broken}
+use Rattle.checks.specs.declared.Refusal.{Refusal}
+use Rattle.std.specs.Prelude.{Ok, Err}
+use Rattle.checks.specs.Check.{first_broken, refusal_at}
 use Rattle.checks.proofs.Laws.{refused_or_passed}
 use Rattle.units.specs.Cost.{cost_of}
 use Rattle.units.proofs.Laws.{cost_positive}
@@ -97,8 +98,8 @@ pub any_arrival : (l : Link) (i k j : ℕ) (p : Packet) (a : AfterArrival) → S
     → ArrivalKeeps (meaning l) i k (meaning a.link)
 any_arrival l i k j p a sound x h = go (refused_or_passed (first_broken (arrival_checks true (meaning l) j p)))
   where
-    go : (first_broken (arrival_checks true (meaning l) j p) ≡ Passed)
-        ⊎ ((n : ℕ) × (q : ℕ) × (first_broken (arrival_checks true (meaning l) j p) ≡ Refused n q))
+    go : (first_broken (arrival_checks true (meaning l) j p) ≡ Ok tt)
+        ⊎ ((n : Refusal) × (q : ℕ) × (first_broken (arrival_checks true (meaning l) j p) ≡ Err (refusal_at n q)))
         → ArrivalKeeps (meaning l) i k (meaning a.link)
     go (inl e) =
         let u = taken_number (meaning l) j p sound.state e in

@@ -5,8 +5,9 @@ use mathlib.Core.Path.{◌≡◌, refl, sym, ap, ◌∙◌}
 use Prim.Native.Nat.{ℕ}
 use native.Mathlib.Omega.{arith}
 use lib.ListN.{length}
-use Rattle.checks.specs.declared.Verdict.TheVariants.{Passed, Refused}
-use Rattle.checks.specs.Check.{first_broken}
+use Rattle.checks.specs.declared.Refusal.{Refusal}
+use Rattle.std.specs.Prelude.{Ok, Err}
+use Rattle.checks.specs.Check.{first_broken, refusal_at}
 use Rattle.checks.proofs.Laws.{not_both, not_true_and_false, exactly_yes}
 use Rattle.state.specs.declared.Link.{Link}
 use Rattle.state.specs.declared.Packet.{Packet}
@@ -59,7 +60,7 @@ module _ (arrive : Link → ℕ → Packet → AfterArrival) (send : Link → Af
         ∙ arrival_verdict true l i p
         ∙ ap (λ (t : State). first_broken (arrival_checks true t i p)) g.means
 
-    arrive_after : first_broken (arrival_checks true s i p) ≡ Passed → InState (arrive l i p).link (arrived s i p)
+    arrive_after : first_broken (arrival_checks true s i p) ≡ Ok tt → InState (arrive l i p).link (arrived s i p)
     arrive_after e = record {
       shape = rw (arrives_as l i p (arrive l i p) g.sound meets_arrival) (arrival_shaped true l i p g.shape);
       sound = meets_arrival.keeps g.sound;
@@ -127,10 +128,10 @@ module _ (arrive : Link → ℕ → Packet → AfterArrival) (send : Link → Af
   -- ---- the stand-ins
 
   -- a link that refuses everything
-  pub refuses_everything : (n q : ℕ) → (arrive fresh 1 first).answer.verdict ≡ Refused n q → ⊥
+  pub refuses_everything : (n : Refusal) (q : ℕ) → (arrive fresh 1 first).answer.verdict ≡ Err (refusal_at n q) → ⊥
   refuses_everything n q e = not_both (arrive_verdict fresh (meaning fresh) 1 first starts ∙ arrivals_pass.0) e
 
-  pub sends_nothing : (n q : ℕ) → (send two).answer.verdict ≡ Refused n q → ⊥
+  pub sends_nothing : (n : Refusal) (q : ℕ) → (send two).answer.verdict ≡ Err (refusal_at n q) → ⊥
   sends_nothing n q e = not_both (ap (λ (d : AfterSend). d.answer.verdict) sent_first) e
 
   -- one with a fixed answer: an arrival to a leaf and one to a number that is no class differ; no tag is that of every send
@@ -159,7 +160,7 @@ module _ (arrive : Link → ℕ → Packet → AfterArrival) (send : Link → Af
   repeats e = omega (arith, first_tag, second_tag, e)
 
   -- or idles: it refuses, or leaves the state as it is
-  pub idles : (n q : ℕ) → (send gone).answer.verdict ≡ Refused n q → ⊥
+  pub idles : (n : Refusal) (q : ℕ) → (send gone).answer.verdict ≡ Err (refusal_at n q) → ⊥
   idles n q e = not_both (ap (λ (d : AfterSend). d.answer.verdict) sent_second) e
 
   pub idles_state : meaning (send gone).link ≡ meaning gone → ⊥

@@ -5,8 +5,9 @@ use mathlib.Core.Path.{◌≡◌, refl}
 use Prim.Native.Nat.{ℕ}
 use native.Mathlib.Omega.{arith}
 use lib.ListN.{length}
-use Rattle.checks.specs.declared.Verdict.TheVariants.{Passed, Refused}
-use Rattle.checks.specs.Check.{first_broken, class_by_class}
+use Rattle.checks.specs.declared.Refusal.TheVariants.{NoLeaf}
+use Rattle.std.specs.Prelude.{Ok, Err}
+use Rattle.checks.specs.Check.{first_broken, class_by_class, refusal_at}
 use Rattle.checks.proofs.Laws.{not_true_and_false}
 use Rattle.sets.specs.Set.{has, with, without}
 use Rattle.units.specs.Cost.{cost_of}
@@ -52,7 +53,7 @@ passes : ClassesPass tree
 unfolding leaf one tree bad_parent bad_weight bad_longest is_leaf has with
 passes = classes_kept one (leaf 1 10) (classes_kept no_tree (leaf 1 10) (none_pass false) refl refl refl) refl refl refl
 
-closes : first_broken (closing_checks tree) ≡ Passed
+closes : first_broken (closing_checks tree) ≡ Ok tt
 unfolding leaf one tree first_broken class_by_class too_heavy childless no_class is_inner is_class is_leaf is_child of_child children_sum
     children_weight
     has_child sum_to some_to has with
@@ -88,9 +89,9 @@ unfoldable pub sent_once : State
 sent_once = (trace_of with_both).state
 
 -- classes 1 and 2 are leaves and take theirs, 3 is no class
-pub arrivals_pass : (first_broken (arrival_checks true (meaning fresh) 1 first) ≡ Passed)
-    × (first_broken (arrival_checks true (meaning fresh) 3 first) ≡ Refused 12 3)
-    × (first_broken (arrival_checks true with_first 2 second) ≡ Passed)
+pub arrivals_pass : (first_broken (arrival_checks true (meaning fresh) 1 first) ≡ Ok tt)
+    × (first_broken (arrival_checks true (meaning fresh) 3 first) ≡ Err (refusal_at NoLeaf 3))
+    × (first_broken (arrival_checks true with_first 2 second) ≡ Ok tt)
 unfolding leaf one tree fresh first second with_first first_broken no_leaf bad_length full is_leaf has with table queue_of
 arrivals_pass = (refl, refl, refl)
 

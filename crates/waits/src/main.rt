@@ -3,25 +3,16 @@
 // Serves demand 3: the numbers are those of `promised`.
 #![tactic(auto)]
 
-use checks::Verdict;
 use promised::LeafWaits;
-use shown::{number, pair, word};
+use shown::stop;
 use std::io;
 use tree::Tree;
 
-// A refusal's number and place.
-fn stop(rt: &impl Print, n: u8, place: usize) -> io::Result<()> {
-    pair(rt, b"stop ", n as u64, place as u64)?;
-    word(rt, b"\n")
-}
-
 // The line of a leaf.
 fn leaf_line(rt: &impl Print, class: usize, waits: LeafWaits) -> io::Result<()> {
-    let alone = waits.alone;
-    let full = waits.full;
-    number(rt, b"wait ", class as u64)?;
-    pair(rt, b" ", alone.bytes.0, full.bytes.0)?;
-    word(rt, b"\n")
+    let alone = waits.alone.bytes.0;
+    let full = waits.full.bytes.0;
+    println!(rt; "wait {class} {alone} {full}")
 }
 
 // One class of a tree: a leaf has a line.
@@ -29,7 +20,7 @@ fn class_line(rt: &impl Print, tree: Tree, class: usize) -> io::Result<()> {
     let waits = promised::leaf_waits(tree, class);
     let alone = waits.alone;
     let verdict = alone.verdict;
-    if let Verdict::Passed = verdict {
+    if let Ok(()) = verdict {
         leaf_line(rt, class, waits)?;
     }
     Ok(())
@@ -49,22 +40,11 @@ fn answer(rt: &impl Print, input: &[u8]) -> io::Result<()> {
     let verdict = read.verdict;
     let tree = read.tree;
     match verdict {
-        Verdict::Passed => leaf_lines(rt, tree),
-        Verdict::Refused(n, place) => stop(rt, n, place),
-    }
-}
-
-// The input, or number 10 before all else.
-fn judged(rt: &impl Print, input: &[u8]) -> io::Result<()> {
-    let verdict = checks::input_length(input.len());
-    match verdict {
-        Verdict::Passed => answer(rt, input),
-        Verdict::Refused(n, place) => stop(rt, n, place),
+        Ok(()) => leaf_lines(rt, tree),
+        Err(refused) => stop(rt, refused),
     }
 }
 
 fn main(rt: HostRuntime) -> io::Result<()> {
-    let mut input = [0u8; checks::MOST_INPUT + 1];
-    let n = shown::read_full(&rt, &mut input)?;
-    judged(&rt, &input[..n])
+    shown::with_whole(&rt, |input| answer(&rt, input))
 }

@@ -4,23 +4,21 @@ use mathlib.Core.Path.{◌≡◌, refl, sym, ap, ◌∙◌}
 use Prim.Native.Nat.{ℕ, ◌+◌}
 use native.Mathlib.Omega.{arith}
 use lib.ListN.{length, take, drop, length-drop}
-use Rattle.words.specs.declared.Number.{Number}
-use Rattle.words.specs.declared.Number.TheVariants.{Is, No}
-use Rattle.words.specs.declared.Pair.TheVariants.{Other}
+use Rattle.std.specs.Prelude.{Option, Some, None}
 use Rattle.words.specs.Word.{index_of, word_number, asks, pair_of}
 use Rattle.words.proofs.Reading.{read_empty}
 
 -- two numbers, the second of which is none
-asks_none : (class : Number) → asks class No ≡ Other
-asks_none No = refl
-asks_none (Is class) = refl
+asks_none : (class : Option ℕ) → asks class None ≡ None
+asks_none None = refl
+asks_none (Some class) = refl
 
 -- without `=` a word is no pair
-pub pair_none : (text : List ℕ) (at : ℕ) → at ≡ index_of 61 text → at ≡ length text → Other ≡ pair_of text
+pub pair_none : (text : List ℕ) (at : ℕ) → at ≡ index_of 61 text → at ≡ length text → None ≡ pair_of text
 unfolding pair_of
 pair_none text at e all =
     let k = index_of 61 text in
-    let past : word_number (drop (k + 1) text) ≡ No = read_empty (drop (k + 1) text) (omega (arith, length-drop (k + 1) text)) in
+    let past : word_number (drop (k + 1) text) ≡ None = read_empty (drop (k + 1) text) (omega (arith, length-drop (k + 1) text)) in
     sym (ap (asks (word_number (take k text))) past ∙ asks_none (word_number (take k text)))
 
 -- the two numbers around the first `=`

@@ -13,15 +13,13 @@ use lib.ListN.{length, take, drop, get_or}
 use lib.Seq.{split_at, take-append_seam, drop-append-add}
 use Rattle.digits.specs.Decimal.{decimal}
 use Rattle.digits.proofs.Decimals.{AllDigits, value, decimal_digits, decimal_value, decimal_zero, decimal_leading}
-use Rattle.words.specs.declared.Number.{Number}
-use Rattle.words.specs.declared.Number.TheVariants.{Is, No}
-use Rattle.words.specs.declared.Pair.TheVariants.{Asks, Other}
+use Rattle.std.specs.Prelude.{Option, Some, None}
 use Rattle.words.specs.Word.{is_digit, all_digits, value_of, word_number, index_after, index_of, asks, pair_of}
 use Rattle.words.proofs.Reading.{and_after, digit_in, first_digit}
 use Rattle.words.proofs.Pairs.{pair_none}
 
 -- digits of a value below 2 to the power 64 are that number
-pub is_number : (text : List ℕ) → 0 < length text → all_digits text ≡ true → value_of text < 2 ^ 64 → word_number text ≡ Is (value_of text)
+pub is_number : (text : List ℕ) → 0 < length text → all_digits text ≡ true → value_of text < 2 ^ 64 → word_number text ≡ Some (value_of text)
 unfolding word_number
 is_number [] some all fits = absurd (omega arith)
 is_number (b ∷ bs) some all fits = rw (all, lt-ltb (value_of (b ∷ bs)) (2 ^ 64) fits)
@@ -57,10 +55,10 @@ some_digit n = go (dec_lt 0 n)
         subst (λ (ds : List ℕ). 0 < length ds) (sym (ap decimal none ∙ decimal_zero)) (omega arith)
 
 -- the digits of a number read back give it
-pub digits_back : (n : ℕ) → n < 2 ^ 64 → word_number (decimal n) ≡ Is n
+pub digits_back : (n : ℕ) → n < 2 ^ 64 → word_number (decimal n) ≡ Some n
 digits_back n h =
     is_number (decimal n) (some_digit n) (all_digits_lem (decimal n) (decimal_digits n)) (omega (arith, value_back n))
-    ∙ ap Is (value_back n)
+    ∙ ap Some (value_back n)
 
 -- both parts of a test that holds
 both_hold : (a b : Bool) → (a && b) ≡ true → (a ≡ true) × (b ≡ true)
@@ -92,7 +90,7 @@ pair_laid cs rs all =
     ∙ ap₂ (λ (x y : List ℕ). asks (word_number x) (word_number y)) (take-append_seam cs (61 ∷ rs)) (drop-append-add cs (61 ∷ rs) 1)
 
 -- so a class and a request written in digits are read back
-pub pair_back : (c r : ℕ) → c ≤ 63 → r < 2 ^ 64 → pair_of (decimal c ++ 61 ∷ decimal r) ≡ Asks c r
+pub pair_back : (c r : ℕ) → c ≤ 63 → r < 2 ^ 64 → pair_of (decimal c ++ 61 ∷ decimal r) ≡ Some (c, r)
 pair_back c r few fits =
     pair_laid (decimal c) (decimal r) (all_digits_lem (decimal c) (decimal_digits c))
     ∙ ap₂ asks (digits_back c (omega arith)) (digits_back r fits)
@@ -127,28 +125,34 @@ pub record Written (text : List ℕ) (c r : ℕ) : Type 0 where
   pub class : List ℕ
   pub request : List ℕ
   pub laid : text ≡ class ++ 61 ∷ request
-  pub number : word_number class ≡ Is c
+  pub number : word_number class ≡ Some c
   pub few : c ≤ 63
-  pub asked : word_number request ≡ Is r
+  pub asked : word_number request ≡ Some r
 
 -- another word is no pair
-not_taken : (c r : ℕ) → Other ≡ Asks c r → ⊥
+not_taken : (c r : ℕ) → ◌≡◌ {A = Option (ℕ × ℕ)} None (Some (c, r)) → ⊥
 not_taken c r e = let z : ◌≡◌ {A = ℕ} 0 1 = cc in omega arith
 
+-- the pair that there is
+abbrev pair_in : Option (ℕ × ℕ) → ℕ × ℕ
+pair_in None = (0, 0)
+pair_in (Some p) = p
+
 -- two numbers that make a pair
-asks_parts : (x y : Number) (c r : ℕ) → asks x y ≡ Asks c r → (x ≡ Is c) × (c ≤ 63) × (y ≡ Is r)
-asks_parts No y c r e = absurd (not_taken c r e)
-asks_parts (Is n) No c r e = absurd (not_taken c r e)
-asks_parts (Is n) (Is m) c r e = go (leb n 63) refl e
+asks_parts : (x y : Option ℕ) (c r : ℕ) → asks x y ≡ Some (c, r) → (x ≡ Some c) × (c ≤ 63) × (y ≡ Some r)
+asks_parts None y c r e = absurd (not_taken c r e)
+asks_parts (Some n) None c r e = absurd (not_taken c r e)
+asks_parts (Some n) (Some m) c r e = go (leb n 63) refl e
   where
-    go : (t : Bool) → leb n 63 ≡ t → cond t (Asks n m) Other ≡ Asks c r → (Is n ≡ Is c) × (c ≤ 63) × (Is m ≡ Is r)
+    go : (t : Bool) → leb n 63 ≡ t → ◌≡◌ {A = Option (ℕ × ℕ)} (cond t (Some (n, m)) None) (Some (c, r)) → (Some n ≡ Some c) × (c ≤ 63) × (Some m ≡ Some r)
     go true few s =
-        let same : n ≡ c = cc in
-        (ap Is same, omega (arith, leb-true n 63 few), cc)
+        let same : n ≡ c = ap (λ (p : Option (ℕ × ℕ)). (pair_in p).0) s in
+        let asked : m ≡ r = ap (λ (p : Option (ℕ × ℕ)). (pair_in p).1) s in
+        (ap Some same, omega (arith, leb-true n 63 few), ap Some asked)
     go false few s = absurd (not_taken c r s)
 
 -- a word that is taken holds nothing else
-pub pair_written : (text : List ℕ) (c r : ℕ) → pair_of text ≡ Asks c r → Written text c r
+pub pair_written : (text : List ℕ) (c r : ℕ) → pair_of text ≡ Some (c, r) → Written text c r
 unfolding pair_of
 pair_written text c r e = go (dec_lt (index_of 61 text) (length text))
   where

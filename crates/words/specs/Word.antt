@@ -1,9 +1,5 @@
 -- What a planner's words mean (R175, R177): a number, and CLASS=REQUEST.
-use Rattle.std.specs.Prelude.{Bool, true, false, ◌&&◌, cond, eqb, List, [], ◌∷◌, ℕ, suc, ◌+◌, ◌-◌, ◌*◌, ◌^◌, leb, ltb, length, take, drop}
-use Rattle.words.specs.declared.Number.{Number}
-use Rattle.words.specs.declared.Number.TheVariants.{Is, No}
-use Rattle.words.specs.declared.Pair.{Pair}
-use Rattle.words.specs.declared.Pair.TheVariants.{Asks, Other}
+use Rattle.std.specs.Prelude.{Bool, true, false, ◌&&◌, cond, eqb, List, [], ◌∷◌, ℕ, suc, ◌+◌, ◌-◌, ◌*◌, ◌^◌, leb, ltb, length, take, drop, Option, Some, None}
 
 -- a byte that is an ASCII digit: `0` is 48, `9` is 57 (R175)
 abbrev pub is_digit : ℕ → Bool
@@ -25,8 +21,8 @@ value_of [] = 0
 value_of (d ∷ ds) = (d - 48) * 10 ^ length ds + value_of ds
 
 -- a number: one digit or more, of a value below 2 to the power 64 (R175)
-unfoldable pub word_number : List ℕ → Number
-word_number text = cond (digits text && ltb (value_of text) (2 ^ 64)) (Is (value_of text)) No
+unfoldable pub word_number : List ℕ → Option ℕ
+word_number text = cond (digits text && ltb (value_of text) (2 ^ 64)) (Some (value_of text)) None
 
 -- the place of the first such byte; the length where there is none
 unfoldable pub index_after : Bool → ℕ → ℕ
@@ -38,12 +34,12 @@ index_of byte [] = 0
 index_of byte (b ∷ bs) = index_after (eqb b byte) (index_of byte bs)
 
 -- a class and a request: two numbers, the class at most 63 (R177)
-abbrev pub asks : Number → Number → Pair
-asks No _ = Other
-asks (Is class) No = Other
-asks (Is class) (Is request) = cond (leb class 63) (Asks class request) Other
+abbrev pub asks : Option ℕ → Option ℕ → Option (ℕ × ℕ)
+asks None _ = None
+asks (Some class) None = None
+asks (Some class) (Some request) = cond (leb class 63) (Some (class, request)) None
 
 -- CLASS=REQUEST: the number before the first `=`, which is 61, and the number after it; without `=` nothing comes after it, which is no
 -- number (R177)
-unfoldable pub pair_of : List ℕ → Pair
+unfoldable pub pair_of : List ℕ → Option (ℕ × ℕ)
 pair_of text = asks (word_number (take (index_of 61 text) text)) (word_number (drop (index_of 61 text + 1) text))

@@ -2,90 +2,43 @@
 #![tactic(auto)]
 
 ghost use Rattle.std.specs.Prelude.{◌≡◌, ◌<◌, ◌≤◌, length};
-ghost use Rattle.words.specs.Step.{with_digit, one_more};
+ghost use Rattle.words.specs.Step.{with_digit};
 ghost use Rattle.words.specs.Word.{index_of, word_number, asks, pair_of};
 
-// What a word says as a number: one digit or more, of a value below 2 to the power 64; or no number.
-#[derive(Drop)]
-pub enum Number {
-    Is(u64),
-    No,
-}
-
-// What a word says as CLASS=REQUEST: a class from 0 to 63 and its request; or any other word.
-#[derive(Drop)]
-pub enum Pair {
-    Asks(usize, u64),
-    Other,
-}
-
-// The largest number: 2 to the power 64, less 1.
-const LARGEST: u64 = 18_446_744_073_709_551_615;
-
-// A byte, wide.
-fn wide(byte: u8) -> u64
-    ensures { (result ≡ byte) × (result < 256) }
-{
-    byte as u64
-}
-
 // A number so far with one byte more.
-fn with_digit(sofar: u64, byte: u8) -> Number
+fn with_digit(sofar: u64, byte: u8) -> Option<u64>
     ensures { result ≡ with_digit sofar byte }
 {
-    if byte < b'0' {
-        return Number::No;
+    if !matches!(byte, b'0'..=b'9') {
+        return None;
     }
-    if b'9' < byte {
-        return Number::No;
-    }
-    let last = wide(byte) - 48;
-    if (LARGEST - last) / 10 < sofar {
-        return Number::No;
-    }
-    Number::Is(sofar * 10 + last)
+    sofar.checked_mul(10)?.checked_add(u64::from(byte - b'0'))
 }
 
-// Whatever was read so far with one byte more.
-fn one_more(sofar: Number, byte: u8) -> Number
-    ensures { result ≡ one_more sofar byte }
-{
-    match sofar {
-        Number::Is(n) => with_digit(n, byte),
-        Number::No => Number::No,
-    }
-}
-
-// The number that a word is.
-pub fn read_number(text: &[u8]) -> Number
+// The number that a word is: one digit or more, of a value below 2 to the power 64.
+pub fn read_number(text: &[u8]) -> Option<u64>
     ensures { result ≡ word_number text.now }
 {
-    if text.len() == 0 {
-        return Number::No;
+    if text.is_empty() {
+        return None;
     }
-    let mut number = Number::Is(0);
-    let mut i = 0;
-    while i < text.len() {
-        number = one_more(number, text[i]);
-        i += 1;
+    let mut number = 0;
+    for byte in text {
+        number = with_digit(number, *byte)?;
     }
-    number
+    Some(number)
 }
 
 // A class and its request, from two numbers.
-fn both(class: Number, request: Number) -> Pair
+fn both(class: Option<u64>, request: Option<u64>) -> Option<(usize, u64)>
     ensures { result ≡ asks class request }
 {
-    let Number::Is(c) = class else {
-        return Pair::Other;
-    };
-    let Number::Is(n) = request else {
-        return Pair::Other;
-    };
-    if 63 < c {
-        return Pair::Other;
+    let class = class?;
+    let request = request?;
+    if 63 < class {
+        return None;
     }
-    Pair::Asks(c as usize, n)
+    Some((class as usize, request))
 }
 
 // The place of the first such byte; the length where there is none.
@@ -93,24 +46,18 @@ pub fn place_of(text: &[u8], byte: u8) -> usize
     ensures place { result ≡ index_of byte text.now }
     ensures within { result ≤ length text.now }
 {
-    for (i, other) in text.iter().enumerate() {
-        if *other == byte {
-            return i;
-        }
-    }
-    text.len()
+    text.iter()
+        .position(|other| *other == byte)
+        .unwrap_or(text.len())
 }
 
-// The class and the request that a word names.
-pub fn read_pair(text: &[u8]) -> Pair
+// The class and the request that a word names, CLASS=REQUEST: a class from 0 to 63, and a number.
+pub fn read_pair(text: &[u8]) -> Option<(usize, u64)>
     ensures { result ≡ pair_of text.now }
 {
-    let at = place_of(text, b'=');
-    if at == text.len() {
-        return Pair::Other;
-    }
-    let next = at + 1;
-    let class = read_number(&text[..at]);
-    let request = read_number(&text[next..]);
+    let (class, rest) = text.split_at(place_of(text, b'='));
+    let (_, request) = rest.split_first()?;
+    let class = read_number(class);
+    let request = read_number(request);
     both(class, request)
 }

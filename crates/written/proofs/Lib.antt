@@ -5,3 +5,4 @@ pub mod Records
 pub mod WriteBack
 pub mod ReadBack
 pub mod Answers
+pub mod BigEndian

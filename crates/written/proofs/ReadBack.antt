@@ -9,9 +9,8 @@ use lib.Dec.{eqb, leb}
 use lib.ListN.{length, drop, length-append}
 use lib.Seq.{drop_at, ext_get_or}
 use borrow.Author.Tests.{le-ltb, leb-false, ne_eqb, eqb-false}
-use Rattle.checks.specs.declared.Verdict.{Verdict}
-use Rattle.checks.specs.declared.Verdict.TheVariants.{Passed}
-use Rattle.checks.specs.Check.{first_broken}
+use Rattle.std.specs.Prelude.{Ok}
+use Rattle.checks.specs.Check.{first_broken, Verdict}
 use Rattle.checks.proofs.Laws.{not_true_and_false, pass_over, none_broken, classes_passed}
 use Rattle.sets.proofs.Laws.{set_ext}
 use Rattle.units.specs.declared.Weight.{Weight}
@@ -350,14 +349,14 @@ module _ (t : Tree) (rules : PlanRules t) (arrays : Arrays t) (x : List ℕ) whe
           ≡ tree t.count t.leaves t.parent t.weight t.longest t.follows
       same a b c d e f = rw (a, b, c, d, e, f) refl
 
-  closes : first_broken (closing_checks t) ≡ Passed
+  closes : first_broken (closing_checks t) ≡ Ok tt
   closes =
       pass_over _ _ rules.closing.classes
       ∙ classes_passed (closing_of t) t.count
       (λ i l u. closing_passes t i (rules.closing.children i (class_in_lem t i l u)) (rules.closing.shares i (class_in_lem t i l u)))
 
   -- reading what was written gives the tree and the same length, whatever stands after it
-  pub read_back : plan_of (plan_bytes t ++ x) ≡ record { verdict = Passed; used = length (plan_bytes t); tree = t }
+  pub read_back : plan_of (plan_bytes t ++ x) ≡ record { verdict = Ok tt; used = length (plan_bytes t); tree = t }
   read_back =
       let n = t.count in
       let e = end_written x in
@@ -372,4 +371,4 @@ module _ (t : Tree) (rules : PlanRules t) (arrays : Arrays t) (x : List ℕ) whe
       plan_ended s n few (λ j l. record_passes j l) (record_end s (after s n) (tree_of s n) there known whole class rule) class
       ∙ ap (λ (w : Tree). outcome (first_broken (closing_checks w)) w (after s n + 1)) same_tree
       ∙ ap (λ (w : Verdict). outcome w t (after s n + 1)) closes
-      ∙ ap (λ (m : ℕ). outcome Passed t m) used
+      ∙ ap (λ (m : ℕ). outcome (Ok tt) t m) used

@@ -9,7 +9,7 @@ use lib.Dec.{eqb}
 use lib.ListN.{length, take, drop, length-drop}
 use borrow.Author.Tests.{eqb-true}
 use lib.Seq.{take-add, get_or-take, get_or-drop, drop_at, length-take-le}
-use Rattle.checks.specs.declared.Verdict.TheVariants.{Passed}
+use Rattle.std.specs.Prelude.{Ok}
 use Rattle.checks.proofs.Laws.{not_true_and_false}
 use Rattle.tree.specs.declared.Tree.{Tree}
 use Rattle.tree.specs.declared.Class.{Class}
@@ -93,7 +93,7 @@ module _ (s : List ℕ) (bytes : Bytes s) where
       (here ∙ class_same t (suc n) (class_at rest) (is n (omega arith)))
       ∙ append_assoc (take (after s 0) s) (classes_bytes t n) (class_bytes t (suc n))
 
-  module _ (passed : (plan_of s).verdict ≡ Passed) where
+  module _ (passed : (plan_of s).verdict ≡ Ok tt) where
     -- the reader used no byte past the input
     pub used_within : (plan_of s).used ≤ length s
     used_within =

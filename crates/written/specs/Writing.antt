@@ -1,8 +1,7 @@
 -- What the writer says of any tree and any buffer (R260 to R263). Demand 1.
-use Rattle.std.specs.Prelude.{Bool, not, List, [], ◌∷◌, ◌++◌, ◌≡◌, ℕ, ltb, length, drop}
-use Rattle.checks.specs.declared.Verdict.{Verdict}
-use Rattle.checks.specs.declared.Verdict.TheVariants.{Passed, Refused}
-use Rattle.checks.specs.Check.{Check, check, first_broken, Exactly}
+use Rattle.checks.specs.declared.Refusal.TheVariants.{NotSound, NoRoom}
+use Rattle.std.specs.Prelude.{Bool, not, List, [], ◌∷◌, ◌++◌, ◌≡◌, ℕ, ltb, length, drop, Ok, Err}
+use Rattle.checks.specs.Check.{Check, check, first_broken, Exactly, Verdict}
 use Rattle.tree.specs.declared.Tree.{Tree}
 use Rattle.tree.specs.Rules.{PlanRules}
 use Rattle.written.specs.declared.Written.{Written}
@@ -14,20 +13,20 @@ no_room t buffer = ltb (length buffer) (length (plan_bytes t))
 
 -- in this order: 11 at 0 for a tree that breaks the plan rules (R260); 16 without room, at the length needed (R261)
 abbrev pub write_checks : Bool → Tree → List ℕ → List Check
-write_checks obeys t buffer = check 11 (not obeys) 0 ∷ check 16 (no_room t buffer) (length (plan_bytes t)) ∷ []
+write_checks obeys t buffer = check NotSound (not obeys) 0 ∷ check NoRoom (no_room t buffer) (length (plan_bytes t)) ∷ []
 
 -- a verdict and the bytes written, none where it refuses (R262)
 abbrev pub nothing_written : Verdict → Written
 nothing_written v = record { verdict = v; used = 0 }
 
 abbrev pub written_by : Verdict → Tree → Written
-written_by Passed t = record { verdict = Passed; used = length (plan_bytes t) }
-written_by (Refused n p) t = nothing_written (Refused n p)
+written_by (Ok _) t = record { verdict = Ok tt; used = length (plan_bytes t) }
+written_by (Err e) t = nothing_written (Err e)
 
 -- the buffer then: the plan's bytes and after them what stood there; a refusal touches none (R263)
 abbrev pub buffer_by : Verdict → Tree → List ℕ → List ℕ
-buffer_by Passed t buffer = plan_bytes t ++ drop (length (plan_bytes t)) buffer
-buffer_by (Refused n p) t buffer = buffer
+buffer_by (Ok _) t buffer = plan_bytes t ++ drop (length (plan_bytes t)) buffer
+buffer_by (Err _) t buffer = buffer
 
 -- the lists of a tree have the lengths of its arrays
 pub record Arrays (t : Tree) : Type 0 where

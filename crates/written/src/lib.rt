@@ -2,17 +2,18 @@
 // Classes are laid upward, one after the other.
 #![tactic(auto)]
 
-ghost use Rattle.std.specs.Prelude.{◌≡◌, cond, ◌+◌, ◌≤◌, ◌<◌, length};
+ghost use Rattle.checks.specs.Check.{refusal_at};
+ghost use Rattle.std.specs.Prelude.{◌≡◌, ◌+◌, ◌≤◌, ◌<◌, length, Err};
 ghost use Rattle.io.specs.Counts.{IsPrefixLen};
 ghost use Rattle.digits.specs.Laid.{LaidAt};
 ghost use Rattle.written.specs.Bytes.{inner_bytes, leaf_bytes, record_bytes, rule_bytes, class_bytes, classes_bytes, plan_bytes};
 ghost use Rattle.written.specs.Writing.{nothing_written, Writes};
-ghost use Rattle.checks.specs.declared.Verdict.TheVariants.{Refused};
 
-use checks::Verdict;
+use checks::{Refusal, Refused, Verdict};
 use tree::Tree;
 
 // The answer: a verdict, and the bytes written.
+// R163: in an answer that refuses every further number is 0; so they stand beside the verdict, and not in a Result.
 #[derive(Drop)]
 pub struct Written {
     pub verdict: Verdict,
@@ -24,15 +25,8 @@ fn put_inner(parent: u8, weight: u32, at: usize, out: &mut [u8]) -> usize
     requires { at + 6 ≤ length out.old }
     ensures { LaidAt at (inner_bytes parent weight) out.old result out.new }
 {
-    let record = [
-        1u8,
-        parent,
-        (weight / 16_777_216) as u8,
-        (weight / 65_536 % 256) as u8,
-        (weight / 256 % 256) as u8,
-        (weight % 256) as u8,
-    ];
-    digits::put(&record, at, out)
+    let next = digits::put(&[1, parent], at, out);
+    digits::put(&weight.to_be_bytes(), next, out)
 }
 
 // Lays the record of a leaf: kind 2, parent 1, weight 4, longest 2.
@@ -40,17 +34,9 @@ fn put_leaf(parent: u8, weight: u32, longest: u16, at: usize, out: &mut [u8]) ->
     requires { at + 8 ≤ length out.old }
     ensures { LaidAt at (leaf_bytes parent weight longest) out.old result out.new }
 {
-    let record = [
-        2u8,
-        parent,
-        (weight / 16_777_216) as u8,
-        (weight / 65_536 % 256) as u8,
-        (weight / 256 % 256) as u8,
-        (weight % 256) as u8,
-        (longest / 256) as u8,
-        (longest % 256) as u8,
-    ];
-    digits::put(&record, at, out)
+    let next = digits::put(&[2, parent], at, out);
+    let next = digits::put(&weight.to_be_bytes(), next, out);
+    digits::put(&longest.to_be_bytes(), next, out)
 }
 
 // Lays a class record.
@@ -59,9 +45,10 @@ fn put_record(leaf: bool, parent: u8, weight: u32, longest: u16, at: usize, out:
     ensures { LaidAt at (record_bytes leaf parent weight longest) out.old result out.new }
 {
     if leaf {
-        return put_leaf(parent, weight, longest, at, out);
+        put_leaf(parent, weight, longest, at, out)
+    } else {
+        put_inner(parent, weight, at, out)
     }
-    put_inner(parent, weight, at, out)
 }
 
 // Lays the record of class i.
@@ -91,10 +78,8 @@ fn put_classes(tree: Tree, n: usize, at: usize, out: &mut [u8]) -> usize
     ensures { LaidAt at (classes_bytes tree n) out.old result out.new }
 {
     let mut next = at;
-    let mut i: usize = 1;
-    while i <= n {
+    for i in 1..=n {
         next = put_class(tree, i, next, out);
-        i += 1;
     }
     next
 }
@@ -110,46 +95,23 @@ fn put_plan(tree: Tree, out: &mut [u8]) -> usize
     end + 1
 }
 
-// The bytes of the rule record, and of a class record.
-fn rule_length(follows: bool) -> usize
-    ensures { result ≡ cond follows 2 0 }
-{
-    if follows {
-        return 2;
-    }
-    0
-}
-
-fn record_length(leaf: bool) -> usize
-    ensures { result ≡ cond leaf 8 6 }
-{
-    if leaf {
-        return 8;
-    }
-    6
-}
-
 // The bytes of the whole plan.
 fn plan_length(tree: Tree) -> usize
     requires { tree.count ≤ 63 }
     ensures { result ≡ length (plan_bytes tree) }
 {
-    let last = tree.count;
-    let leaves = tree.leaves;
-    let mut n = rule_length(tree.follows);
-    let mut i: usize = 1;
-    while i <= last {
-        n += record_length(sets::has(leaves, i));
-        i += 1;
+    let mut n = if tree.follows { 2 } else { 0 };
+    for i in 1..=tree.count {
+        n += if sets::has(tree.leaves, i) { 8 } else { 6 };
     }
     n + 1
 }
 
 // A refusal writes nothing.
-fn refused(number: u8, place: usize) -> Written
-    ensures { result ≡ nothing_written (Refused number place) }
+fn refuse(refused: Refused) -> Written
+    ensures { result ≡ nothing_written (Err refused) }
 {
-    let verdict = Verdict::Refused(number, place);
+    let verdict = Err(refused);
     Written { verdict, used: 0 }
 }
 
@@ -159,13 +121,13 @@ pub fn write_plan(tree: Tree, out: &mut [u8]) -> Written
     ensures prefix_len { IsPrefixLen result.used out.new }
 {
     if !shape::is_plan(tree) {
-        return refused(checks::NOT_SOUND, 0);
+        return refuse(Refused(Refusal::NotSound, 0));
     }
     let needed = plan_length(tree);
     if out.len() < needed {
-        return refused(checks::NO_ROOM, needed);
+        return refuse(Refused(Refusal::NoRoom, needed));
     }
     let used = put_plan(tree, out);
-    let verdict = Verdict::Passed;
+    let verdict = Ok(());
     Written { verdict, used }
 }

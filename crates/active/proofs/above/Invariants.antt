@@ -7,6 +7,3 @@ use Rattle.active.proofs.above.Given as goal
 
 abbrev pub invariant-loop-i : goal.invariant-loop-i
 invariant-loop-i l = (l.i ≤ (tree_in l.shape).count) × Marks (tree_in l.shape) (has l.waiting) l.active l.i
-
-abbrev pub decreases-loop-i : goal.decreases-loop-i
-decreases-loop-i l = l.i

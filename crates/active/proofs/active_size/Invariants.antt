@@ -60,6 +60,3 @@ abbrev pub invariant-loop-i : goal.invariant-loop-i
 invariant-loop-i l =
     let t = tree_in l.shape in
     (1 ≤ l.i) × (l.i ≤ t.count + 1) × (l.weights.0 ≡ weighs t l.active (l.i - 1)) × (l.packets.0 ≡ costs t l.active (l.i - 1))
-
-abbrev pub decreases-loop-i : goal.decreases-loop-i
-decreases-loop-i l = (tree_in l.shape).count + 1 - l.i

@@ -1,7 +1,7 @@
 -- `active::refresh` meets its contract.
 use mathlib.Core.List.{List, append-nil}
 use mathlib.Core.Path.{◌≡◌, refl, ap, ◌∙◌}
-use Prim.Native.Nat.{◌≤◌}
+use Prim.Native.Nat.{◌≤◌, ◌<◌}
 use native.Mathlib.Omega.{arith}
 use lib.ListN.{length, get_or, drop_of_length-le}
 use Rattle.units.specs.declared.Weight.{Weight}
@@ -26,8 +26,8 @@ loop-i-preserved c =
     let kept = c.args.kept.now in (
       omega arith,
       λ wide.
-          rw (c.loop-i.invariant.1 wide, c.number.ensures)
-          (table_over (weight_at sums) 0 kept c.loop-i.i (omega (arith, wide, c.loop-i-test.true))),
+          let u : c.loop-i.i < length kept = omega (arith, wide) in
+          rw (c.loop-i.invariant.1 wide) (table_over (weight_at sums) 0 kept c.loop-i.i u),
     )
 
 pub returns : goal.returns

@@ -36,7 +36,8 @@ loop-i-init c = (omega arith, λ k u. has_empty k ∙ rw (le-ltb k 0 (omega arit
 
 pub loop-i-preserved : goal.loop-i-preserved
 loop-i-preserved c =
-    (omega arith, rw c.with_if-waiting.ensures (filled_on _ c.loop-i.waiting c.loop-i.i c.loop-i-test.true c.loop-i.invariant.1))
+    let u : c.loop-i.i < 64 = omega arith in
+    (omega arith, rw c.with_if-waiting.ensures (filled_on _ c.loop-i.waiting c.loop-i.i u c.loop-i.invariant.1))
 
 pub returns : goal.returns
 returns c =

@@ -59,12 +59,6 @@ offset_bounds-sums-p-in-loop-i c = omega (arith, here (goal.at.offset_bounds-sum
 pub bounds-sums-p-in-loop-i : goal.bounds-sums-p-in-loop-i
 bounds-sums-p-in-loop-i c = omega (arith, here (goal.at.bounds-sums-p-in-loop-i c).In-loop-i, c.parent-p.ensures)
 
-pub overflow_sub-i : goal.overflow_sub-i
-overflow_sub-i c = omega (arith, c.loop-i-test.true)
-
-pub loop-i-smaller : goal.loop-i-smaller
-loop-i-smaller c = omega (arith, c.loop-i-test.true)
-
 pub loop-i-preserved : goal.loop-i-preserved
 loop-i-preserved c =
     let t = treeAt (goal.at.loop-i-preserved c).Start in

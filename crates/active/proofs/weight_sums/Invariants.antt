@@ -8,6 +8,3 @@ use Rattle.active.proofs.weight_sums.Given as goal
 
 abbrev pub invariant-loop-i : goal.invariant-loop-i
 invariant-loop-i l = (l.i ≤ (tree_in l.shape).count) × (l.sums ≡ table (sum_above (tree_in l.shape) l.active l.i) 64)
-
-abbrev pub decreases-loop-i : goal.decreases-loop-i
-decreases-loop-i l = l.i

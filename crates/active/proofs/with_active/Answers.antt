@@ -5,5 +5,5 @@ use Rattle.active.proofs.with_active.Goals as goal
 pub returns-then-on : goal.returns-then-on
 returns-then-on c = rw c.if-on.true c.plus.ensures
 
-pub returns : goal.returns
-returns c = rw c.if-on.false (omega arith)
+pub returns-else-on : goal.returns-else-on
+returns-else-on c = rw c.if-on.false (omega arith)

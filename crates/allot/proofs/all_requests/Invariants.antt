@@ -4,6 +4,3 @@ use Rattle.allot.proofs.all_requests.Given as goal
 
 abbrev pub invariant-loop-i : goal.invariant-loop-i
 invariant-loop-i l = Added l.tree l.table l.i l.requests
-
-abbrev pub decreases-loop-i : goal.decreases-loop-i
-decreases-loop-i l = l.i

@@ -10,11 +10,11 @@ share_out-shares-requires c =
     let adds =
     requested_adding c.args.tree c.args.table c.requires c.all_requests-requests.result c.all_requests-requests.ensures
     in
-    (adds, omega (arith, c.smaller-has.ensures, adds.small 0))
+    (adds, omega (arith, c.min-has.ensures, adds.small 0))
 
 pub returns : goal.returns
 returns c = (
   refl,
   shared_out_lem c.args.tree c.args.capacity c.args.table c.all_requests-requests.result c.share_out-shares.result
-      c.smaller-has.result c.requires c.all_requests-requests.ensures c.smaller-has.ensures c.share_out-shares.ensures,
+      c.min-has.result c.requires c.all_requests-requests.ensures c.min-has.ensures c.share_out-shares.ensures,
 )

@@ -8,6 +8,6 @@ pub returns-then-asked-has : goal.returns-then-asked-has
 unfolding child_gets
 returns-then-asked-has c = rw (le-leb c.args.asked c.args.has c.if-asked-has.true) refl
 
-pub returns : goal.returns
+pub returns-else-asked-has : goal.returns-else-asked-has
 unfolding child_gets
-returns c = rw (lt-leb c.args.asked c.args.has c.if-asked-has.false) c.share.ensures
+returns-else-asked-has c = rw (lt-leb c.args.asked c.args.has c.if-asked-has.false) c.share.ensures

@@ -10,6 +10,3 @@ use Rattle.allot.proofs.children_get.Given as goal
 abbrev pub invariant-loop-i : goal.invariant-loop-i
 invariant-loop-i l =
     (l.tree.count ≤ 63) × (1 ≤ l.i) × (l.i ≤ l.tree.count + 1) × (l.sum ≡ sum_to (of_child l.tree (share_at l.tree (entry l.requests) l.f) l.p) (l.i - 1))
-
-abbrev pub decreases-loop-i : goal.decreases-loop-i
-decreases-loop-i l = l.tree.count + 1 - l.i

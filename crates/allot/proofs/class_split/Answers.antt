@@ -23,9 +23,6 @@ fair_share-f-requires c =
     let above = sym c.has.ensures ∙ c.if-has.false in
     (c.requires.0, omega (arith, c.requires.0.sums c.args.p c.requires.2 above, c.if-requests-p.false), c.requires.3)
 
-pub overflow_sub-result : goal.overflow_sub-result
-overflow_sub-result c = omega (arith, c.children_get.ensures, c.fair_share-f.ensures.0.holds)
-
 pub returns : goal.returns
 unfolding is_leaf
 returns c =

@@ -16,19 +16,6 @@ loop-low-init c =
           a.p a.has c.requires.0.rules c.requires.1,
     )
 
-pub children_get-requires : goal.children_get-requires
-children_get-requires c = (c.requires.0, omega arith)
-
-pub loop-low-preserved-then-children_get-has : goal.loop-low-preserved-then-children_get-has
-loop-low-preserved-then-children_get-has c =
-    let inv = c.loop-low.invariant in
-    (omega arith, inv.1, omega (arith, c.children_get.ensures, c.if-children_get-has.true), inv.3)
-
-pub loop-low-preserved : goal.loop-low-preserved
-loop-low-preserved c =
-    let inv = c.loop-low.invariant in
-    (omega arith, omega arith, inv.2, λ h. omega (arith, c.children_get.ensures, c.if-children_get-has.false))
-
 pub returns : goal.returns
 returns c =
     let a = c.args in

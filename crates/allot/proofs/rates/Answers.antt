@@ -18,13 +18,13 @@ pub range_fault-v-requires : goal.range_fault-v-requires
 range_fault-v-requires c =
     few_classes c.args.tree (c.is_plan.ensures.sound c.if-not-is_plan.false)
 
-pub returns-in-Refused : goal.returns-in-Refused
-returns-in-Refused c =
+pub returns-in-Err : goal.returns-in-Err
+returns-in-Err c =
     let a = c.args in
-    let said = c.in-Refused.is in
-    refused_rates a.tree a.capacity a.requests c.is_plan.result c.is_plan.ensures _ _ c.nothing_allotted-in-Refused.result
+    let said = c.in-Err.is in
+    refused_rates a.tree a.capacity a.requests c.is_plan.result c.is_plan.ensures _ _ c.nothing_allotted-in-Err.result
     (sym said ∙ c.range_fault-v.ensures ∙ sym (pass_over _ _ (ap not c.if-not-is_plan.false)))
-    (c.nothing_allotted-in-Refused.ensures ∙ ap nothing_allotted said)
+    (c.nothing_allotted-in-Err.ensures ∙ ap nothing_allotted said)
 
 pub allot-requires : goal.allot-requires
 allot-requires c =

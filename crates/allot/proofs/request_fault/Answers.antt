@@ -4,17 +4,14 @@ use mathlib.Core.Path.{◌≡◌, sym, ap, ◌∙◌}
 use Prim.Native.Nat.{ℕ}
 use native.Mathlib.Omega.{arith}
 use lib.Dec.{ltb}
+use Rattle.std.specs.Prelude.{Ok}
 use Rattle.checks.specs.Check.{first_broken}
-use Rattle.checks.specs.declared.Verdict.TheVariants.{Passed}
 use Rattle.checks.proofs.Laws.{classes_passed, classes_refused, upward_more, pass_over, decides, none_broken}
 use Rattle.tree.specs.Class.{is_leaf}
 use Rattle.allot.specs.Request.{entry}
 use Rattle.allot.specs.Answer.{request_checks, bad_request}
 use Rattle.allot.proofs.request_fault.Goals as goal
 use Rattle.allot.proofs.request_fault.Goals.{After-bad_request}
-
-pub loop-i-init : goal.loop-i-init
-loop-i-init c = (omega arith, omega arith, λ k l u. absurd (omega arith))
 
 -- what the class at hand says
 said : (c : After-bad_request)
@@ -36,9 +33,16 @@ loop-i-preserved c =
     let a = c.args in (
       omega arith,
       omega arith,
-      upward_more (λ (k : ℕ). first_broken (request_checks a.tree a.table k) ≡ Passed) c.loop-i.i
+      upward_more (λ (k : ℕ). first_broken (request_checks a.tree a.table k) ≡ Ok tt) c.loop-i.i
           c.loop-i.invariant.2 (pass_over _ _ (sym (said (goal.at.loop-i-preserved c).After-bad_request) ∙ c.if-bad_request.false) ∙ none_broken),
     )
+
+pub returns-else-bad_request : goal.returns-else-bad_request
+returns-else-bad_request c =
+    let a = c.args in
+    let passed = upward_more (λ (k : ℕ). first_broken (request_checks a.tree a.table k) ≡ Ok tt) c.loop-i.i c.loop-i.invariant.2
+    (pass_over _ _ (sym (said (goal.at.returns-else-bad_request c).After-bad_request) ∙ c.if-bad_request.false) ∙ none_broken) in
+    sym (classes_passed (request_checks a.tree a.table) a.tree.count (λ k l u. passed k l (omega arith)))
 
 pub returns : goal.returns
 returns c =

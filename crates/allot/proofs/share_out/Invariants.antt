@@ -7,6 +7,3 @@ use Rattle.allot.proofs.share_out.Given as goal
 abbrev pub invariant-loop-i : goal.invariant-loop-i
 invariant-loop-i l =
     (l.tree.count ≤ 63) × (1 ≤ l.i) × (l.i ≤ l.tree.count + 1) × Settled l.tree (entry l.requests) l.has (l.i - 1) l.shares
-
-abbrev pub decreases-loop-i : goal.decreases-loop-i
-decreases-loop-i l = l.tree.count + 1 - l.i

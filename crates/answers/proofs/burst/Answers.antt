@@ -14,6 +14,7 @@ use Rattle.totals.proofs.Sounds.{sound_roomy, sound_total, total_is, light_here}
 use Rattle.steps.specs.Fields.{lent_link, link_at}
 use Rattle.answers.specs.Burst.{stand_in}
 use Rattle.answers.specs.Steps.{Told}
+use Rattle.answers.proofs.Lent.{lent_shaped}
 use Rattle.answers.proofs.Bursts.{bursts_none, bursts_made, served_at, served_from}
 use Rattle.answers.proofs.burst.Goals as goal
 use Rattle.answers.proofs.burst.Goals.{After-is_sound_at}
@@ -37,7 +38,8 @@ four k = k.args.stand.now
 
 -- its lists are a link's, and whether it is sound was decided
 known_so : (k : After-is_sound_at) (s : Stand) → Shaped (standing k s)
-known_so k s = k.known.ensures _ s
+known_so k s =
+    lent_shaped _ _ _ s k.told-balance k.told-residual k.told-start k.told-held k.told-lengths k.told-tags k.told-marks k.told-packets k.told-bytes
 
 decided : (k : After-is_sound_at) → Exactly k.is_sound_at.result (SoundLink (standing k k.stand_in-from.result))
 decided k = k.is_sound_at.ensures.by_index _ _ k.stand_in-from.result.charged

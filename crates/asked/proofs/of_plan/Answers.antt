@@ -1,17 +1,17 @@
 -- `asked::of_plan` meets its contract.
 use mathlib.Core.Path.{sym, subst}
-use Rattle.checks.specs.declared.Verdict.{Verdict}
+use Rattle.checks.specs.Check.{Verdict}
 use Rattle.asked.specs.Answer.{OfPlan}
 use Rattle.asked.proofs.of_plan.Goals as goal
 
-pub returns-in-Passed : goal.returns-in-Passed
-returns-in-Passed c =
+pub returns-in-Ok : goal.returns-in-Ok
+returns-in-Ok c =
     let a = c.args in
     let r = c.of_tree.result in
-    subst (λ (v : Verdict). OfPlan v a.read a.capacity a.requests r) (sym c.in-Passed.is) c.of_tree.ensures
+    subst (λ (v : Verdict). OfPlan v a.read a.capacity a.requests r) (sym c.in-Ok.is) c.of_tree.ensures
 
-pub returns-in-Refused : goal.returns-in-Refused
-returns-in-Refused c =
+pub returns-in-Err : goal.returns-in-Err
+returns-in-Err c =
     let a = c.args in
-    let r = c.refused.result in
-    subst (λ (v : Verdict). OfPlan v a.read a.capacity a.requests r) (sym c.in-Refused.is) c.refused.ensures
+    let r = c.refuse.result in
+    subst (λ (v : Verdict). OfPlan v a.read a.capacity a.requests r) (sym c.in-Err.is) c.refuse.ensures

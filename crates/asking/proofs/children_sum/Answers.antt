@@ -22,7 +22,7 @@ treeAt st = tree_in st.args.shape.now
 
 -- the class at hand is a class of the tree, and a class number
 at_hand : (c : In-loop-i) → c.loop-i.i ≤ (treeAt (goal.at.In-loop-i c).Start).count
-at_hand c = omega (arith, c.loop-i-test.true, c.count-last.ensures)
+at_hand c = omega (arith, c.loop-i-test.true, c.count-i-end.ensures)
 
 here : (c : In-loop-i) → c.loop-i.i < 64
 here c = omega (arith, few_classes (treeAt (goal.at.In-loop-i c).Start) c.requires, at_hand c)
@@ -31,9 +31,12 @@ here c = omega (arith, few_classes (treeAt (goal.at.In-loop-i c).Start) c.requir
 light : (c : In-loop-i) → weight_of (treeAt (goal.at.In-loop-i c).Start) c.loop-i.i ≤ 1_000_000
 light c = weight_most (treeAt (goal.at.In-loop-i c).Start) c.loop-i.i c.requires (here c)
 
+pub overflow_add-i-end : goal.overflow_add-i-end
+overflow_add-i-end c = omega (arith, few_classes (tree_in c.args.shape.now) c.requires, c.count-i-end.ensures)
+
 pub loop-i-init : goal.loop-i-init
 loop-i-init c =
-    (omega arith, omega arith, omega arith, sym (sum_none (adds_to (treeAt (goal.at.loop-i-init c).Start) c.args.active c.args.p)))
+    (omega arith, sym (sum_none (adds_to (treeAt (goal.at.loop-i-init c).Start) c.args.active c.args.p)))
 
 pub parent-requires : goal.parent-requires
 parent-requires c = here c
@@ -46,13 +49,7 @@ weight-requires c = (c.requires, here (goal.at.weight-requires c).In-loop-i)
 
 pub with_weight-sum-requires : goal.with_weight-sum-requires
 with_weight-sum-requires c =
-    omega (arith, here (goal.at.with_weight-sum-requires c).In-loop-i, c.loop-i.invariant.2, light (goal.at.with_weight-sum-requires c).In-loop-i, c.weight.ensures)
-
-pub overflow_add-i : goal.overflow_add-i
-overflow_add-i c = omega (arith, here (goal.at.overflow_add-i c).In-loop-i)
-
-pub loop-i-smaller : goal.loop-i-smaller
-loop-i-smaller c = omega (arith, at_hand (goal.at.loop-i-smaller c).In-loop-i)
+    omega (arith, here (goal.at.with_weight-sum-requires c).In-loop-i, c.loop-i.invariant.0, light (goal.at.with_weight-sum-requires c).In-loop-i, c.weight.ensures)
 
 pub loop-i-preserved : goal.loop-i-preserved
 loop-i-preserved c =
@@ -65,16 +62,14 @@ loop-i-preserved c =
     in
     let is = c.with_weight-sum.ensures in
     let most = cond_most c.counts-on.result c.weight.result.0 1_000_000 (omega (arith, light (goal.at.loop-i-preserved c).In-loop-i, c.weight.ensures)) in (
-      omega arith,
-      omega (arith, at_hand (goal.at.loop-i-preserved c).In-loop-i),
-      omega (arith, is, most, c.loop-i.invariant.2, c.loop-i.invariant.0),
+      omega (arith, is, most, c.loop-i.invariant.0),
       is
           ∙ ap₂ (λ (b : Bool) (k : ℕ). c.loop-i.sum.0 + cond b k 0) on c.weight.ensures
-          ∙ sum_on t a.active a.p c.loop-i.i c.loop-i.sum.0 c.loop-i.invariant.0 c.loop-i.invariant.3,
+          ∙ sum_on t a.active a.p c.loop-i.i c.loop-i.sum.0 (omega arith) c.loop-i.invariant.1,
     )
 
 pub returns : goal.returns
 returns c =
     let t = treeAt (goal.at.returns c).Start in
-    let e : c.loop-i.i - 1 ≡ t.count = omega (arith, c.loop-i.invariant.1, c.loop-i-test.false, c.count-last.ensures) in
-    c.loop-i.invariant.3 ∙ ap (sum_to (adds_to t c.args.active c.args.p)) e ∙ sum_whole t c.args.active c.args.p
+    let e : c.loop-i.i - 1 ≡ t.count = omega (arith, c.loop-i-test.false, c.count-i-end.ensures) in
+    c.loop-i.invariant.1 ∙ ap (sum_to (adds_to t c.args.active c.args.p)) e ∙ sum_whole t c.args.active c.args.p

@@ -1,6 +1,6 @@
 -- `children_sum` meets its contract.
 use mathlib.Core.Path.{◌≡◌}
-use Prim.Native.Nat.{◌+◌, ◌-◌, ◌*◌, ◌≤◌}
+use Prim.Native.Nat.{◌-◌, ◌*◌, ◌≤◌}
 use Rattle.tree.specs.Sum.{sum_to}
 use Rattle.shape.specs.Shape.{tree_in}
 use Rattle.asking.proofs.Laws.{adds_to}
@@ -9,7 +9,4 @@ use Rattle.asking.proofs.children_sum.Given as goal
 abbrev pub invariant-loop-i : goal.invariant-loop-i
 invariant-loop-i l =
     let t = tree_in l.shape in
-    (1 ≤ l.i) × (l.i ≤ t.count + 1) × (l.sum.0 ≤ (l.i - 1) * 1_000_000) × (l.sum.0 ≡ sum_to (adds_to t l.active l.p) (l.i - 1))
-
-abbrev pub decreases-loop-i : goal.decreases-loop-i
-decreases-loop-i l = (tree_in l.shape).count + 1 - l.i
+    (l.sum.0 ≤ (l.i - 1) * 1_000_000) × (l.sum.0 ≡ sum_to (adds_to t l.active l.p) (l.i - 1))

@@ -10,9 +10,3 @@ returns-then-leaf c =
     let t = tree_in c.args.shape.now in
     sym (sum_without t c.args.active c.args.i
     (λ k cl e on. leaf_childless t c.args.i k c.requires.0 (c.requires.1 c.if-leaf.true) cl e))
-
-pub children_sum-requires : goal.children_sum-requires
-children_sum-requires c = c.requires.0
-
-pub returns : goal.returns
-returns c = c.children_sum.ensures

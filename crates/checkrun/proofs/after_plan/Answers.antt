@@ -1,6 +1,7 @@
 -- `checkrun::after_plan` meets its contract: the plan stands within its window.
 use mathlib.Core.Path.{◌≡◌, ap}
 use native.Mathlib.Omega.{arith}
+use Rattle.std.proofs.lemmas.Option.{IfSome_then}
 use Rattle.std.proofs.lemmas.Result.{IfOk-weaker}
 use Rattle.checkrun.specs.declared.At.{At}
 use Rattle.claims.specs.declared.Checked.{Checked}
@@ -10,4 +11,7 @@ use Rattle.checkrun.proofs.after_plan.Goals as goal
 pub returns : goal.returns
 returns g c =
     let place = ap (λ (x : Checked). x.place) c.begin-check.ensures in
-    IfOk-weaker c.stands.result _ _ (λ (r : At) (e : r.from ≡ c.begin-check.result.place). omega (arith, e, place, begun_inside c.args.window.now)) c.stands.ensures
+    let inside = begun_inside c.args.window.now in
+    IfOk-weaker c.stands.result _ _
+    (λ o s. IfSome_then o s (λ (r : At) (e : r.from ≡ c.begin-check.result.place). omega (arith, e, place, inside)))
+    c.stands.ensures

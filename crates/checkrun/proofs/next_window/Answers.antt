@@ -3,6 +3,7 @@ use mathlib.Core.Path.{◌≡◌, ap, ◌∙◌}
 use Prim.Native.Nat.{◌+◌, ◌-◌, ◌≤◌}
 use native.Mathlib.Omega.{arith}
 use lib.ListN.{length, length-drop}
+use Rattle.std.proofs.lemmas.Option.{IfSome_then}
 use Rattle.std.proofs.lemmas.Result.{IfOk-weaker}
 use Rattle.checkrun.specs.declared.At.{At}
 use Rattle.claims.proofs.InParts.{part_within}
@@ -25,5 +26,6 @@ returns g c =
     let on : a.at.from + (c.part-check.result.place - a.at.check.place) ≤ length a.window.now =
     omega (arith, inside, rest, read) in
     IfOk-weaker c.stands.result _ _
-    (λ (r : At) (e : r.from ≡ a.at.from + (c.part-check.result.place - a.at.check.place)). omega (arith, e, on))
+    (λ o s. IfSome_then o s
+    (λ (r : At) (e : r.from ≡ a.at.from + (c.part-check.result.place - a.at.check.place)). omega (arith, e, on)))
     c.stands.ensures

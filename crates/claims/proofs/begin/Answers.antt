@@ -1,6 +1,7 @@
 -- `claims::begin` meets its contract.
 use mathlib.Core.Path.{ap, ◌∙◌}
-use Rattle.checks.specs.declared.Verdict.TheVariants.{Passed, Refused}
+use Rattle.checks.specs.Check.{refusal_at}
+use Rattle.std.specs.Prelude.{Ok, Err}
 use Rattle.plan.proofs.Numbers.{plan_rules}
 use Rattle.state.specs.declared.Link.{Link}
 use Rattle.claims.specs.declared.Judged.TheVariants.{Stop}
@@ -10,16 +11,14 @@ use Rattle.claims.proofs.begin.Goals as goal
 
 pub after_plan-requires : goal.after_plan-requires
 after_plan-requires c =
-    plan_rules _ c.read_plan-read.result c.read_plan-read.ensures c.in-Passed.is
+    plan_rules _ c.read_plan-read.result c.read_plan-read.ensures c.in-Ok.is
 
-pub returns-in-Passed : goal.returns-in-Passed
-returns-in-Passed c =
-    c.after_plan.ensures ∙ begun_by_lem _ c.read_plan-read.result Passed c.read_plan-read.ensures c.in-Passed.is
+pub returns-in-Ok : goal.returns-in-Ok
+returns-in-Ok c =
+    c.after_plan.ensures ∙ begun_by_lem _ c.read_plan-read.result (Ok tt) c.read_plan-read.ensures c.in-Ok.is
 
-pub returns-in-Refused : goal.returns-in-Refused
-returns-in-Refused c =
-    let number = c.in-Refused.n in
-    let place = c.in-Refused.p in
+pub returns-in-Err : goal.returns-in-Err
+returns-in-Err c =
     c.decides.ensures
-    ∙ ap (λ (l : Link). decides (Stop number place) l 0 0) c.none.ensures
-    ∙ begun_by_lem _ c.read_plan-read.result (Refused number place) c.read_plan-read.ensures c.in-Refused.is
+    ∙ ap (λ (l : Link). decides (Stop c.in-Err.refused) l 0 0) c.none.ensures
+    ∙ begun_by_lem _ c.read_plan-read.result (Err c.in-Err.refused) c.read_plan-read.ensures c.in-Err.is

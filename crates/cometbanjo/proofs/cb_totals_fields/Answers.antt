@@ -10,4 +10,4 @@ returns-then-sound_in c =
 pub returns : goal.returns
 returns c =
     let s = c.sound_in in
-    record { sound = s.result; exactly = s.ensures; answers = rw c.if-sound_in.false refl }
+    record { sound = s.result; exactly = s.ensures; answers = rw (c.number.ensures, c.if-sound_in.false) refl }

@@ -3,18 +3,18 @@ use mathlib.Core.Path.{sym, ap, ◌∙◌}
 use Rattle.desk.specs.Told.{silence_line}
 use Rattle.desk.proofs.line.Goals as goal
 
-pub returns-in-Because : goal.returns-in-Because
-returns-in-Because c =
+pub returns-in-Ok : goal.returns-in-Ok
+returns-in-Ok c =
     record {
       silence = c.why-silence.result;
       why = c.why-silence.ensures;
-      says = c.reason_line.ensures ∙ sym (ap (silence_line c.args.class) c.in-Because.is);
+      says = c.reason_line.ensures ∙ sym (ap (silence_line c.args.class) c.in-Ok.is);
     }
 
-pub returns-in-NotTold : goal.returns-in-NotTold
-returns-in-NotTold c =
+pub returns-in-Err : goal.returns-in-Err
+returns-in-Err c =
     record {
       silence = c.why-silence.result;
       why = c.why-silence.ensures;
-      says = sym (ap (silence_line c.args.class) c.in-NotTold.is);
+      says = rw c.number.ensures (sym (ap (silence_line c.args.class) c.in-Err.is));
     }

@@ -8,11 +8,6 @@ use lib.Seq.{lt-length-set}
 use Rattle.digits.proofs.Laying.{laid_byte, laid_as}
 use Rattle.digits.proofs.put_two.Goals as goal
 
-pub bounds-out-at-2 : goal.bounds-out-at-2
-bounds-out-at-2 c =
-    let a = c.args in
-    lt-length-set a.out.now a.at c.byte_of.result (omega arith)
-
 pub returns : goal.returns
 returns c =
     let a = c.args in

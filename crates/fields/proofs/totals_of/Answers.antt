@@ -4,7 +4,9 @@ use mathlib.Core.List.{List}
 use mathlib.Core.Path.{sym, ap, ◌∙◌}
 use Prim.Native.Nat.{ℕ}
 use denote.Struct.Laws as LL
-use Rattle.checks.specs.declared.Verdict.TheVariants.{Passed, Refused}
+use Rattle.checks.specs.declared.Refusal.TheVariants.{NotSound}
+use Rattle.checks.specs.Check.{refusal_at}
+use Rattle.std.specs.Prelude.{Ok, Err}
 use Rattle.state.specs.declared.Link.{Link}
 use Rattle.state.specs.declared.Totals.{Totals}
 use Rattle.state.specs.State.{link_of}
@@ -28,7 +30,7 @@ returns-then-not-is_sound_of c = λ tags marks.
       sound = c.is_sound_of.result;
       exactly = c.is_sound_of.ensures tags marks;
       answer =
-          ap (λ (n : Totals). record { verdict = Refused 11 0; totals = n }) c.none.ensures
+          ap (λ (n : Totals). record { verdict = Err (refusal_at NotSound 0); totals = n }) c.none.ensures
           ∙ sym (ap (λ (b : Bool). panel_gives b (whole (goal.at.returns-then-not-is_sound_of c).Start tags marks)) off);
     }
 
@@ -45,6 +47,6 @@ returns c = λ tags marks.
       sound = c.is_sound_of.result;
       exactly = c.is_sound_of.ensures tags marks;
       answer =
-          ap (λ (x : Totals). record { verdict = Passed; totals = x }) right
+          ap (λ (x : Totals). record { verdict = Ok tt; totals = x }) right
           ∙ sym (ap (λ (b : Bool). panel_gives b l) on);
     }

@@ -9,8 +9,8 @@ use Rattle.run.specs.declared.Step.{Step}
 use Rattle.stream.proofs.Begins.{begin_inside}
 use Rattle.linkstream.proofs.main.Goals as goal
 
-pub loop-left-init : goal.loop-left-init
-loop-left-init c =
+pub loop-window-init : goal.loop-window-init
+loop-window-init c =
     let w = c.read_full.new.buf in
     let n = c.in_ok-n.n in
     let step = c.begin-step.result in

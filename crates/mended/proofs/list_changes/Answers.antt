@@ -1,13 +1,13 @@
 -- `mend::list_changes` meets its contract: class by class upward, one entry where the weight is another.
 use mathlib.Core.List.{List}
 use mathlib.Core.Path.{◌≡◌, refl, sym, ap, ◌∙◌}
-use Prim.Native.Nat.{◌-◌, ◌≤◌}
+use Prim.Native.Nat.{ℕ, ◌+◌, ◌-◌, ◌≤◌}
 use native.Mathlib.Omega.{arith}
 use lib.ListN.{get_or}
 use Rattle.units.specs.declared.Weight.{Weight}
 use Rattle.tree.specs.Class.{no_weight}
 use Rattle.mended.specs.declared.Changes.{Changes}
-use Rattle.mended.specs.Answer.{listed}
+use Rattle.mended.specs.Answer.{changes_to, listed}
 use Rattle.mended.proofs.Least.{mended_at}
 use Rattle.mended.proofs.Listing.{changes_none, changes_few, list_step}
 use Rattle.mended.proofs.list_changes.Goals as goal
@@ -35,7 +35,11 @@ loop-i-preserved c =
       c.noted-changes.ensures ∙ list_step c.args.tree i c.loop-i.changes _ _ c.loop-i.invariant.0 u c.loop-i.invariant.2 refl new,
     )
 
-pub returns : goal.returns
-returns c =
-    let e : c.loop-i.i - 1 ≡ c.args.tree.count = omega arith in
-    c.loop-i.invariant.2 ∙ rw e
+pub returns-2 : goal.returns-2
+returns-2 c =
+    let i = c.loop-i.i in
+    let u : i ≤ 63 = omega (arith, c.loop-i-test.true, c.requires.0) in
+    let new = ap (λ (l : List Weight). (get_or l i no_weight).0) c.requires.1 ∙ mended_at c.args.tree i (omega arith) in
+    let last : i + 1 - 1 ≡ c.args.tree.count = omega arith in
+    c.noted-changes.ensures ∙ list_step c.args.tree i c.loop-i.changes _ _ c.loop-i.invariant.0 u c.loop-i.invariant.2 refl new
+    ∙ ap (λ (n : ℕ). listed (changes_to c.args.tree n)) last

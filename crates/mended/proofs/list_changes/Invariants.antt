@@ -7,6 +7,3 @@ use Rattle.mended.proofs.list_changes.Given as goal
 abbrev pub invariant-loop-i : goal.invariant-loop-i
 invariant-loop-i l =
     (1 ≤ l.i) × (l.i ≤ l.tree.count + 1) × (l.changes ≡ listed (changes_to l.tree (l.i - 1)))
-
-abbrev pub decreases-loop-i : goal.decreases-loop-i
-decreases-loop-i l = l.tree.count + 1 - l.i

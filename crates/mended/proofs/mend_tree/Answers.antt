@@ -7,19 +7,16 @@ use Rattle.mended.proofs.mend_tree.Goals as goal
 
 pub returns-then-tree-eq0 : goal.returns-then-tree-eq0
 unfolding no_class
-returns-then-tree-eq0 c = rw (mend_none c.args.tree (eq-eqb _ _ c.if-tree-eq0.true)) c.refused.ensures
+returns-then-tree-eq0 c = rw (mend_none c.args.tree (eq-eqb _ _ c.if-tree-eq0.true)) c.refuse.ensures
 
-pub child_fault-v-requires : goal.child_fault-v-requires
-child_fault-v-requires c = c.requires.few
-
-pub returns-in-Passed : goal.returns-in-Passed
+pub returns-in-Ok : goal.returns-in-Ok
 unfolding no_class
-returns-in-Passed c =
+returns-in-Ok c =
     let t = c.args.tree in
-    rw (mend_on t (ne_eqb _ _ c.if-tree-eq0.false) (sym c.child_fault-v.ensures ∙ c.in-Passed.is)) c.mend_shares.ensures
+    rw (mend_on t (ne_eqb _ _ c.if-tree-eq0.false) (sym c.child_fault-v.ensures ∙ c.in-Ok.is)) c.mend_shares.ensures
 
-pub returns-in-Refused : goal.returns-in-Refused
+pub returns-in-Err : goal.returns-in-Err
 unfolding no_class
-returns-in-Refused c =
+returns-in-Err c =
     let t = c.args.tree in
-    rw (mend_child t (ne_eqb _ _ c.if-tree-eq0.false) (sym c.child_fault-v.ensures ∙ c.in-Refused.is)) c.refused-in-Refused.ensures
+    rw (mend_child t (ne_eqb _ _ c.if-tree-eq0.false) (sym c.child_fault-v.ensures ∙ c.in-Err.is)) c.refuse-in-Err.ensures

@@ -20,7 +20,7 @@ use Rattle.mended.proofs.Downward.{
   above_end,
 }
 use Rattle.mended.proofs.mend_weights.Goals as goal
-use Rattle.mended.proofs.mend_weights.Goals.{After-mended_weight-w, After-wide-p}
+use Rattle.mended.proofs.mend_weights.Goals.{After-mended_weight-w, After-from-p}
 
 pub loop-i-init : goal.loop-i-init
 loop-i-init c = above_start c.args.tree c.requires
@@ -39,21 +39,21 @@ said c =
     (max (get_or c.loop-i.at c.loop-i.i no_weight).0 (get_or c.loop-i.sums c.loop-i.i no_weight).0))
     c.has-leaf.ensures)
 
-narrow : (c : After-wide-p) → c.wide-p.result < 64
+narrow : (c : After-from-p) → c.from-p.result < 64
 narrow c =
     omega (
       arith,
-      c.wide-p.ensures.0,
+      c.from-p.ensures,
       low_parent c.args.tree c.requires c.loop-i.i (omega arith) c.loop-i.invariant.within,
       c.requires.few,
       c.loop-i.invariant.within,
     )
 
-small : (c : After-wide-p)
+small : (c : After-from-p)
     → mended_weight c.args.tree
     c.loop-i.i
     ≤ 1_000_000
-small c = omega (arith, c.if-w-gt1000000.false, said (goal.at.After-wide-p c).After-mended_weight-w)
+small c = omega (arith, c.if-w-gt1000000.false, said (goal.at.After-from-p c).After-mended_weight-w)
 
 pub returns-then-w-gt1000000 : goal.returns-then-w-gt1000000
 returns-then-w-gt1000000 c =
@@ -68,18 +68,18 @@ bounds-sums-p c = narrow c
 pub plus-requires : goal.plus-requires
 plus-requires c =
     let fits =
-    above_fits c.args.tree c.requires c.loop-i.i c.loop-i.sums c.loop-i.at c.loop-i.invariant (omega arith) c.wide-p.result
-    (narrow (goal.at.plus-requires c).After-wide-p) (small (goal.at.plus-requires c).After-wide-p)
+    above_fits c.args.tree c.requires c.loop-i.i c.loop-i.sums c.loop-i.at c.loop-i.invariant (omega arith) c.from-p.result
+    (narrow (goal.at.plus-requires c).After-from-p) (small (goal.at.plus-requires c).After-from-p)
     in
     omega (arith, fits, said (goal.at.plus-requires c).After-mended_weight-w)
 
 pub bounds-sums-p-in-loop-i : goal.bounds-sums-p-in-loop-i
-bounds-sums-p-in-loop-i c = narrow (goal.at.bounds-sums-p-in-loop-i c).After-wide-p
+bounds-sums-p-in-loop-i c = narrow (goal.at.bounds-sums-p-in-loop-i c).After-from-p
 
 pub loop-i-preserved : goal.loop-i-preserved
 loop-i-preserved c =
-    above_more c.args.tree c.requires c.loop-i.i c.loop-i.sums c.loop-i.at c.loop-i.invariant (omega arith) c.wide-p.result
-    c.mended_weight-w.result c.plus.result c.wide-p.ensures.0 (said (goal.at.loop-i-preserved c).After-mended_weight-w) (small (goal.at.loop-i-preserved c).After-wide-p) c.plus.ensures
+    above_more c.args.tree c.requires c.loop-i.i c.loop-i.sums c.loop-i.at c.loop-i.invariant (omega arith) c.from-p.result
+    c.mended_weight-w.result c.plus.result c.from-p.ensures (said (goal.at.loop-i-preserved c).After-mended_weight-w) (small (goal.at.loop-i-preserved c).After-from-p) c.plus.ensures
 
 pub returns : goal.returns
 returns c =

@@ -4,6 +4,3 @@ use Rattle.mended.proofs.mend_weights.Given as goal
 
 abbrev pub invariant-loop-i : goal.invariant-loop-i
 invariant-loop-i l = MendedAbove l.tree l.i l.sums l.at
-
-abbrev pub decreases-loop-i : goal.decreases-loop-i
-decreases-loop-i l = l.i

@@ -1,5 +1,5 @@
 -- `opening::open_accounts` meets its contract.
-use Prim.Native.Nat.{ℕ, ◌*◌, ◌≤◌, ◌<◌}
+use Prim.Native.Nat.{ℕ, ◌+◌, ◌*◌, ◌≤◌, ◌<◌}
 use mathlib.Core.Path.{◌≡◌, sym, ap, ap₂, ◌∙◌}
 use native.Mathlib.Omega.{arith}
 use lib.ListN.{get_or}
@@ -38,7 +38,7 @@ low g =
       arith,
       few_classes (treeAt (goal.at.In-loop-i g).Start) g.requires.0.rules,
       g.loop-i-test.true,
-      g.count-last.ensures,
+      g.count-i-end.ensures,
     )
 
 up : (g : In-loop-i) → parent_of (treeAt (goal.at.In-loop-i g).Start) g.loop-i.i < 64
@@ -126,18 +126,6 @@ keep-requires-in-loop-i c = omega (
   low (goal.at.keep-requires-in-loop-i c).In-loop-i,
 )
 
-pub overflow_add-i : goal.overflow_add-i
-overflow_add-i c = omega (
-  arith,
-  low (goal.at.overflow_add-i c).In-loop-i,
-)
-
-pub loop-i-smaller : goal.loop-i-smaller
-loop-i-smaller c = omega (
-  arith,
-  low (goal.at.loop-i-smaller c).In-loop-i,
-)
-
 pub loop-i-preserved : goal.loop-i-preserved
 loop-i-preserved c =
     let leaf = c.has-leaf.ensures ∙ ap (λ (s : ℕ). has s c.loop-i.i)
@@ -158,5 +146,17 @@ returns c =
     (omega (
       arith,
       c.loop-i-test.false,
-      c.count-last.ensures,
+      c.count-i-end.ensures,
     )) (reached (goal.at.returns c).At-loop-i)
+
+-- after the last class's turn
+pub returns-2 : goal.returns-2
+returns-2 c =
+    let leaf = c.has-leaf.ensures ∙ ap (λ (s : ℕ). has s c.loop-i.i) c.leaves-leaves.ensures in
+    let due = c.due-due.ensures ∙ due_is (goal.at.returns-2 c).In-loop-i _ _ c.weight-w.ensures c.parent-p.ensures in
+    let low = low (goal.at.returns-2 c).In-loop-i in
+    let opened =
+    opening_on _ _ _ _ c.requires.0 c.loop-i.i c.loop-i.invariant.0 low _ _ (reached (goal.at.returns-2 c).At-loop-i) _ _
+    c.args.sums.now c.requires.1 c.has.ensures leaf due c.account_of-in-loop-i.ensures c.open_class-one.ensures c.keep-in-loop-i.ensures
+    in
+    opening_ends _ _ _ _ c.requires.0 _ _ (c.loop-i.i + 1) (omega arith) (omega (arith, low)) (omega (arith, c.count-i-end.ensures)) opened

@@ -1,5 +1,5 @@
 -- `opening::open_accounts` meets its contract.
-use Prim.Native.Nat.{◌-◌, ◌≤◌}
+use Prim.Native.Nat.{◌≤◌}
 use mathlib.Core.List.{List}
 use Rattle.state.specs.declared.Account.{Account}
 use Rattle.rules.specs.Opening.{kind_is}
@@ -14,6 +14,3 @@ invariant-loop-i l =
     (1 ≤ l.i) × (l.i ≤ 64)
     × ((accounts : List Account) → CanOpen t l.active accounts → OpenedUpTo (kind_is l.surplus) t l.active accounts 1 l.initial.quotas l.initial.balance l.initial.residual
     → OpenedUpTo (kind_is l.surplus) t l.active accounts l.i l.quotas l.balance l.residual)
-
-abbrev pub decreases-loop-i : goal.decreases-loop-i
-decreases-loop-i l = 64 - l.i

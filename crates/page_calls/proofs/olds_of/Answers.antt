@@ -1,21 +1,13 @@
 -- `page_calls::olds_of` meets its contract.
-use mathlib.Core.List.{append-nil}
-use mathlib.Core.Path.{◌≡◌, refl, ◌∙◌}
-use native.Mathlib.Omega.{arith}
-use Rattle.tree.specs.Sum.{table}
-use Rattle.tree.proofs.Tables.{table_none, table_fill}
+use Rattle.std.proofs.Common.{rules}
+use Rattle.mended.specs.Answer.{no_change}
 use Rattle.page_calls.specs.Kept.{old_at}
+use Rattle.page_calls.proofs.Mapped.{mapped}
 use Rattle.page_calls.proofs.olds_of.Goals as goal
-
-pub loop-i-init : goal.loop-i-init
-loop-i-init c = (omega arith, rw (table_none (old_at c.args.changes)) refl)
-
-pub loop-i-preserved : goal.loop-i-preserved
-loop-i-preserved c =
-    let fill = table_fill (old_at c.args.changes) 0 64 c.loop-i.i c.loop-i-test.true in
-    (omega arith, rw (c.loop-i.invariant.1, c.change_old.ensures) fill)
 
 pub returns : goal.returns
 returns c =
-    let e : c.loop-i.i ≡ 64 = omega arith in
-    c.loop-i.invariant.1 ∙ rw e (append-nil (table (old_at c.args.changes) 64))
+    mapped (old_at c.args.changes) 64 c.map.result c.map.ensures.items.long (λ k e h.
+    let call = c.map.ensures.items.at k no_change e h in
+    let gave = call.2 in
+    search rules)

@@ -6,7 +6,7 @@ pub returns : goal.returns
 returns c =
     let e = c.mend-mended.ensures in
     record {
-      answers = c.wide.ensures ∙ c.number.ensures ∙ rw e refl;
+      answers = c.from.ensures ∙ c.number.ensures ∙ rw e refl;
       verdict = c.said_of.ensures ∙ rw e refl;
       counted = rw e refl;
       classes = c.classes_of.ensures ∙ rw e refl;

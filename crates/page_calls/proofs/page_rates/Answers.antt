@@ -7,7 +7,7 @@ returns c =
     record {
       answer = c.rates_of-answer.result;
       rules = c.rates_of-answer.ensures;
-      answers = c.wide.ensures ∙ c.number.ensures;
+      answers = c.from.ensures ∙ c.number.ensures;
       verdict = c.said_of.ensures;
       all_requests = refl;
       all_gets = refl;

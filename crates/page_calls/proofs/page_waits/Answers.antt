@@ -7,6 +7,6 @@ returns c =
     record {
       answer = c.leaf_waits-waits.result;
       rules = rw c.read_plan-read.ensures at c.leaf_waits-waits.ensures;
-      answers = c.wide.ensures ∙ c.number.ensures;
+      answers = c.from.ensures ∙ c.number.ensures;
       promised = refl;
     }

@@ -7,6 +7,6 @@ returns c =
     record {
       answer = c.write_plan-written.result;
       rules = rw c.tree_of-tree.ensures at c.write_plan-written.ensures.writes;
-      answers = c.wide.ensures ∙ c.number.ensures;
+      answers = c.from.ensures ∙ c.number.ensures;
       verdict = c.said_of.ensures;
     }

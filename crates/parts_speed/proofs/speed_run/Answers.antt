@@ -15,7 +15,6 @@ loop-n-init c =
     let a = c.args in
     let is = c.begin-begun.ensures in
     let all : a.parts ≡ a.parts - 0 = omega arith in (
-      omega arith,
       refl,
       (λ m. subst (λ (s : Step). SoundLink s.link) (sym is) (begin_sound _ (sym (ap (λ (s : Step). s.more) is) ∙ m))),
       rw (sym all) refl,
@@ -23,11 +22,11 @@ loop-n-init c =
 
 -- what was laid when the loop is left
 laid : (h : At-loop-n) (s : Laid)
-    → laid_on (h.args.parts - h.loop-n.n) h.args.input.now h.loop-n.part (laid_by h.loop-n.bytes h.loop-n.out) ≡ s
+    → laid_on (h.args.parts - h.loop-n._n) h.args.input.now h.loop-n.part (laid_by h.loop-n.bytes h.loop-n.out) ≡ s
     → laid_in h.args.parts h.args.input.now (begin_of h.args.input.now) h.args.out.now ≡ s
 laid h s e =
     let a = h.args in
-    ap (λ (b : Step). laid_in a.parts a.input.now b a.out.now) (sym h.begin-begun.ensures) ∙ h.loop-n.invariant.3 ∙ e
+    ap (λ (b : Step). laid_in a.parts a.input.now b a.out.now) (sym h.begin-begun.ensures) ∙ h.loop-n.invariant.2 ∙ e
 
 pub returns-then-not-part : goal.returns-then-not-part
 returns-then-not-part c =
@@ -38,13 +37,12 @@ pub loop-n-preserved : goal.loop-n-preserved
 loop-n-preserved c =
     let a = c.args in
     let on = not-false _ c.if-not-part.false in
-    let sound = c.loop-n.invariant.2 on in
+    let sound = c.loop-n.invariant.1 on in
     let x = c.part-part.ensures.parts in
-    let left : a.parts - c.loop-n.n ≡ suc (a.parts - (c.loop-n.n + 1)) = omega (arith, c.loop-n-test.true) in (
-      omega (arith, c.loop-n-test.true),
+    let left : a.parts - c.loop-n._n ≡ suc (a.parts - (c.loop-n._n + 1)) = omega (arith, c.loop-n-test.true) in (
       search rules,
       (λ m. x.keeps sound),
-      c.loop-n.invariant.3 ∙ ap (λ (k : ℕ). laid_on k a.input.now c.loop-n.part (laid_by c.loop-n.bytes c.loop-n.out)) left
+      c.loop-n.invariant.2 ∙ ap (λ (k : ℕ). laid_on k a.input.now c.loop-n.part (laid_by c.loop-n.bytes c.loop-n.out)) left
           ∙ laid_on_lem _ _ c.loop-n.part c.part-part.result c.loop-n.bytes _ _ _ on sound x c.wrapping_add_usize-bytes.ensures.value,
     )
 
@@ -52,5 +50,5 @@ pub returns : goal.returns
 returns c =
     let a = c.args in
     let s = laid_by c.loop-n.bytes c.loop-n.out in
-    let none : a.parts - c.loop-n.n ≡ 0 = omega (arith, c.loop-n-test.false) in
+    let none : a.parts - c.loop-n._n ≡ 0 = omega (arith, c.loop-n-test.false) in
     let e = laid (goal.at.returns c).At-loop-n s (ap (λ (k : ℕ). laid_on k a.input.now c.loop-n.part s) none ∙ laid_none _ c.loop-n.part s) in record { value = sym (ap (λ (x : Laid). x.bytes) e); out_after = sym (ap (λ (x : Laid). x.buffer) e) }

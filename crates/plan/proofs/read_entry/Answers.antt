@@ -6,33 +6,33 @@ use Rattle.plan.proofs.read_entry.Goals as goal
 
 pub returns-then-gives_claim : goal.returns-then-gives_claim
 returns-then-gives_claim c =
-    let says = rw c.in-Whole.is at c.read_head-h.ensures in
+    let says = c.in-Ok.ensures in
     sym (entry_alone _ says.0 says.1 says.2 (ap gives_claim (sym says.3) ∙ sym c.gives_claim.ensures
     ∙ c.if-gives_claim.true))
 
 pub whole_entry-requires : goal.whole_entry-requires
 whole_entry-requires c =
-    let says = rw c.in-Whole.is at c.read_head-h.ensures in
+    let says = c.in-Ok.ensures in
     (says.0, says.2, says.3)
 
-pub returns-in-Missing : goal.returns-in-Missing
-returns-in-Missing c =
-    let says = rw c.in-Missing.is at c.read_head-h.ensures in
+pub returns-in-Err-NoKindByte : goal.returns-in-Err-NoKindByte
+returns-in-Err-NoKindByte c =
+    let says = rw c.in-Err-NoKindByte.field-0-is at c.in-Err-NoKindByte.ensures in
     sym (entry_end _ says)
 
-pub returns-in-Strange : goal.returns-in-Strange
-returns-in-Strange c =
-    let says = rw c.in-Strange.is at c.read_head-h.ensures in
+pub returns-in-Err-StrangeKind : goal.returns-in-Err-StrangeKind
+returns-in-Err-StrangeKind c =
+    let says = rw c.in-Err-StrangeKind.field-0-is at c.in-Err-StrangeKind.ensures in
     sym (entry_unknown _ says.0 says.1)
 
-pub returns-in-Cut : goal.returns-in-Cut
-returns-in-Cut c =
-    let says = rw c.in-Cut.is at c.read_head-h.ensures in
+pub returns-in-Err-CutBody : goal.returns-in-Err-CutBody
+returns-in-Err-CutBody c =
+    let says = rw c.in-Err-CutBody.field-0-is at c.in-Err-CutBody.ensures in
     sym (entry_cut _ says.0 says.1 says.2)
 
 pub returns-else-gives_claim : goal.returns-else-gives_claim
 returns-else-gives_claim c =
-    let says = rw c.in-Whole.is at c.read_head-h.ensures in
+    let says = c.in-Ok.ensures in
     c.whole_entry.ensures
     ∙ sym (entry_whole _ says.0 says.1 says.2 (ap gives_claim (sym says.3) ∙ sym c.gives_claim.ensures
     ∙ c.if-gives_claim.false))

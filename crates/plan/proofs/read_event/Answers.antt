@@ -5,25 +5,25 @@ use Rattle.plan.proofs.read_event.Goals as goal
 
 pub whole_event-requires : goal.whole_event-requires
 whole_event-requires c =
-    let says = rw c.in-Whole.is at c.read_head-h.ensures in
+    let says = c.in-Ok.ensures in
     (says.2, says.3)
 
-pub returns-in-Missing : goal.returns-in-Missing
-returns-in-Missing c =
-    let says = rw c.in-Missing.is at c.read_head-h.ensures in
+pub returns-in-Err-NoKindByte : goal.returns-in-Err-NoKindByte
+returns-in-Err-NoKindByte c =
+    let says = rw c.in-Err-NoKindByte.field-0-is at c.in-Err-NoKindByte.ensures in
     sym (event_end _ _ says)
 
-pub returns-in-Strange : goal.returns-in-Strange
-returns-in-Strange c =
-    let says = rw c.in-Strange.is at c.read_head-h.ensures in
+pub returns-in-Err-StrangeKind : goal.returns-in-Err-StrangeKind
+returns-in-Err-StrangeKind c =
+    let says = rw c.in-Err-StrangeKind.field-0-is at c.in-Err-StrangeKind.ensures in
     sym (event_unknown _ _ says.0 says.1)
 
-pub returns-in-Cut : goal.returns-in-Cut
-returns-in-Cut c =
-    let says = rw c.in-Cut.is at c.read_head-h.ensures in
+pub returns-in-Err-CutBody : goal.returns-in-Err-CutBody
+returns-in-Err-CutBody c =
+    let says = rw c.in-Err-CutBody.field-0-is at c.in-Err-CutBody.ensures in
     sym (event_cut _ _ says.0 says.1 says.2)
 
-pub returns-in-Whole : goal.returns-in-Whole
-returns-in-Whole c =
-    let says = rw c.in-Whole.is at c.read_head-h.ensures in
+pub returns-in-Ok : goal.returns-in-Ok
+returns-in-Ok c =
+    let says = c.in-Ok.ensures in
     c.whole_event.ensures ∙ sym (event_whole _ _ says.0 says.1 says.2)

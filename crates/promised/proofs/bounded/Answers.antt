@@ -1,13 +1,9 @@
 -- `promised::bounded` meets its contract: a D that the leaf's places can hold, and the ranges of the plan rules.
-use mathlib.Core.Path.{ap}
-use Prim.Native.Nat.{ℕ}
 use native.Mathlib.Omega.{arith}
-use Rattle.checks.specs.declared.Verdict.TheVariants.{Passed}
 use Rattle.units.proofs.Laws.{cost_ceiling}
 use Rattle.tree.specs.Class.{longest_of}
 use Rattle.tree.proofs.Rules.{weight_range, longest_range, size_ceiling}
 use Rattle.rules.proofs.Taken.{leaf_class_lem}
-use Rattle.promised.specs.Promise.{promising}
 use Rattle.promised.proofs.bounded.Goals as goal
 
 pub bound_of-requires : goal.bound_of-requires
@@ -24,6 +20,3 @@ bound_of-requires c =
       weight.1,
       omega (arith, c.requires.3, size_ceiling t rules),
     )
-
-pub returns : goal.returns
-returns c = rw (← c.requires.3) (ap (λ (n : ℕ). promising Passed n) c.bound_of.ensures)

@@ -1,10 +1,12 @@
 -- `promised::longest_wait` meets its contract: 11, then 12, then 14, else the bound.
-use mathlib.Core.Bool.{not}
+use mathlib.Core.Bool.{true, false, not}
 use mathlib.Core.Path.{◌≡◌, refl, sym, ap, ◌∙◌}
 use Prim.Native.Nat.{ℕ, ◌*◌}
 use native.Mathlib.Omega.{arith}
-use borrow.Author.Tests.{not-false, lt-ltb, le-ltb}
-use Rattle.checks.specs.declared.Verdict.TheVariants.{Passed, Refused}
+use borrow.Author.Tests.{lt-ltb, le-ltb}
+use Rattle.checks.specs.declared.Refusal.TheVariants.{NotSound, NoLeaf, Full}
+use Rattle.checks.specs.Check.{refusal_at}
+use Rattle.std.specs.Prelude.{Ok, Err}
 use Rattle.checks.proofs.Laws.{decides, pass_over, none_broken}
 use Rattle.units.specs.Cost.{cost_of}
 use Rattle.tree.specs.Class.{is_leaf}
@@ -19,41 +21,39 @@ most : (c : After-full_of)
     c.full_of.result.0 ≡ most_held a.tree a.class
 most c = c.full_of.ensures ∙ ap (λ (n : ℕ). 32 * cost_of n) c.longest.ensures
 
-pub returns-then-not-plan : goal.returns-then-not-plan
-returns-then-not-plan c =
+pub returns-in_default : goal.returns-in_default
+returns-in_default c =
     let a = c.args in
-    promise_of a.tree a.class a.d.0 c.plan_size-plan.result.right (Refused 11 0) _ c.plan_size-plan.ensures.right
-    (decides _ _ c.if-not-plan.true)
-    c.refused.ensures
+    promise_of a.tree a.class a.d.0 false (Err (refusal_at NotSound 0)) _ c.in_default.ensures.right (decides _ _ refl)
+    c.refuse.ensures
 
 pub returns-then-not-holds : goal.returns-then-not-holds
 unfolding is_leaf
 returns-then-not-holds c =
     let a = c.args in
-    promise_of a.tree a.class a.d.0 c.plan_size-plan.result.right (Refused 12 a.class) _ c.plan_size-plan.ensures.right
-    (pass_over _ _ c.if-not-plan.false ∙ decides _ _ (ap not (sym c.holds.ensures.0) ∙ (ap not c.if-not-holds.true)))
-    c.refused-then-not-holds.ensures
+    promise_of a.tree a.class a.d.0 true (Err (refusal_at NoLeaf a.class)) _ c.in-Some.ensures.right
+    (pass_over _ _ refl ∙ decides _ _ (ap not (sym c.holds.ensures.0) ∙ (ap not c.if-not-holds.true)))
+    c.refuse-then-not-holds.ensures
 
 pub returns-then-full_of-d : goal.returns-then-full_of-d
 unfolding is_leaf
 returns-then-full_of-d c =
     let a = c.args in
-    promise_of a.tree a.class a.d.0 c.plan_size-plan.result.right (Refused 14 a.class) _ c.plan_size-plan.ensures.right
-    (pass_over _ _ c.if-not-plan.false
+    promise_of a.tree a.class a.d.0 true (Err (refusal_at Full a.class)) _ c.in-Some.ensures.right
+    (pass_over _ _ refl
     ∙ pass_over _ _ (ap not (sym c.holds.ensures.0) ∙ (ap not c.if-not-holds.false))
     ∙ decides _ _ (lt-ltb (most_held a.tree a.class) a.d.0 (omega (arith, c.if-full_of-d.true, most (goal.at.returns-then-full_of-d c).After-full_of))))
-    c.refused-then-full_of-d.ensures
+    c.refuse-then-full_of-d.ensures
 
 pub bounded-requires : goal.bounded-requires
 unfolding is_leaf
 bounded-requires c =
-    let e = c.plan_size-plan.ensures in
-    let right = not-false c.plan_size-plan.result.right c.if-not-plan.false in
+    let e = c.in-Some.ensures in
     let holds = c.if-not-holds.false in (
-      e.right.sound right,
+      e.right.sound refl,
       sym c.holds.ensures.0 ∙ holds,
       omega (arith, c.if-full_of-d.false, most (goal.at.bounded-requires c).After-full_of),
-      e.size ∙ rw right refl,
+      e.size,
       c.holds.ensures.1 holds,
     )
 
@@ -61,8 +61,8 @@ pub returns : goal.returns
 unfolding is_leaf
 returns c =
     let a = c.args in
-    promise_of a.tree a.class a.d.0 c.plan_size-plan.result.right Passed _ c.plan_size-plan.ensures.right
-    (pass_over _ _ c.if-not-plan.false
+    promise_of a.tree a.class a.d.0 true (Ok tt) _ c.in-Some.ensures.right
+    (pass_over _ _ refl
     ∙ pass_over _ _ (ap not (sym c.holds.ensures.0) ∙ (ap not c.if-not-holds.false))
     ∙ pass_over _ _ (le-ltb (most_held a.tree a.class) a.d.0 (omega (arith, c.if-full_of-d.false, most (goal.at.returns c).After-full_of)))
     ∙ none_broken)

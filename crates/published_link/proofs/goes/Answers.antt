@@ -87,5 +87,5 @@ work_out-requires c =
 pub returns : goal.returns
 returns c =
     rw (c.work_out.ensures.0, c.work_out.ensures.1)
-    (sent_whole c.args.second c.requires _ (apart (goal.at.returns c).After-residuals-residual) c.send-sent.result _ _ c.send-sent.ensures.wholly c.departure-answer.result _
-    c.departure-answer.ensures (put_together c.args.second.link (same (goal.at.returns c).After-shape_of-shape) c.zipped-accounts_after.ensures) refl)
+    (sent_whole c.args.second c.requires _ (apart (goal.at.returns c).After-residuals-residual) c.send-sent.result _ _ c.send-sent.ensures.wholly c.departure.result _
+    c.departure.ensures (put_together c.args.second.link (same (goal.at.returns c).After-shape_of-shape) c.zipped-accounts_after.ensures) refl)

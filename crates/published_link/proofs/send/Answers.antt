@@ -28,11 +28,11 @@ returns-then-not-is_sound c =
     send_unsound c.args.second (shaped_second c.args.second _ c.well_formed.0) c.send_stays.result
     (λ s. not_true_and_false (c.is_sound.ensures.complete s) c.if-not-is_sound.true) c.send_stays.ensures
 
-pub returns-then-packets-eq0 : goal.returns-then-packets-eq0
-returns-then-packets-eq0 c =
+pub returns-then-second-eq0 : goal.returns-then-second-eq0
+returns-then-second-eq0 c =
     let sound = c.is_sound.ensures.sound c.if-not-is_sound.false in
-    send_nothing c.args.second (shaped_second c.args.second _ c.well_formed.0) sound c.send_stays-then-packets-eq0.result
-    (none_waits c.args.second sound c.if-packets-eq0.true) c.send_stays-then-packets-eq0.ensures
+    send_nothing c.args.second (shaped_second c.args.second _ c.well_formed.0) sound c.send_stays-then-second-eq0.result
+    (none_waits c.args.second sound c.if-second-eq0.true) c.send_stays-then-second-eq0.ensures
 
 pub goes-requires : goal.goes-requires
 goes-requires c =
@@ -40,11 +40,11 @@ goes-requires c =
     record {
       sound = sound;
       shape = shaped_second c.args.second _ c.well_formed.0;
-      waits = some_waits_lem c.args.second sound c.if-packets-eq0.false;
+      waits = some_waits_lem c.args.second sound c.if-second-eq0.false;
     }
 
 pub returns : goal.returns
 returns c =
     let sound = c.is_sound.ensures.sound c.if-not-is_sound.false in
     send_goes c.args.second (shaped_second c.args.second _ c.well_formed.0) sound c.goes.result
-    (some_waits_lem c.args.second sound c.if-packets-eq0.false) c.goes.ensures
+    (some_waits_lem c.args.second sound c.if-second-eq0.false) c.goes.ensures

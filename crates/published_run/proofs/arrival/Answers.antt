@@ -12,5 +12,5 @@ returns c =
       meets = c.arrive-answered.ensures;
       step =
           ap (λ (line : Line). record { line = line; more = true; link = c.arrive-answered.result.link; place = c.args.place })
-          c.arrival_line-line.ensures;
+          c.arrival_line.ensures;
     }

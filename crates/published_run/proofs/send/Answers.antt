@@ -12,5 +12,5 @@ returns c =
       meets = c.send-sent.ensures;
       step =
           ap (λ (line : Line). record { line = line; more = true; link = c.send-sent.result.link; place = c.args.place })
-          c.send_line-line.ensures;
+          c.send_line.ensures;
     }

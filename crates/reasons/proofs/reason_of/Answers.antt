@@ -36,7 +36,7 @@ bounds-link-class-2 c =
 pub slot-at-requires : goal.slot-at-requires
 slot-at-requires c = (
   leaf_low c.args.link c.requires.0 c.args.class c.requires.1,
-  omega (arith, c.wide.ensures.0, start_low c.args.link c.requires.0 c.args.class c.requires.1),
+  omega (arith, c.from.ensures, start_low c.args.link c.requires.0 c.args.class c.requires.1),
 )
 
 on : (c : After-slot-at)
@@ -48,7 +48,7 @@ on c = sym c.has.ensures ∙ c.if-not-has.false
 here : (c : After-slot-at)
     → c.slot-at.result ≡ slot c.args.class
     (start_of c.args.link c.args.class)
-here c = c.slot-at.ensures.0 ∙ ap (slot _) c.wide.ensures.0
+here c = c.slot-at.ensures.0 ∙ ap (slot _) c.from.ensures
 
 pub shortfall-lacks-requires : goal.shortfall-lacks-requires
 shortfall-lacks-requires c =

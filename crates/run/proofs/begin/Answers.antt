@@ -1,7 +1,8 @@
 -- `run::begin` meets its contract.
 use mathlib.Core.Bool.{false}
 use mathlib.Core.Path.{ap, ◌∙◌}
-use Rattle.checks.specs.declared.Verdict.TheVariants.{Passed, Refused}
+use Rattle.checks.specs.Check.{number}
+use Rattle.std.specs.Prelude.{Ok, Err}
 use Rattle.state.specs.declared.Link.{Link}
 use Rattle.lines.specs.declared.Line.TheVariants.{Stop}
 use Rattle.plan.proofs.Numbers.{plan_rules}
@@ -10,16 +11,16 @@ use Rattle.run.proofs.begin.Goals as goal
 
 pub linked-requires : goal.linked-requires
 linked-requires c =
-    plan_rules _ c.read_plan-read.result c.read_plan-read.ensures c.in-Passed.is
+    plan_rules _ c.read_plan-read.result c.read_plan-read.ensures c.in-Ok.is
 
-pub returns-in-Passed : goal.returns-in-Passed
-returns-in-Passed c =
-    c.linked.ensures ∙ begin_by _ c.read_plan-read.result Passed c.read_plan-read.ensures c.in-Passed.is
+pub returns-in-Ok : goal.returns-in-Ok
+returns-in-Ok c =
+    c.linked.ensures ∙ begin_by _ c.read_plan-read.result (Ok tt) c.read_plan-read.ensures c.in-Ok.is
 
-pub returns-in-Refused : goal.returns-in-Refused
-returns-in-Refused c =
-    c.stop.ensures
-    ∙ ap (λ (l : Link). record { line = Stop c.in-Refused.n c.in-Refused.p; more = false; link = l; place = 0 })
+pub returns-in-Err : goal.returns-in-Err
+returns-in-Err c =
+    c.last.ensures
+    ∙ ap (λ (l : Link). record { line = Stop (number c.in-Err.refused.0) c.in-Err.refused.1; more = false; link = l; place = 0 })
     c.none.ensures
-    ∙ begin_by _ c.read_plan-read.result (Refused c.in-Refused.n c.in-Refused.p) c.read_plan-read.ensures
-    c.in-Refused.is
+    ∙ begin_by _ c.read_plan-read.result (Err c.in-Err.refused) c.read_plan-read.ensures
+    c.in-Err.is

@@ -4,11 +4,12 @@ use Prim.Native.Nat.{ℕ, ◌+◌}
 use mathlib.Core.List.{List}
 use native.Mathlib.Omega.{arith}
 use lib.ListN.{length, drop}
-use Rattle.plan.specs.declared.EventRead.{EventRead}
-use Rattle.plan.specs.declared.EventRead.TheVariants.{NoMore, Arrive, SendNext, Fault}
-use Rattle.plan.specs.Event.{used_of, event_at}
+use Rattle.plan.proofs.Told.{reads_none, reads_some}
+use Rattle.plan.specs.declared.event.Event.TheVariants.{Arrive, SendNext}
+use Rattle.std.specs.Prelude.{Ok, Err, Some, None}
+use Rattle.plan.specs.Event.{used_of, event_at, EventRead}
 use Rattle.calls.specs.Run.{arrival, send}
-use Rattle.run.specs.Event.{packet_in, Calls}
+use Rattle.run.specs.Event.{packet_in, last_step, Calls}
 use Rattle.run.proofs.Events.{gives_by, used_fits}
 use Rattle.run.proofs.next.Goals as goal
 use Rattle.run.proofs.next.Goals.{After-read_event-event, After-used}
@@ -36,28 +37,35 @@ overflow_add-after c =
 moves_on : (c : After-used) {e : EventRead} → c.read_event-event.result ≡ e → c.used.result ≡ used_of e
 moves_on c told = c.used.ensures.0 ∙ ap used_of told
 
-pub returns-in-NoMore : goal.returns-in-NoMore
-returns-in-NoMore c =
+pub returns-in-Ok-None : goal.returns-in-Ok-None
+returns-in-Ok-None c =
     let a = c.args in
-    gives_by a.link a.input.now a.place NoMore c.end.result (read_at (goal.at.returns-in-NoMore c).After-read_event-event c.in-NoMore.is) c.end.ensures
+    let none = reads_none c.in-Ok-None.is (rw c.in-Ok-None.is at c.in-Ok-None.field-0-is) in
+    gives_by a.link a.input.now a.place (Ok None) c.last.result (read_at (goal.at.returns-in-Ok-None c).After-read_event-event none)
+    (c.last.ensures ∙ ap (λ (e : EventRead). last_step e a.link a.place) none)
 
-pub returns-in-Arrive : goal.returns-in-Arrive
-returns-in-Arrive c =
+pub returns-in-Ok-Some-Arrive : goal.returns-in-Ok-Some-Arrive
+returns-in-Ok-Some-Arrive c =
+    let some = rw c.in-Ok-Some-Arrive.is at c.in-Ok-Some-Arrive.field-0-is in
+    let read = reads_some c.in-Ok-Some-Arrive.is some (rw (c.in-Ok-Some-Arrive.is, some) at c.in-Ok-Some-Arrive.field-0-0-is) in
     let a = c.args in
-    let told = c.in-Arrive.is in
-    let call = arrival c.in-Arrive.a.class (packet_in c.in-Arrive.a) in
-    gives_by a.link a.input.now a.place (Arrive c.in-Arrive.a) c.arrival.result (read_at (goal.at.returns-in-Arrive c).After-read_event-event told)
-    (subst (λ (n : ℕ). Calls a.link call (a.place + n) c.arrival.result) (moves_on (goal.at.returns-in-Arrive c).After-used told) c.arrival.ensures)
+    let told = read in
+    let call = arrival c.in-Ok-Some-Arrive.a.class (packet_in c.in-Ok-Some-Arrive.a) in
+    gives_by a.link a.input.now a.place (Ok (Some (Arrive c.in-Ok-Some-Arrive.a))) c.arrival.result (read_at (goal.at.returns-in-Ok-Some-Arrive c).After-read_event-event told)
+    (subst (λ (n : ℕ). Calls a.link call (a.place + n) c.arrival.result) (moves_on (goal.at.returns-in-Ok-Some-Arrive c).After-used told) c.arrival.ensures)
 
-pub returns-in-SendNext : goal.returns-in-SendNext
-returns-in-SendNext c =
+pub returns-in-Ok-Some-SendNext : goal.returns-in-Ok-Some-SendNext
+returns-in-Ok-Some-SendNext c =
+    let some = rw c.in-Ok-Some-SendNext.is at c.in-Ok-Some-SendNext.field-0-is in
+    let read = reads_some c.in-Ok-Some-SendNext.is some (rw (c.in-Ok-Some-SendNext.is, some) at c.in-Ok-Some-SendNext.field-0-0-is) in
     let a = c.args in
-    let told = c.in-SendNext.is in
-    gives_by a.link a.input.now a.place SendNext c.send.result (read_at (goal.at.returns-in-SendNext c).After-read_event-event told)
-    (subst (λ (n : ℕ). Calls a.link send (a.place + n) c.send.result) (moves_on (goal.at.returns-in-SendNext c).After-used told) c.send.ensures)
+    let told = read in
+    gives_by a.link a.input.now a.place (Ok (Some SendNext)) c.send.result (read_at (goal.at.returns-in-Ok-Some-SendNext c).After-read_event-event told)
+    (subst (λ (n : ℕ). Calls a.link send (a.place + n) c.send.result) (moves_on (goal.at.returns-in-Ok-Some-SendNext c).After-used told) c.send.ensures)
 
-pub returns-in-Fault : goal.returns-in-Fault
-returns-in-Fault c =
+pub returns-in-Err : goal.returns-in-Err
+returns-in-Err c =
     let a = c.args in
-    gives_by a.link a.input.now a.place (Fault c.in-Fault.n c.in-Fault.p) c.stop.result
-    (read_at (goal.at.returns-in-Fault c).After-read_event-event c.in-Fault.is) c.stop.ensures
+    gives_by a.link a.input.now a.place (Err c.in-Err.field-0) c.last-in-Err.result
+    (read_at (goal.at.returns-in-Err c).After-read_event-event c.in-Err.is)
+    (c.last-in-Err.ensures ∙ ap (λ (e : EventRead). last_step e a.link a.place) c.in-Err.is)

@@ -1,5 +1,5 @@
 -- `shape::families` meets its contract.
-use Prim.Native.Nat.{◌+◌, ◌-◌, ◌≤◌}
+use Prim.Native.Nat.{◌+◌, ◌≤◌}
 use Rattle.shape.specs.Shape.{tree_in}
 use Rattle.shape.proofs.Kin.{FamiliesTo}
 use Rattle.shape.proofs.families.Given as goal
@@ -7,6 +7,3 @@ use Rattle.shape.proofs.families.Given as goal
 abbrev pub invariant-loop-i : goal.invariant-loop-i
 invariant-loop-i l =
     (1 ≤ l.i) × (l.i ≤ (tree_in l.shape).count + 1) × FamiliesTo (tree_in l.shape) l.i l.out
-
-abbrev pub decreases-loop-i : goal.decreases-loop-i
-decreases-loop-i l = (tree_in l.shape).count + 1 - l.i

@@ -11,7 +11,7 @@ loop-i-init c = (omega arith, laid_none c.args.tree)
 pub loop-i-preserved : goal.loop-i-preserved
 loop-i-preserved c =
     let u = c.loop-i-test.true in
-    (omega arith, laid_on_lem _ c.loop-i.i u _ c.loop-i.invariant.1 _ _ _ refl c.heavy.ensures refl)
+    (omega arith, laid_on_lem _ c.loop-i.i u _ c.loop-i.invariant.1 _ _ _ c.from.ensures c.from-in-loop-i.ensures c.from-in-loop-i-2.ensures)
 
 pub returns : goal.returns
 returns c =

@@ -26,7 +26,7 @@ use Rattle.sound.proofs.Kin.{child_told}
 use Rattle.sound.proofs.Totals.{below_none, below_step, total_below}
 use Rattle.sound.proofs.classes_right.Invariants.{number}
 use Rattle.sound.proofs.classes_right.Goals as goal
-use Rattle.sound.proofs.classes_right.Goals.{After-class_right, After-parent-up, Else-not-class_right, In-loop-n}
+use Rattle.sound.proofs.classes_right.Goals.{After-class_right, After-parent-up, Else-not-class_right, In-loop-i}
 
 -- the link that the arguments make up
 abbrev made : (c : After-class_right) → List ℕ → List ℕ → ℕ → Link
@@ -37,22 +37,22 @@ made c tags marks charged =
 
 -- the class at hand
 abbrev class_at : (c : After-class_right) → ℕ
-class_at c = c.loop-n.n - 1
+class_at c = c.loop-i.i - 1
 
-within : (c : In-loop-n) → c.loop-n.n - 1 < 64
-within c = omega (arith, c.loop-n.invariant.0, c.loop-n-test.true)
+within : (c : In-loop-i) → c.loop-i.i - 1 < 64
+within c = omega (arith, c.loop-i.invariant.0, c.loop-i-test.true)
 
 -- the numbers that were read of it
 abbrev view_at : (c : After-class_right) → View
 view_at c =
     let a = c.args in
-    let i = c.loop-n.n - 1 in
+    let i = c.loop-i.i - 1 in
     record {
       class = i;
       place = a.place;
       size = a.size;
       leaf = c.has.result;
-      active = c.has-in-loop-n.result;
+      active = c.has-in-loop-i.result;
       child = not (eqb c.both.result 0);
       start = get_or a.start.now i 0;
       held = get_or a.held.now i 0;
@@ -60,8 +60,8 @@ view_at c =
       account = c.account_of-account.result;
       packets = get_or a.packets.now i 0;
       bytes = get_or a.bytes.now i 0;
-      waiting = get_or c.loop-n.waiting i 0;
-      cost = get_or c.loop-n.cost i 0;
+      waiting = get_or c.loop-i.waiting i 0;
+      cost = get_or c.loop-i.cost i 0;
     }
 
 -- numbers that are a class's, one by one, are together
@@ -93,18 +93,18 @@ view_is : (c : After-class_right) (tags marks : List ℕ) (charged : ℕ)
     → view_at c ≡ view_of (made c tags marks charged) (class_at c)
 unfolding is_leaf
 view_is c tags marks charged =
-    let n = c.loop-n.n in
-    let low : 1 ≤ n = omega (arith, c.loop-n-test.true) in
+    let n = c.loop-i.i in
+    let low : 1 ≤ n = omega (arith, c.loop-i-test.true) in
     let l = made c tags marks charged in
     let told =
-    child_told l c.requires.0 c.args.children.now c.requires.1 (n - 1) (within (goal.at.After-class_right c).In-loop-n)
-    (λ k a u. c.loop-n.invariant.5 tags marks charged k (omega (arith, a)) u) c.both.result c.both.ensures
+    child_told l c.requires.0 c.args.children.now c.requires.1 (n - 1) (within (goal.at.After-class_right c).In-loop-i)
+    (λ k a u. c.loop-i.invariant.5 tags marks charged k (omega (arith, a)) u) c.both.result c.both.ensures
     in
     let leaf = c.has.ensures ∙ ap (λ (s : ℕ). has s (n - 1)) c.leaves-leaves.ensures in
-    let lies = c.slot.ensures.0 ∙ ap (λ (s : ℕ). slot (n - 1) (s % 32)) c.wide.ensures.0 in
-    view_by_parts l (n - 1) c.slot.result _ _ _ _ _ _ leaf c.has-in-loop-n.ensures told lies
-    c.account_of-account.ensures ((c.loop-n.invariant.3 low).at (n - 1) (within (goal.at.After-class_right c).In-loop-n))
-    ((c.loop-n.invariant.4 low).at (n - 1) (within (goal.at.After-class_right c).In-loop-n))
+    let lies = c.slot.ensures.0 ∙ ap (λ (s : ℕ). slot (n - 1) (s % 32)) c.from.ensures in
+    view_by_parts l (n - 1) c.slot.result _ _ _ _ _ _ leaf c.has-in-loop-i.ensures told lies
+    c.account_of-account.ensures ((c.loop-i.invariant.3 low).at (n - 1) (within (goal.at.After-class_right c).In-loop-i))
+    ((c.loop-i.invariant.4 low).at (n - 1) (within (goal.at.After-class_right c).In-loop-i))
 
 -- what is told of a class is told of the numbers that were read of it
 told_of : (r : Bool) (lengths : List ℕ) (v w : View) (a b : ℕ) → v ≡ w → a ≡ b → Exactly r (ClassRight v lengths a)
@@ -151,16 +151,16 @@ from_here : (c : Else-not-class_right) (tags marks : List ℕ) (charged k : ℕ)
     → ClassRight (view_of (made (goal.at.Else-not-class_right c).After-class_right tags marks charged) k) (made (goal.at.Else-not-class_right c).After-class_right tags marks charged).lengths
     (longest_of (made (goal.at.Else-not-class_right c).After-class_right tags marks charged).tree k)
 from_here c tags marks charged =
-    down_more _ c.loop-n.n (omega (arith, c.loop-n-test.true)) (c.loop-n.invariant.5 tags marks charged)
+    down_more _ c.loop-i.i (omega (arith, c.loop-i-test.true)) (c.loop-i.invariant.5 tags marks charged)
     ((decided (goal.at.Else-not-class_right c).After-class_right tags marks charged).sound c.if-not-class_right.false)
 
 -- its parent is a class number
 parent_up : (c : After-parent-up) → c.parent-up.result < 64
 parent_up c =
-    omega (arith, c.parent-up.ensures, parent_number (tree_in c.args.shape.now) (c.loop-n.n - 1) c.requires.0 (within (goal.at.After-parent-up c).In-loop-n))
+    omega (arith, c.parent-up.ensures, parent_number (tree_in c.args.shape.now) (c.loop-i.i - 1) c.requires.0 (within (goal.at.After-parent-up c).In-loop-i))
 
-pub loop-n-init : goal.loop-n-init
-loop-n-init c =
+pub loop-i-init : goal.loop-i-init
+loop-i-init c =
     let a = c.args in
     let t = tree_in a.shape.now in (
       omega arith,
@@ -175,28 +175,28 @@ pub account_of-account-requires : goal.account_of-account-requires
 account_of-account-requires c = (within c, c.requires.2)
 
 pub has-requires : goal.has-requires
-has-requires c = within (goal.at.has-requires c).In-loop-n
+has-requires c = within (goal.at.has-requires c).In-loop-i
 
-pub has-requires-in-loop-n : goal.has-requires-in-loop-n
-has-requires-in-loop-n c = within (goal.at.has-requires-in-loop-n c).In-loop-n
+pub has-requires-in-loop-i : goal.has-requires-in-loop-i
+has-requires-in-loop-i c = within (goal.at.has-requires-in-loop-i c).In-loop-i
 
 pub offset_bounds-children-i : goal.offset_bounds-children-i
-offset_bounds-children-i c = omega (arith, within (goal.at.offset_bounds-children-i c).In-loop-n)
+offset_bounds-children-i c = omega (arith, within (goal.at.offset_bounds-children-i c).In-loop-i)
 
 pub bounds-children-i : goal.bounds-children-i
-bounds-children-i c = within (goal.at.bounds-children-i c).In-loop-n
+bounds-children-i c = within (goal.at.bounds-children-i c).In-loop-i
 
 pub bounds-start-i : goal.bounds-start-i
-bounds-start-i c = within (goal.at.bounds-start-i c).In-loop-n
+bounds-start-i c = within (goal.at.bounds-start-i c).In-loop-i
 
 pub bounds-held-i : goal.bounds-held-i
-bounds-held-i c = within (goal.at.bounds-held-i c).In-loop-n
+bounds-held-i c = within (goal.at.bounds-held-i c).In-loop-i
 
-pub bounds-start-i-in-loop-n : goal.bounds-start-i-in-loop-n
-bounds-start-i-in-loop-n c = within (goal.at.bounds-start-i-in-loop-n c).In-loop-n
+pub bounds-start-i-in-loop-i : goal.bounds-start-i-in-loop-i
+bounds-start-i-in-loop-i c = within (goal.at.bounds-start-i-in-loop-i c).In-loop-i
 
 pub slot-requires : goal.slot-requires
-slot-requires c = (within (goal.at.slot-requires c).In-loop-n, omega arith)
+slot-requires c = (within (goal.at.slot-requires c).In-loop-i, omega arith)
 
 pub offset_bounds-lengths-slot : goal.offset_bounds-lengths-slot
 offset_bounds-lengths-slot c = omega (arith, c.slot.ensures.1)
@@ -205,53 +205,53 @@ pub bounds-lengths-slot : goal.bounds-lengths-slot
 bounds-lengths-slot c = c.slot.ensures.1
 
 pub offset_bounds-packets-i : goal.offset_bounds-packets-i
-offset_bounds-packets-i c = omega (arith, within (goal.at.offset_bounds-packets-i c).In-loop-n)
+offset_bounds-packets-i c = omega (arith, within (goal.at.offset_bounds-packets-i c).In-loop-i)
 
 pub bounds-packets-i : goal.bounds-packets-i
-bounds-packets-i c = within (goal.at.bounds-packets-i c).In-loop-n
+bounds-packets-i c = within (goal.at.bounds-packets-i c).In-loop-i
 
 pub offset_bounds-bytes-i : goal.offset_bounds-bytes-i
-offset_bounds-bytes-i c = omega (arith, within (goal.at.offset_bounds-bytes-i c).In-loop-n)
+offset_bounds-bytes-i c = omega (arith, within (goal.at.offset_bounds-bytes-i c).In-loop-i)
 
 pub bounds-bytes-i : goal.bounds-bytes-i
-bounds-bytes-i c = within (goal.at.bounds-bytes-i c).In-loop-n
+bounds-bytes-i c = within (goal.at.bounds-bytes-i c).In-loop-i
 
 pub offset_bounds-waiting-i : goal.offset_bounds-waiting-i
-offset_bounds-waiting-i c = omega (arith, within (goal.at.offset_bounds-waiting-i c).In-loop-n)
+offset_bounds-waiting-i c = omega (arith, within (goal.at.offset_bounds-waiting-i c).In-loop-i)
 
 pub bounds-waiting-i : goal.bounds-waiting-i
-bounds-waiting-i c = within (goal.at.bounds-waiting-i c).In-loop-n
+bounds-waiting-i c = within (goal.at.bounds-waiting-i c).In-loop-i
 
 pub offset_bounds-cost-i : goal.offset_bounds-cost-i
-offset_bounds-cost-i c = omega (arith, within (goal.at.offset_bounds-cost-i c).In-loop-n)
+offset_bounds-cost-i c = omega (arith, within (goal.at.offset_bounds-cost-i c).In-loop-i)
 
 pub bounds-cost-i : goal.bounds-cost-i
-bounds-cost-i c = within (goal.at.bounds-cost-i c).In-loop-n
+bounds-cost-i c = within (goal.at.bounds-cost-i c).In-loop-i
 
 pub longest-requires : goal.longest-requires
 longest-requires c =
-    (c.requires.0, within (goal.at.longest-requires c).In-loop-n)
+    (c.requires.0, within (goal.at.longest-requires c).In-loop-i)
 
 pub class_right-requires : goal.class_right-requires
 class_right-requires c = (
-  within (goal.at.class_right-requires c).In-loop-n,
-  omega (arith, c.longest.ensures, longest_most (tree_in c.args.shape.now) c.requires.0 (c.loop-n.n - 1) (within (goal.at.class_right-requires c).In-loop-n)),
+  within (goal.at.class_right-requires c).In-loop-i,
+  omega (arith, c.longest.ensures, longest_most (tree_in c.args.shape.now) c.requires.0 (c.loop-i.i - 1) (within (goal.at.class_right-requires c).In-loop-i)),
 )
 
 pub returns-then-not-class_right : goal.returns-then-not-class_right
 returns-then-not-class_right c = λ tags marks charged.
     exactly_no (λ p.
-    not_true_and_false ((decided (goal.at.returns-then-not-class_right c).After-class_right tags marks charged).complete (p.at (class_at (goal.at.returns-then-not-class_right c).After-class_right) (within (goal.at.returns-then-not-class_right c).In-loop-n))) c.if-not-class_right.true)
+    not_true_and_false ((decided (goal.at.returns-then-not-class_right c).After-class_right tags marks charged).complete (p.at (class_at (goal.at.returns-then-not-class_right c).After-class_right) (within (goal.at.returns-then-not-class_right c).In-loop-i))) c.if-not-class_right.true)
 
 pub funds-requires : goal.funds-requires
 funds-requires c = omega (arith, funds_read (goal.at.funds-requires c).After-class_right, funds_fit (goal.at.funds-requires c).Else-not-class_right)
 
 pub plus-sum-requires : goal.plus-sum-requires
 plus-sum-requires c =
-    omega (arith, c.funds.ensures, funds_read (goal.at.plus-sum-requires c).After-class_right, funds_fit (goal.at.plus-sum-requires c).Else-not-class_right, c.loop-n.invariant.2)
+    omega (arith, c.funds.ensures, funds_read (goal.at.plus-sum-requires c).After-class_right, funds_fit (goal.at.plus-sum-requires c).Else-not-class_right, c.loop-i.invariant.2)
 
 pub parent-up-requires : goal.parent-up-requires
-parent-up-requires c = within (goal.at.parent-up-requires c).In-loop-n
+parent-up-requires c = within (goal.at.parent-up-requires c).In-loop-i
 
 pub offset_bounds-waiting-up : goal.offset_bounds-waiting-up
 offset_bounds-waiting-up c = omega (arith, parent_up c)
@@ -262,12 +262,12 @@ bounds-waiting-up c = parent_up c
 pub overflow_add-waiting : goal.overflow_add-waiting
 overflow_add-waiting c =
     let up = c.parent-up.result in
-    let low : 1 ≤ c.loop-n.n = omega (arith, c.loop-n-test.true) in
-    let fit = packets_fit (made (goal.at.overflow_add-waiting c).After-class_right [] [] 0) c.requires.0 (c.loop-n.n - 1) (within (goal.at.overflow_add-waiting c).In-loop-n) (from_here (goal.at.overflow_add-waiting c).Else-not-class_right [] [] 0) up in
-    omega (arith, fit, (c.loop-n.invariant.3 low).at up (parent_up (goal.at.overflow_add-waiting c).After-parent-up))
+    let low : 1 ≤ c.loop-i.i = omega (arith, c.loop-i-test.true) in
+    let fit = packets_fit (made (goal.at.overflow_add-waiting c).After-class_right [] [] 0) c.requires.0 (c.loop-i.i - 1) (within (goal.at.overflow_add-waiting c).In-loop-i) (from_here (goal.at.overflow_add-waiting c).Else-not-class_right [] [] 0) up in
+    omega (arith, fit, (c.loop-i.invariant.3 low).at up (parent_up (goal.at.overflow_add-waiting c).After-parent-up))
 
-pub bounds-waiting-up-in-loop-n : goal.bounds-waiting-up-in-loop-n
-bounds-waiting-up-in-loop-n c = parent_up (goal.at.bounds-waiting-up-in-loop-n c).After-parent-up
+pub bounds-waiting-up-in-loop-i : goal.bounds-waiting-up-in-loop-i
+bounds-waiting-up-in-loop-i c = parent_up (goal.at.bounds-waiting-up-in-loop-i c).After-parent-up
 
 pub offset_bounds-cost-up : goal.offset_bounds-cost-up
 offset_bounds-cost-up c = omega (arith, parent_up (goal.at.offset_bounds-cost-up c).After-parent-up)
@@ -278,49 +278,43 @@ bounds-cost-up c = parent_up (goal.at.bounds-cost-up c).After-parent-up
 pub overflow_add-cost : goal.overflow_add-cost
 overflow_add-cost c =
     let up = c.parent-up.result in
-    let low : 1 ≤ c.loop-n.n = omega (arith, c.loop-n-test.true) in
-    let fit = bytes_fit (made (goal.at.overflow_add-cost c).After-class_right [] [] 0) c.requires.0 (c.loop-n.n - 1) (within (goal.at.overflow_add-cost c).In-loop-n) (from_here (goal.at.overflow_add-cost c).Else-not-class_right [] [] 0) up in
-    omega (arith, fit, (c.loop-n.invariant.4 low).at up (parent_up (goal.at.overflow_add-cost c).After-parent-up))
+    let low : 1 ≤ c.loop-i.i = omega (arith, c.loop-i-test.true) in
+    let fit = bytes_fit (made (goal.at.overflow_add-cost c).After-class_right [] [] 0) c.requires.0 (c.loop-i.i - 1) (within (goal.at.overflow_add-cost c).In-loop-i) (from_here (goal.at.overflow_add-cost c).Else-not-class_right [] [] 0) up in
+    omega (arith, fit, (c.loop-i.invariant.4 low).at up (parent_up (goal.at.overflow_add-cost c).After-parent-up))
 
-pub bounds-cost-up-in-loop-n : goal.bounds-cost-up-in-loop-n
-bounds-cost-up-in-loop-n c = parent_up (goal.at.bounds-cost-up-in-loop-n c).After-parent-up
+pub bounds-cost-up-in-loop-i : goal.bounds-cost-up-in-loop-i
+bounds-cost-up-in-loop-i c = parent_up (goal.at.bounds-cost-up-in-loop-i c).After-parent-up
 
-pub overflow_sub-n : goal.overflow_sub-n
-overflow_sub-n c = omega (arith, c.loop-n-test.true)
-
-pub loop-n-smaller : goal.loop-n-smaller
-loop-n-smaller c = omega (arith, c.loop-n-test.true)
-
-pub loop-n-preserved : goal.loop-n-preserved
-loop-n-preserved c =
+pub loop-i-preserved : goal.loop-i-preserved
+loop-i-preserved c =
     let a = c.args in
     let t = tree_in a.shape.now in
     let accounts = zip_accounts a.balance.now a.residual.now in
-    let n = c.loop-n.n in
+    let n = c.loop-i.i in
     let i = n - 1 in
     let up = c.parent-up.result in
-    let low : 1 ≤ n = omega (arith, c.loop-n-test.true) in
-    let few : i ≤ 63 = omega (arith, c.loop-n.invariant.0) in
+    let low : 1 ≤ n = omega (arith, c.loop-i-test.true) in
+    let few : i ≤ 63 = omega (arith, c.loop-i.invariant.0) in
     let e' : parent_of t i ≡ up = sym c.parent-up.ensures in
     let packets : ℕ → ℕ = λ j. get_or a.packets.now j 0 in
     let bytes : ℕ → ℕ = λ j. get_or a.bytes.now j 0 in (
-      omega (arith, c.loop-n.invariant.0),
-      omega (arith, c.plus-sum.ensures, c.funds.ensures, funds_read (goal.at.loop-n-preserved c).After-class_right, below_step accounts n low, c.loop-n.invariant.1),
-      omega (arith, c.plus-sum.ensures, c.funds.ensures, funds_read (goal.at.loop-n-preserved c).After-class_right, funds_fit (goal.at.loop-n-preserved c).Else-not-class_right, c.loop-n.invariant.2),
-      λ l. added_more 0 number 63 64 (of_child t packets) c.loop-n.waiting i up (packets i) _ (c.loop-n.invariant.3 low) l few (parent_up (goal.at.loop-n-preserved c).After-parent-up)
+      omega (arith, c.loop-i.invariant.0),
+      omega (arith, c.plus-sum.ensures, c.funds.ensures, funds_read (goal.at.loop-i-preserved c).After-class_right, below_step accounts n low, c.loop-i.invariant.1),
+      omega (arith, c.plus-sum.ensures, c.funds.ensures, funds_read (goal.at.loop-i-preserved c).After-class_right, funds_fit (goal.at.loop-i-preserved c).Else-not-class_right, c.loop-i.invariant.2),
+      λ l. added_more 0 number 63 64 (of_child t packets) c.loop-i.waiting i up (packets i) _ (c.loop-i.invariant.3 low) l few (parent_up (goal.at.loop-i-preserved c).After-parent-up)
           (child_adds t packets i up e') (λ p ne. child_adds_no t packets i p (λ z. ne (sym e' ∙ z))) refl,
-      λ l. added_more 0 number 63 64 (of_child t bytes) c.loop-n.cost i up (bytes i) _ (c.loop-n.invariant.4 low) l few (parent_up (goal.at.loop-n-preserved c).After-parent-up)
+      λ l. added_more 0 number 63 64 (of_child t bytes) c.loop-i.cost i up (bytes i) _ (c.loop-i.invariant.4 low) l few (parent_up (goal.at.loop-i-preserved c).After-parent-up)
           (child_adds t bytes i up e') (λ p ne. child_adds_no t bytes i p (λ z. ne (sym e' ∙ z))) refl,
-      λ tags marks charged. from_here (goal.at.loop-n-preserved c).Else-not-class_right tags marks charged,
+      λ tags marks charged. from_here (goal.at.loop-i-preserved c).Else-not-class_right tags marks charged,
     )
 
 pub returns : goal.returns
 returns c = λ tags marks charged.
     let a = c.args in
     let accounts = zip_accounts a.balance.now a.residual.now in
-    let e : c.loop-n.n ≡ 0 = omega (arith, c.loop-n-test.false) in
-    let all : c.loop-n.sum.0 ≡ total accounts = omega (arith, rw e at c.loop-n.invariant.1, below_none accounts) in
+    let e : c.loop-i.i ≡ 0 = omega (arith, c.loop-i-test.false) in
+    let all : c.loop-i.sum.0 ≡ total accounts = omega (arith, rw e at c.loop-i.invariant.1, below_none accounts) in
     record {
-      sound = λ z. record { at = λ k u. c.loop-n.invariant.5 tags marks charged k (omega (arith, e)) u; adds = sym all ∙ eqb-true _ _ z };
+      sound = λ z. record { at = λ k u. c.loop-i.invariant.5 tags marks charged k (omega (arith, e)) u; adds = sym all ∙ eqb-true _ _ z };
       complete = λ p. eq-eqb _ _ (all ∙ p.adds);
     }

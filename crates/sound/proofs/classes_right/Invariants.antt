@@ -14,16 +14,13 @@ use Rattle.sound.proofs.classes_right.Given as goal
 abbrev pub number : ℕ → ℕ
 number n = n
 
-abbrev pub invariant-loop-n : goal.invariant-loop-n
-invariant-loop-n l =
-    (l.n ≤ 64)
-    × (l.sum.0 + funds_below (zip_accounts l.balance l.residual) l.n ≡ total (zip_accounts l.balance l.residual))
-    × (l.sum.0 ≤ (64 - l.n) * (2 * most_size))
-    × (1 ≤ l.n → Added 0 number 63 64 (of_child (tree_in l.shape) (λ j. get_or l.packets j 0)) l.waiting (l.n - 1))
-    × (1 ≤ l.n → Added 0 number 63 64 (of_child (tree_in l.shape) (λ j. get_or l.bytes j 0)) l.cost (l.n - 1))
-    × ((tags marks : List ℕ) (charged k : ℕ) → l.n ≤ k → k < 64
+abbrev pub invariant-loop-i : goal.invariant-loop-i
+invariant-loop-i l =
+    (l.i ≤ 64)
+    × (l.sum.0 + funds_below (zip_accounts l.balance l.residual) l.i ≡ total (zip_accounts l.balance l.residual))
+    × (l.sum.0 ≤ (64 - l.i) * (2 * most_size))
+    × (1 ≤ l.i → Added 0 number 63 64 (of_child (tree_in l.shape) (λ j. get_or l.packets j 0)) l.waiting (l.i - 1))
+    × (1 ≤ l.i → Added 0 number 63 64 (of_child (tree_in l.shape) (λ j. get_or l.bytes j 0)) l.cost (l.i - 1))
+    × ((tags marks : List ℕ) (charged k : ℕ) → l.i ≤ k → k < 64
     → ClassRight (view_of (link_in l.shape l.size l.active l.place l.balance l.residual l.start l.held l.lengths tags marks l.packets l.bytes charged) k) l.lengths
     (longest_of (tree_in l.shape) k))
-
-abbrev pub decreases-loop-n : goal.decreases-loop-n
-decreases-loop-n l = l.n

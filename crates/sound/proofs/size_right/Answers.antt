@@ -9,8 +9,8 @@ returns-then-follows c = record {
   complete = λ p. le-leb _ _ p.most;
 }
 
-pub returns : goal.returns
-returns c = record {
+pub returns-else-follows : goal.returns-else-follows
+returns-else-follows c = record {
   sound = λ e.
       let a = c.args in
       let same = eqb-true a.size.0 a.whole.0 e in

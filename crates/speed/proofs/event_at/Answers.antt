@@ -1,10 +1,10 @@
 -- `speed::event_at` meets its contract: it is the event at the place, where one is asked for.
-use Rattle.std.proofs.Common.{◌≡◌, ℕ, suc, ◌+◌, ◌-◌, true, List, length, drop, sym, refl, ap, ◌∙◌, arith}
-use Rattle.plan.specs.declared.EventRead.{EventRead}
-use Rattle.plan.specs.declared.EventRead.TheVariants.{NoMore, Arrive, SendNext, Fault}
-use Rattle.plan.specs.Event.{used_of, event_at}
+use Rattle.plan.proofs.Told.{reads_none, reads_some}
+use Rattle.std.specs.Prelude.{Ok, Err, Some, None}
+use Rattle.std.proofs.Common.{◌≡◌, ℕ, suc, ◌-◌, List, length, drop, sym, refl, ap, ◌∙◌, arith}
+use Rattle.plan.specs.Event.{used_of, event_at, EventRead}
 use Rattle.run.proofs.Events.{used_fits}
-use Rattle.speed.specs.Timed.{plain_timed, timed_by, timed_at}
+use Rattle.speed.specs.Timed.{timed_by, timed_at}
 use Rattle.speed.proofs.Served.{timed_by_lem}
 use Rattle.speed.proofs.event_at.Goals as goal
 use Rattle.speed.proofs.event_at.Goals.{After-read_event-read, After-used}
@@ -27,7 +27,7 @@ asked_is c e told =
 
 pub returns-then-asked-eq0 : goal.returns-then-asked-eq0
 unfolding timed_at
-returns-then-asked-eq0 c = c.plain.ensures ∙ rw c.if-asked-eq0.true refl
+returns-then-asked-eq0 c = c.no_call.ensures ∙ rw c.if-asked-eq0.true refl
 
 pub overflow_add-after : goal.overflow_add-after
 overflow_add-after c =
@@ -40,23 +40,17 @@ overflow_add-after c =
 moves_on : (u : After-used) {e : EventRead} → u.read_event-read.result ≡ e → u.used.result ≡ used_of e
 moves_on u told = u.used.ensures.0 ∙ ap used_of told
 
-pub returns-in-NoMore : goal.returns-in-NoMore
-returns-in-NoMore c =
-    c.plain-in-NoMore.ensures ∙ asked_is (goal.at.returns-in-NoMore c).After-read_event-read NoMore c.in-NoMore.is
+pub returns-in-Ok-Some : goal.returns-in-Ok-Some
+returns-in-Ok-Some c =
+    let told = reads_some c.in-Ok-Some.is (rw c.in-Ok-Some.is at c.in-Ok-Some.field-0-is) refl in
+    rw (moves_on (goal.at.returns-in-Ok-Some c).After-used told)
+    (asked_is (goal.at.returns-in-Ok-Some c).After-read_event-read (Ok (Some c.in-Ok-Some.event)) told)
 
-pub returns-in-Arrive : goal.returns-in-Arrive
-returns-in-Arrive c =
-    let told = c.in-Arrive.is in
-    rw (moves_on (goal.at.returns-in-Arrive c).After-used told, c.packet_of.ensures) (asked_is (goal.at.returns-in-Arrive c).After-read_event-read (Arrive c.in-Arrive.a) told)
+pub returns-in-Ok-None : goal.returns-in-Ok-None
+returns-in-Ok-None c =
+    c.no_call-in-Ok-None.ensures ∙ asked_is (goal.at.returns-in-Ok-None c).After-read_event-read (Ok None) (reads_none c.in-Ok-None.is (rw c.in-Ok-None.is at c.in-Ok-None.field-0-is))
 
-pub returns-in-SendNext : goal.returns-in-SendNext
-returns-in-SendNext c =
-    let told = c.in-SendNext.is in
-    let a = c.args in
-    c.plain-in-SendNext.ensures ∙ ap (λ (n : ℕ). plain_timed true (a.place + n) (a.asked - 1)) (moves_on (goal.at.returns-in-SendNext c).After-used told)
-    ∙ asked_is (goal.at.returns-in-SendNext c).After-read_event-read SendNext told
-
-pub returns-in-Fault : goal.returns-in-Fault
-returns-in-Fault c =
-    c.plain-in-Fault.ensures
-    ∙ asked_is (goal.at.returns-in-Fault c).After-read_event-read (Fault c.in-Fault.field-0 c.in-Fault.field-1) c.in-Fault.is
+pub returns-in-Err : goal.returns-in-Err
+returns-in-Err c =
+    c.no_call-in-Err.ensures
+    ∙ asked_is (goal.at.returns-in-Err c).After-read_event-read (Err c.in-Err.field-0) c.in-Err.is

@@ -13,21 +13,20 @@ most true found found' n few is = omega (arith, few, is)
 most false found found' n few is = omega (arith, few, is)
 
 pub loop-n-init : goal.loop-n-init
-loop-n-init c = (omega arith, omega arith, (λ b x. x), (λ s x. none s))
+loop-n-init c = (omega arith, (λ b x. x), (λ s x. none s))
 
 pub found_so-found-requires : goal.found_so-found-requires
-found_so-found-requires c = omega (arith, c.loop-n-test.true, c.loop-n.invariant.1)
+found_so-found-requires c = omega (arith, c.loop-n-test.true, c.loop-n.invariant.0)
 
 pub loop-n-preserved : goal.loop-n-preserved
 loop-n-preserved c = (
-  omega (arith, c.loop-n-test.true),
-  most c.is_sound.result c.loop-n.found c.found_so-found.result c.loop-n.n c.loop-n.invariant.1 c.found_so-found.ensures,
-  (λ b x. c.loop-n.invariant.2 b (tags_exactly c.loop-n.link _ b x)),
+  most c.is_sound.result c.loop-n.found c.found_so-found.result c.loop-n.n c.loop-n.invariant.0 c.found_so-found.ensures,
+  (λ b x. c.loop-n.invariant.1 b (tags_exactly c.loop-n.link _ b x)),
   (λ s x. found_more c.is_sound.result s c.loop-n.found c.found_so-found.result c.loop-n.n
-      (exactly_unique (c.loop-n.invariant.2 c.is_sound.result c.is_sound.ensures) x) (c.loop-n.invariant.3 s x) c.found_so-found.ensures),
+      (exactly_unique (c.loop-n.invariant.1 c.is_sound.result c.is_sound.ensures) x) (c.loop-n.invariant.2 s x) c.found_so-found.ensures),
 )
 
 pub returns : goal.returns
 returns c = λ s x.
     let e : c.loop-n.n ≡ c.args.times = omega (arith, c.loop-n-test.false) in
-    c.loop-n.invariant.3 s x ∙ ap (λ (k : ℕ). cond s k 0) e
+    c.loop-n.invariant.2 s x ∙ ap (λ (k : ℕ). cond s k 0) e

@@ -1,8 +1,8 @@
 -- `speed::speed_fresh` meets its contract: every waiting place of a fresh link has length 0.
+use Rattle.checks.specs.Check.{Verdict}
+use Rattle.std.specs.Prelude.{Ok}
 use Rattle.std.proofs.Common.{◌≡◌, ℕ, ◌+◌, ◌%◌, ◌^◌, ◌≤◌, Bool, true, List, get_or, replicate, sym, ap, ◌∙◌, arith}
 use lib.ListN.{get_or-replicate}
-use Rattle.checks.specs.declared.Verdict.{Verdict}
-use Rattle.checks.specs.declared.Verdict.TheVariants.{Passed}
 use Rattle.plan.specs.declared.PlanRead.{PlanRead}
 use Rattle.plan.specs.Reader.{plan_of}
 use Rattle.plan.proofs.Numbers.{plan_rules}
@@ -22,9 +22,9 @@ size_by s r v e is = ap (λ (x : Verdict). fresh_size x r) (sym is) ∙ ap (λ (
 summed : {r size length whole : ℕ} → r ≡ (size + length) % 2 ^ 64 → size ≡ whole → length ≡ 0 → whole ≤ most_size → r ≡ whole
 summed sum is none most = omega (arith, sum, is, none, most)
 
-pub returns-in-Refused : goal.returns-in-Refused
-returns-in-Refused c =
-    size_by _ c.read_plan-read.result _ c.read_plan-read.ensures c.in-Refused.is
+pub returns-in-Err : goal.returns-in-Err
+returns-in-Err c =
+    size_by _ c.read_plan-read.result _ c.read_plan-read.ensures c.in-Err.is
 
 pub returns : goal.returns
 returns c =
@@ -37,5 +37,5 @@ returns c =
     let at = c.args.at in
     let none : get_or c.fresh-made.result.link.lengths (at % 2_048) 0 ≡ 0 =
     ap (λ (xs : List ℕ). get_or xs (at % 2_048) 0) free ∙ get_or-replicate {A = ℕ} 2_048 (at % 2_048) 0 0 (omega arith) in
-    summed c.wrapping_add_u64.ensures.value size (c.wide.ensures ∙ none) (size_ceiling _ rules)
-    ∙ size_by _ read Passed c.read_plan-read.ensures c.in_default.is
+    summed c.wrapping_add_u64.ensures.value size (c.from.ensures ∙ none) (size_ceiling _ rules)
+    ∙ size_by _ read (Ok tt) c.read_plan-read.ensures c.in_default.is

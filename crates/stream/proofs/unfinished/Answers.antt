@@ -1,24 +1,21 @@
 -- `stream::unfinished` meets its contract.
-use mathlib.Core.Path.{sym, ap, ◌∙◌}
+use mathlib.Core.Path.{refl, sym, ap, ◌∙◌}
+use Rattle.plan.proofs.Told.{reads_none, reads_some}
 use Rattle.stream.specs.Window.{waits_for_more, unfinished_at}
 use Rattle.stream.proofs.unfinished.Goals as goal
 
-pub returns-in-NoMore : goal.returns-in-NoMore
+pub returns-in-Ok-None : goal.returns-in-Ok-None
 unfolding unfinished_at
-returns-in-NoMore c =
-    ap waits_for_more (sym c.in-NoMore.is ∙ c.read_event-event.ensures)
+returns-in-Ok-None c =
+    ap waits_for_more (sym (reads_none c.in-Ok-None.is (rw c.in-Ok-None.is at c.in-Ok-None.field-0-is)) ∙ c.read_event-event.ensures)
 
-pub returns-in-Arrive : goal.returns-in-Arrive
+pub returns-in-Ok-Some : goal.returns-in-Ok-Some
 unfolding unfinished_at
-returns-in-Arrive c =
-    ap waits_for_more (sym c.in-Arrive.is ∙ c.read_event-event.ensures)
+returns-in-Ok-Some c =
+    let some = rw c.in-Ok-Some.is at c.in-Ok-Some.field-0-is in
+    ap waits_for_more (sym (reads_some c.in-Ok-Some.is some refl) ∙ c.read_event-event.ensures)
 
-pub returns-in-SendNext : goal.returns-in-SendNext
+pub returns-in-Err : goal.returns-in-Err
 unfolding unfinished_at
-returns-in-SendNext c =
-    ap waits_for_more (sym c.in-SendNext.is ∙ c.read_event-event.ensures)
-
-pub returns-in-Fault : goal.returns-in-Fault
-unfolding unfinished_at
-returns-in-Fault c =
-    ap waits_for_more (sym c.in-Fault.is ∙ c.read_event-event.ensures)
+returns-in-Err c =
+    rw (c.number.ensures, c.number-in-Err.ensures) (ap waits_for_more (sym c.in-Err.is ∙ c.read_event-event.ensures))

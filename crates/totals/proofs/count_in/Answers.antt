@@ -50,7 +50,7 @@ pub returns : goal.returns
 returns c =
     let a = c.args in
     let same = get_or-set_other a.table.now a.class 0 c.changed.result 0 (λ e. omega (arith, e, c.requires.0)) in
-    let long = c.lent_64-wide.ensures in (
+    let long = c.told-table in (
       long,
       ap₂ (λ (x y : ℕ). set (set a.table.now a.class x) 0 y) c.changed.ensures
           (c.changed-2.ensures ∙ ap (changed a.fewer a.by) same),

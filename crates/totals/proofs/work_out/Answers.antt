@@ -16,14 +16,14 @@ returns-then-children-leaves c =
     let pre = c.requires on in
     let flat = c.if-children-leaves.true ∙ c.leaves.ensures in
     rw on (
-      flat_worked_out t pre.0 a.children.now pre.1 flat a.packets.now c.lent_64-many.ensures,
-      flat_worked_out t pre.0 a.children.now pre.1 flat a.bytes.now c.lent_64-wide.ensures,
+      flat_worked_out t pre.0 a.children.now pre.1 flat a.packets.now c.told-packets,
+      flat_worked_out t pre.0 a.children.now pre.1 flat a.bytes.now c.told-bytes,
     )
 
 pub work_out_inner-requires : goal.work_out_inner-requires
 work_out_inner-requires c =
     let pre = c.requires c.if-not-sound.false in
-    (pre.0, pre.1, c.lent_64-many.ensures, c.lent_64-wide.ensures, pre.2, pre.3)
+    (pre.0, pre.1, c.told-packets, c.told-bytes, pre.2, pre.3)
 
 pub returns : goal.returns
 returns c =

@@ -7,6 +7,3 @@ use Rattle.totals.proofs.work_out_inner.Given as goal
 abbrev pub invariant-loop-i : goal.invariant-loop-i
 invariant-loop-i l =
     (l.i ≤ (tree_in l.shape).count) × Passed (tree_in l.shape) l.initial.packets l.i l.packets × Passed (tree_in l.shape) l.initial.bytes l.i l.bytes
-
-abbrev pub decreases-loop-i : goal.decreases-loop-i
-decreases-loop-i l = l.i

@@ -1,12 +1,14 @@
 -- `words::place_of` meets its contract.
-use Rattle.std.proofs.Common.{arith}
-use Rattle.words.proofs.Places.{first_at}
+use Rattle.std.proofs.Common.{◌≡◌, ◌∙◌, rules, tests}
+use Rattle.std.proofs.lemmas.Iterator.{IsFirst-from_position, YieldsList-from_slice}
+use Rattle.words.proofs.Places.{place_is}
 use Rattle.words.proofs.place_of.Goals as goal
-
-pub returns-then-other-byte-clause-place : goal.returns-then-other-byte-clause-place
-returns-then-other-byte-clause-place c =
-    first_at c.args.byte c.args.text.now c.loop-i.i (omega arith) c.loop-i.invariant (λ _. c.if-other-byte.true)
 
 pub returns-clause-place : goal.returns-clause-place
 returns-clause-place c =
-    first_at _ c.args.text.now _ (omega arith) (λ k h. c.loop-i.invariant k (omega arith)) (λ h. absurd (omega arith))
+    let a = c.args in
+    let text = a.text.now in
+    let found =
+    IsFirst-from_position _ _ c.position.result (λ b. b ≡ a.byte) (λ b. b ≡ a.byte → ⊥) c.position.ensures.ran (YieldsList-from_slice text cc)
+    (λ x q k. search (rules, tests)) (λ x q k. search (rules, tests)) in
+    c.unwrap_or.ensures ∙ place_is a.byte text c.position.result found

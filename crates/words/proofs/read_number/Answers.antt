@@ -1,36 +1,37 @@
 -- `words::read_number` meets its contract: what was read and the bytes that are left come to what the whole word comes to.
-use mathlib.Core.Path.{◌≡◌, refl, sym, ap, ap₂, ◌∙◌}
-use Prim.Native.Nat.{ℕ}
-use native.Mathlib.Numerals.{add-one}
+use mathlib.Core.Path.{◌≡◌, sym, ap, ◌∙◌}
+use Prim.Native.Nat.{ℕ, suc, ◌<◌}
 use native.Mathlib.Omega.{arith}
 use lib.ListN.{length, drop}
 use lib.Seq.{drop-cons, drop-length}
-use Rattle.words.specs.declared.Number.{Number}
+use Rattle.std.proofs.Common.{rules, tests}
+use Rattle.std.specs.Prelude.{Option, Some}
 use Rattle.words.specs.Step.{all_more}
-use Rattle.words.proofs.Reading.{read_all, read_empty}
+use Rattle.words.proofs.Reading.{read_all, read_empty, stays_none}
 use Rattle.words.proofs.read_number.Goals as goal
 
-pub returns-then-text-eq0 : goal.returns-then-text-eq0
-returns-then-text-eq0 c = sym (read_empty c.args.text.now (omega arith))
+pub returns-then-is_empty : goal.returns-then-is_empty
+returns-then-is_empty c = sym (read_empty c.args.text.now (search (rules, tests)))
 
-pub loop-i-init : goal.loop-i-init
-loop-i-init c = (omega arith, refl)
-
-pub loop-i-preserved : goal.loop-i-preserved
-loop-i-preserved c =
+pub returns-in_err-number : goal.returns-in_err-number
+returns-in_err-number c =
     let text = c.args.text.now in
-    let i = c.loop-i.i in
-    let rest = drop-cons text i 0 (omega arith) in (
-      omega arith,
-      ap₂ (λ (n : Number) (k : ℕ). all_more n (drop k text)) c.one_more-number.ensures (add-one i)
-          ∙ sym (ap (all_more c.loop-i.number) rest)
-          ∙ c.loop-i.invariant.1,
-    )
+    let i = c.loop-byte.byte-index in
+    let some : 0 < length text = search (rules, tests) in
+    let rest = drop-cons text i 0 (omega arith) in
+    c.from_residual.ensures
+    ∙ sym (stays_none (drop (suc i) text))
+    ∙ ap (λ (n : Option ℕ). all_more n (drop (suc i) text)) c.in_err-number.ensures
+    ∙ sym (ap (all_more (Some c.loop-byte.number)) rest)
+    ∙ c.loop-byte.invariant
+    ∙ read_all text some
 
 pub returns : goal.returns
 returns c =
     let text = c.args.text.now in
-    let all : c.loop-i.i ≡ length text = omega arith in
-    sym (ap (λ (k : ℕ). all_more c.loop-i.number (drop k text)) all ∙ ap (all_more c.loop-i.number) (drop-length text))
-    ∙ c.loop-i.invariant.1
-    ∙ read_all text (omega arith)
+    let number = c.loop-byte.number in
+    let all : c.loop-byte.byte-index ≡ length text = omega arith in
+    let some : 0 < length text = search (rules, tests) in
+    sym (ap (λ (k : ℕ). all_more (Some number) (drop k text)) all ∙ ap (all_more (Some number)) (drop-length text))
+    ∙ c.loop-byte.invariant
+    ∙ read_all text some

@@ -50,7 +50,13 @@ loop-i-preserved c =
       c.put_class-next.auto.out ∙ inv.3,
     )
 
-pub returns : goal.returns
-returns c =
-    let e : c.args.n ≡ c.loop-i.i - 1 = omega (arith, c.loop-i-test.false, c.loop-i.invariant.1) in
-    laid_same _ _ _ _ _ _ (ap (classes_bytes c.args.tree) e) c.loop-i.invariant.2
+pub returns-2 : goal.returns-2
+returns-2 c =
+    let i = c.loop-i.i in
+    let inv = c.loop-i.invariant in
+    let t = c.args.tree in
+    let last : c.args.n ≡ i = omega arith in
+    let grow = classes_grow t i c.args.n c.loop-i-test.true in
+    laid_as _ _ _ _ _ _ _ _ _ (ap (classes_bytes t) last ∙ classes_last t i inv.0)
+    (omega (arith, last_length t i inv.0, grow, c.requires.1))
+    inv.2 c.put_class-next.ensures

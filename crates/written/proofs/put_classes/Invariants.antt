@@ -9,6 +9,3 @@ use Rattle.written.proofs.put_classes.Given as goal
 abbrev pub invariant-loop-i : goal.invariant-loop-i
 invariant-loop-i l =
     (1 ≤ l.i) × (l.i ≤ l.n + 1) × LaidAt l.at (classes_bytes l.tree (l.i - 1)) l.initial.out l.next l.out × (length l.out ≡ length l.initial.out)
-
-abbrev pub decreases-loop-i : goal.decreases-loop-i
-decreases-loop-i l = l.n + 1 - l.i

@@ -2,7 +2,9 @@
 use mathlib.Core.Path.{ap, ◌∙◌}
 use Prim.Native.Nat.{ℕ, ◌≤◌}
 use native.Mathlib.Omega.{arith}
-use Rattle.checks.specs.declared.Verdict.TheVariants.{Refused}
+use Rattle.checks.specs.declared.Refusal.TheVariants.{NoRoom}
+use Rattle.checks.specs.Check.{refusal_at}
+use Rattle.std.specs.Prelude.{Err}
 use Rattle.written.specs.Writing.{nothing_written}
 use Rattle.written.proofs.Lengths.{few_classes}
 use Rattle.written.proofs.Shape.{arrays}
@@ -18,7 +20,7 @@ pub returns-then-not-is_plan : goal.returns-then-not-is_plan
 returns-then-not-is_plan c =
     let w =
     writes_no_plan c.args.tree c.args.out.now c.is_plan.ensures (arrays c.args.tree _ c.well_formed.0)
-    c.refused.result c.if-not-is_plan.true c.refused.ensures
+    c.refuse.result c.if-not-is_plan.true c.refuse.ensures
     in record { writes = w; prefix_len = counted w }
 
 pub plan_length-needed-requires : goal.plan_length-needed-requires
@@ -28,8 +30,8 @@ pub returns-then-out-needed : goal.returns-then-out-needed
 returns-then-out-needed c =
     let w =
     writes_short c.args.tree c.args.out.now c.is_plan.ensures (arrays c.args.tree _ c.well_formed.0)
-    c.refused-then-out-needed.result c.if-not-is_plan.false
-    (omega (arith, c.if-out-needed.true, c.plan_length-needed.ensures)) (c.refused-then-out-needed.ensures ∙ ap (λ (k : ℕ). nothing_written (Refused 16 k))
+    c.refuse-then-out-needed.result c.if-not-is_plan.false
+    (omega (arith, c.if-out-needed.true, c.plan_length-needed.ensures)) (c.refuse-then-out-needed.ensures ∙ ap (λ (k : ℕ). nothing_written (Err (refusal_at NoRoom k)))
     c.plan_length-needed.ensures)
     in record { writes = w; prefix_len = counted w }
 

@@ -10,6 +10,7 @@ use Rattle.steps.specs.declared.Stand.{Stand}
 use Rattle.steps.specs.Fields.{link_at}
 use Rattle.totals.proofs.Sounds.{sound_total}
 use Rattle.calls.proofs.Arrivals.{arrives_by}
+use Rattle.answers.proofs.Lent.{lent_shaped}
 use Rattle.answers.proofs.Events.{arrives_standing}
 use Rattle.answers.proofs.call.arrive.Goals as goal
 use Rattle.answers.proofs.call.arrive.Goals.{After-is_sound_at-sound}
@@ -26,7 +27,8 @@ from k = k.stand_in-at.result
 
 -- its lists are a link's, and whether it is sound was decided
 known_so : (k : After-is_sound_at-sound) → Shaped (standing k (from k))
-known_so k = k.known.ensures _ (from k)
+known_so k =
+    lent_shaped _ _ _ (from k) k.told-balance k.told-residual k.told-start k.told-held k.told-lengths k.told-tags k.told-marks k.told-packets k.told-bytes
 
 decided : (k : After-is_sound_at-sound) → Exactly k.is_sound_at-sound.result (SoundLink (standing k (from k)))
 decided k = k.is_sound_at-sound.ensures.by_index _ _ (from k).charged

@@ -12,6 +12,7 @@ use Rattle.steps.proofs.Rounding.{none_kept}
 use Rattle.calls.specs.declared.Departure.{Departure}
 use Rattle.calls.specs.Send.{Sends, send_leaves}
 use Rattle.calls.proofs.Departures.{send_unsound, sends_by_lem}
+use Rattle.answers.proofs.Lent.{lent_shaped}
 use Rattle.answers.proofs.Events.{sends_standing}
 use Rattle.answers.proofs.call.send.Goals as goal
 use Rattle.answers.proofs.call.send.Goals.{After-is_sound_at}
@@ -29,7 +30,8 @@ from k = k.stand_in-from.result
 
 -- its lists are a link's, and whether it is sound was decided
 known_so : (k : After-is_sound_at) → Shaped (standing k (from k))
-known_so k = k.known.ensures _ (from k)
+known_so k =
+    lent_shaped _ _ _ (from k) k.told-balance k.told-residual k.told-start k.told-held k.told-lengths k.told-tags k.told-marks k.told-packets k.told-bytes
 
 decided : (k : After-is_sound_at) → Exactly k.is_sound_at.result (SoundLink (standing k (from k)))
 decided k = k.is_sound_at.ensures.by_index _ _ (from k).charged

@@ -9,4 +9,4 @@ returns-then-not-went c =
 
 pub returns : goal.returns
 returns c =
-    rw (not-false c.args.went.some c.if-not-went.false) (rw c.since.ensures refl)
+    rw (not-false c.args.went.some c.if-not-went.false) (rw (c.since.ensures, c.from.ensures, c.from-2.ensures) refl)

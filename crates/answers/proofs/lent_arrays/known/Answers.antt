@@ -1,21 +1,6 @@
--- `lent::known` meets its contract.
-use mathlib.Core.Path.{sym, ◌∙◌}
-use Rattle.state.proofs.Zips.{zip_length}
+-- `lent_arrays::known` meets its contract.
+use Rattle.answers.proofs.Lent.{lent_shaped}
 use Rattle.answers.proofs.lent_arrays.known.Goals as goal
 
 pub returns : goal.returns
-returns c =
-    let places = c.places_known.ensures in
-    let queues = c.bytes_known.ensures in
-    let accounts = c.numbers_known.ensures in
-    let totals = c.numbers_known-2.ensures in
-    λ t s. record {
-      accounts = zip_length _ _ (accounts.0 ∙ sym accounts.1) ∙ accounts.0;
-      start = queues.0;
-      held = queues.1;
-      lengths = places.0;
-      tags = places.1;
-      marks = places.2;
-      packets = totals.0;
-      bytes = totals.1;
-    }
+returns c = λ t s. lent_shaped _ _ t s c.told-balance c.told-residual c.told-start c.told-held c.told-lengths c.told-tags c.told-marks c.told-packets c.told-bytes

@@ -1,5 +1,5 @@
 -- `right::asked_right` meets its contract.
-use mathlib.Core.Path.{◌≡◌, sym, ap, subst, ◌∙◌}
+use mathlib.Core.Path.{◌≡◌, refl, sym, ap, subst, ◌∙◌}
 use Prim.Native.Nat.{ℕ, ◌+◌, ◌<◌}
 use native.Mathlib.Decide.{ℕ_discrete}
 use Rattle.checks.specs.Check.{Exactly}
@@ -39,7 +39,7 @@ decided f =
     (f.weight_sums-owed.ensures ∙ ap (λ (k : Tree). weight_sums k f.yet_to_ask.result) f.shape_of-shape.ensures)
     f.is_class.ensures
     f.has.ensures f.has-in-loop-i.ensures f.has-in-loop-i-2.ensures
-    (f.has-in-loop-i-3.ensures ∙ ap (has f.args.second.asked) f.wide-p.ensures.0) f.is_behind.ensures f.can_pay.ensures)
+    (f.has-in-loop-i-3.ensures ∙ ap (has f.args.second.asked) f.from-p.ensures) refl f.can_pay.ensures)
     f.flags_right.ensures
 
 pub weight_sums-owed-requires : goal.weight_sums-owed-requires
@@ -47,13 +47,13 @@ weight_sums-owed-requires c =
     subst PlanRules (sym c.shape_of-shape.ensures) c.requires
 
 pub loop-i-init : goal.loop-i-init
-loop-i-init c = (omega arith, λ k u. absurd (omega arith))
+loop-i-init c = λ k u. absurd (omega arith)
 
 pub has-requires-in-loop-i-3 : goal.has-requires-in-loop-i-3
 has-requires-in-loop-i-3 c =
     omega (
       arith,
-      c.wide-p.ensures.0,
+      c.from-p.ensures,
       parent_most c.args.second.link.tree c.loop-i.i c.requires (omega
           (arith, c.loop-i-test.true)),
       c.loop-i-test.true,
@@ -62,18 +62,18 @@ has-requires-in-loop-i-3 c =
 pub returns-then-not-flags_right : goal.returns-then-not-flags_right
 returns-then-not-flags_right c =
     exactly_no
-    (λ p. not_true_and_false ((decided (goal.at.returns-then-not-flags_right c).After-flags_right).complete (p.at c.loop-i.i (omega (arith, c.loop-i.invariant.0, here (goal.at.returns-then-not-flags_right c).After-flags_right)))) c.if-not-flags_right.true)
+    (λ p. not_true_and_false ((decided (goal.at.returns-then-not-flags_right c).After-flags_right).complete (p.at c.loop-i.i (omega (arith, here (goal.at.returns-then-not-flags_right c).After-flags_right)))) c.if-not-flags_right.true)
 
 pub loop-i-preserved : goal.loop-i-preserved
 loop-i-preserved c =
-    (omega (arith, here (goal.at.loop-i-preserved c).After-flags_right), λ k u. more k u (ℕ_discrete k (number (goal.at.loop-i-preserved c).After-flags_right)))
+    λ k u. more k u (ℕ_discrete k (number (goal.at.loop-i-preserved c).After-flags_right))
   where
     more : (k : ℕ) → k < number (goal.at.loop-i-preserved c).After-flags_right + 1 → Dec (k ≡ number (goal.at.loop-i-preserved c).After-flags_right) → ClassAsked (made (goal.at.loop-i-preserved c).After-flags_right) k
     more k u (yes e) = subst (ClassAsked (made (goal.at.loop-i-preserved c).After-flags_right)) (sym e) ((decided (goal.at.loop-i-preserved c).After-flags_right).sound c.if-not-flags_right.false)
     more k u (no ne) =
-        c.loop-i.invariant.1 k
+        c.loop-i.invariant k
         (omega arith)
 
 pub returns : goal.returns
 returns c =
-    exactly_yes (record { at = λ k u. c.loop-i.invariant.1 k (omega arith) })
+    exactly_yes (record { at = λ k u. c.loop-i.invariant k (omega arith) })

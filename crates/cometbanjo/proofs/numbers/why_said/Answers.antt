@@ -5,10 +5,10 @@ use Prim.Native.Nat.{ℕ}
 use Rattle.cometbanjo.specs.Numbers.{why_said}
 use Rattle.cometbanjo.proofs.numbers.why_said.Goals as goal
 
-pub returns-in-Because : goal.returns-in-Because
-returns-in-Because c =
+pub returns-in-Ok : goal.returns-in-Ok
+returns-in-Ok c =
     ap₂ (λ (n m : ℕ). 0 ∷ 0 ∷ n ∷ m ∷ []) c.reason_number.ensures c.lacking.ensures
-    ∙ ap why_said (sym c.in-Because.is)
+    ∙ ap why_said (sym c.in-Ok.is)
 
-pub returns-in-NotTold : goal.returns-in-NotTold
-returns-in-NotTold c = ap why_said (sym c.in-NotTold.is)
+pub returns-in-Err : goal.returns-in-Err
+returns-in-Err c = rw c.number.ensures (ap why_said (sym c.in-Err.is))

@@ -3,12 +3,12 @@ use Rattle.cometbanjo.proofs.Calling.{offers_by, offers_none, accepted_rules, ac
 use Rattle.cometbanjo.proofs.offer.if_accepted.Goals as goal
 
 pub tree_of-tree-requires : goal.tree_of-tree-requires
-tree_of-tree-requires c = accepted_rules c.arrive-answer.ensures c.in-Passed.is
+tree_of-tree-requires c = accepted_rules c.arrive-answer.ensures c.in-Ok.is
 
-pub returns-in-Passed : goal.returns-in-Passed
-returns-in-Passed c =
+pub returns-in-Ok : goal.returns-in-Ok
+returns-in-Ok c =
     let arrives = c.arrive-answer.ensures in
-    offers_by arrives _ (accepted_wait arrives c.tree_of-tree.ensures c.in-Passed.is c.longest_wait-promise.result
+    offers_by arrives _ (accepted_wait arrives c.tree_of-tree.ensures c.in-Ok.is c.longest_wait-promise.result
     c.longest_wait-promise.ensures)
 
 pub returns : goal.returns

@@ -23,7 +23,7 @@ on : (c : After-slot-at) → has (whole (goal.at.After-slot-at c).Start).round.a
 on c = sym c.has.ensures ∙ c.if-not-has.false
 
 here : (c : After-slot-at) → c.slot-at.result ≡ slot c.args.class (start_of (whole (goal.at.After-slot-at c).Start) c.args.class)
-here c = c.slot-at.ensures.0 ∙ ap (slot _) c.wide.ensures.0
+here c = c.slot-at.ensures.0 ∙ ap (slot _) c.from.ensures
 
 pub bounds-held-class : goal.bounds-held-class
 bounds-held-class c = leaf_low (whole (goal.at.bounds-held-class c).Start) c.requires.0 c.args.class c.requires.1
@@ -53,7 +53,7 @@ bounds-start-class c =
 pub slot-at-requires : goal.slot-at-requires
 slot-at-requires c =
     let low = start_low (whole (goal.at.slot-at-requires c).Start) c.requires.0 c.args.class c.requires.1 in
-    (leaf_low (whole (goal.at.slot-at-requires c).Start) c.requires.0 c.args.class c.requires.1, omega (arith, c.wide.ensures.0, low))
+    (leaf_low (whole (goal.at.slot-at-requires c).Start) c.requires.0 c.args.class c.requires.1, omega (arith, c.from.ensures, low))
 
 pub account_of-account-requires : goal.account_of-account-requires
 account_of-account-requires c =

@@ -2,6 +2,7 @@
 use mathlib.Core.Bool.{not}
 use mathlib.Core.Path.{◌≡◌, sym, ap, ◌∙◌}
 use Prim.Native.Nat.{ℕ}
+use Rattle.checks.specs.declared.Refusal.TheVariants.{NoLeaf, NotSound}
 use Rattle.checks.specs.Check.{Exactly}
 use Rattle.checks.proofs.Laws.{decides, pass_over, none_broken}
 use Rattle.sets.specs.Set.{has}
@@ -30,14 +31,14 @@ leaf h = h.holds.ensures.0 ∙ ap (λ (s : ℕ). has s h.args.class) h.leaves.en
 
 pub returns-then-not-sound_in : goal.returns-then-not-sound_in
 returns-then-not-sound_in c =
-    refused_why (whole (goal.at.returns-then-not-sound_in c).Start) c.args.class c.sound_in.result (decided (goal.at.returns-then-not-sound_in c).After-sound_in) 11 0
+    refused_why (whole (goal.at.returns-then-not-sound_in c).Start) c.args.class c.sound_in.result (decided (goal.at.returns-then-not-sound_in c).After-sound_in) NotSound 0
     (decides _ _ (ap not c.if-not-sound_in.true))
 
 pub returns-then-not-holds : goal.returns-then-not-holds
 unfolding no_leaf is_leaf
 returns-then-not-holds c =
     let i = c.args.class in
-    refused_why (whole (goal.at.returns-then-not-holds c).Start) i c.sound_in.result (decided (goal.at.returns-then-not-holds c).After-sound_in) 12 i
+    refused_why (whole (goal.at.returns-then-not-holds c).Start) i c.sound_in.result (decided (goal.at.returns-then-not-holds c).After-sound_in) NoLeaf i
     (pass_over _ _ (ap not c.if-not-sound_in.false) ∙ decides _ _ (ap not (sym (leaf (goal.at.returns-then-not-holds c).After-holds)) ∙ (ap not c.if-not-holds.true)))
 
 pub reason_in-reason-requires : goal.reason_in-reason-requires

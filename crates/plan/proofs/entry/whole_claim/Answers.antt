@@ -4,7 +4,7 @@ use mathlib.Core.Path.{◌≡◌, sym, ap, ◌∙◌}
 use Prim.Native.Nat.{◌+◌}
 use native.Mathlib.Omega.{arith}
 use lib.ListN.{length}
-use Rattle.plan.specs.declared.Claim.TheVariants.{Sent}
+use Rattle.std.specs.Prelude.{Some}
 use Rattle.plan.specs.declared.kind.RecordKind.{RecordKind}
 use Rattle.plan.specs.Kind.{gives_sent}
 use Rattle.plan.specs.Record.{kind_at}
@@ -38,5 +38,5 @@ read_arrival-requires c =
 pub returns : goal.returns
 returns c =
     let s = c.args.next.now in
-    ap Sent (c.read_arrival.ensures ∙ ap arrived_of (body_part s c.record_length-end.result (end_of (goal.at.returns c).After-record_length-end)))
+    ap (λ a. Some a) (c.read_arrival.ensures ∙ ap arrived_of (body_part s c.record_length-end.result (end_of (goal.at.returns c).After-record_length-end)))
     ∙ sym (claim_sent s (sent (goal.at.returns c).Else-not-gives_sent))

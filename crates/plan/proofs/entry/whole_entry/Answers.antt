@@ -5,7 +5,8 @@ use Prim.Native.Nat.{◌+◌, ◌-◌}
 use native.Mathlib.Omega.{arith}
 use lib.ListN.{length, drop, length-drop}
 use lib.Seq.{take_all}
-use Rattle.plan.specs.declared.EntryRead.TheVariants.{Arrives}
+use Rattle.plan.specs.declared.entry.Entry.TheVariants.{Arrives}
+use Rattle.std.specs.Prelude.{Ok, Some}
 use Rattle.plan.specs.declared.kind.RecordKind.{RecordKind}
 use Rattle.plan.specs.Kind.{gives_arrival}
 use Rattle.plan.specs.Record.{kind_at}
@@ -49,5 +50,5 @@ read_arrival-requires c =
 pub returns : goal.returns
 returns c =
     let s = c.args.rest.now in
-    ap Arrives (c.read_arrival.ensures ∙ ap arrived_of (body_part s c.record_length-end.result (end_of (goal.at.returns c).After-record_length-end)))
+    ap (λ a. Ok (Some (Arrives a))) (c.read_arrival.ensures ∙ ap arrived_of (body_part s c.record_length-end.result (end_of (goal.at.returns c).After-record_length-end)))
     ∙ sym (entry_arrives s (arrives (goal.at.returns c).Else-not-gives_arrival))

@@ -1,7 +1,8 @@
 -- `event::event_at` meets its contract.
 use mathlib.Core.Path.{sym, ap, ◌∙◌}
 use native.Mathlib.Omega.{arith}
-use Rattle.plan.specs.declared.EventRead.TheVariants.{Arrive}
+use Rattle.plan.specs.declared.event.Event.TheVariants.{Arrive}
+use Rattle.std.specs.Prelude.{Ok, Some}
 use Rattle.plan.proofs.Lying.{lies_end, lies_strange, lies_cut, lies_send, lies_arrival, arrival_seven}
 use Rattle.plan.proofs.event.event_at.Goals as goal
 
@@ -45,7 +46,7 @@ pub returns : goal.returns
 returns c =
     let here = c.if-input-place.false in
     let on = sym c.stands_in.ensures ∙ c.if-not-stands_in.false in record {
-      value = ap Arrive c.arrival_at.ensures
+      value = ap (λ a. Ok (Some (Arrive a))) c.arrival_at.ensures
           ∙ sym (lies_arrival _ _ here _ c.record_kind-kind.ensures on
           (omega (arith, c.if-input-place-2.false, c.record_length.ensures))
           (sym c.gives_arrival.ensures ∙ c.if-not-gives_arrival.false));

@@ -4,7 +4,8 @@ use mathlib.Core.Path.{◌≡◌, sym, ap, ◌∙◌}
 use Prim.Native.Nat.{◌+◌}
 use native.Mathlib.Omega.{arith}
 use lib.ListN.{length}
-use Rattle.plan.specs.declared.EventRead.TheVariants.{Arrive}
+use Rattle.plan.specs.declared.event.Event.TheVariants.{Arrive}
+use Rattle.std.specs.Prelude.{Ok, Some}
 use Rattle.plan.specs.declared.kind.RecordKind.{RecordKind}
 use Rattle.plan.specs.Kind.{gives_arrival}
 use Rattle.plan.specs.Record.{kind_at}
@@ -38,5 +39,5 @@ read_arrival-requires c =
 pub returns : goal.returns
 returns c =
     let s = c.args.rest.now in
-    ap Arrive (c.read_arrival.ensures ∙ ap arrived_of (body_part s c.record_length-end.result (end_of (goal.at.returns c).After-record_length-end)))
+    ap (λ a. Ok (Some (Arrive a))) (c.read_arrival.ensures ∙ ap arrived_of (body_part s c.record_length-end.result (end_of (goal.at.returns c).After-record_length-end)))
     ∙ sym (event_arrival s (arrives (goal.at.returns c).Else-not-gives_arrival))

@@ -14,17 +14,17 @@ returns-then-tree-ge-MOST c = decides _ _ (lt-ltb 63 (c.args.tree.count + 1) (om
 pub class_fault-v-requires : goal.class_fault-v-requires
 class_fault-v-requires c = rw c.added-grown.ensures (omega arith)
 
-pub returns-in-Passed : goal.returns-in-Passed
+pub returns-in-Ok : goal.returns-in-Ok
 unfolding too_many
-returns-in-Passed c =
+returns-in-Ok c =
     let e = rw c.added-grown.ensures at c.class_fault-v.ensures in (
-      pass_over _ _ (le-ltb 63 (c.args.tree.count + 1) (omega arith)) ∙ sym e ∙ c.in-Passed.is,
+      pass_over _ _ (le-ltb 63 (c.args.tree.count + 1) (omega arith)) ∙ sym e ∙ c.in-Ok.is,
       refl,
       c.added-grown.ensures,
     )
 
-pub returns-in-Refused : goal.returns-in-Refused
+pub returns-in-Err : goal.returns-in-Err
 unfolding too_many
-returns-in-Refused c =
+returns-in-Err c =
     let e = rw c.added-grown.ensures at c.class_fault-v.ensures in
-    pass_over _ _ (le-ltb 63 (c.args.tree.count + 1) (omega arith)) ∙ sym e ∙ c.in-Refused.is
+    pass_over _ _ (le-ltb 63 (c.args.tree.count + 1) (omega arith)) ∙ sym e ∙ c.in-Err.is

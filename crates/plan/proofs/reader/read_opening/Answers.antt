@@ -4,19 +4,19 @@ use Rattle.plan.proofs.Reading.{opening_none}
 use Rattle.plan.proofs.reader.read_opening.Goals as goal
 
 pub whole_rule-requires : goal.whole_rule-requires
-whole_rule-requires c = rw c.in-Whole.is at c.read_head-h.ensures
+whole_rule-requires c = c.in-Ok.ensures
 
-pub returns-in-Missing : goal.returns-in-Missing
-returns-in-Missing c =
-    let says = rw c.in-Missing.is at c.read_head-h.ensures in
+pub returns-in-Err-NoKindByte : goal.returns-in-Err-NoKindByte
+returns-in-Err-NoKindByte c =
+    let says = rw c.in-Err-NoKindByte.field-0-is at c.in-Err-NoKindByte.ensures in
     opening_none _ (λ r. not_true_and_false says r.there)
 
-pub returns-in-Strange : goal.returns-in-Strange
-returns-in-Strange c =
-    let says = rw c.in-Strange.is at c.read_head-h.ensures in
+pub returns-in-Err-StrangeKind : goal.returns-in-Err-StrangeKind
+returns-in-Err-StrangeKind c =
+    let says = rw c.in-Err-StrangeKind.field-0-is at c.in-Err-StrangeKind.ensures in
     opening_none _ (λ r. not_true_and_false says.1 r.known)
 
-pub returns-in-Cut : goal.returns-in-Cut
-returns-in-Cut c =
-    let says = rw c.in-Cut.is at c.read_head-h.ensures in
+pub returns-in-Err-CutBody : goal.returns-in-Err-CutBody
+returns-in-Err-CutBody c =
+    let says = rw c.in-Err-CutBody.field-0-is at c.in-Err-CutBody.ensures in
     opening_none _ (λ r. not_true_and_false says.2 r.whole)

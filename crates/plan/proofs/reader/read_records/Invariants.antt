@@ -3,8 +3,8 @@ use Prim.Native.Nat.{◌-◌}
 use Rattle.plan.proofs.Reading.{ReadTo}
 use Rattle.plan.proofs.reader.read_records.Given as goal
 
-abbrev pub invariant-loop-n : goal.invariant-loop-n
-invariant-loop-n l = ReadTo l.input l.tree l.place
+abbrev pub invariant-loop-refused : goal.invariant-loop-refused
+invariant-loop-refused l = ReadTo l.input l.tree l.place
 
-abbrev pub decreases-loop-n : goal.decreases-loop-n
-decreases-loop-n l = 64 - l.tree.count
+abbrev pub decreases-loop-refused : goal.decreases-loop-refused
+decreases-loop-refused l = 64 - l.tree.count

@@ -9,7 +9,7 @@ use Rattle.plan.proofs.reader.take_record.Goals as goal
 pub take_whole-requires : goal.take_whole-requires
 take_whole-requires c =
     let s = c.args.input.now in
-    let says = rw c.in-Whole.is at c.read_head-h.ensures in
+    let says = c.in-Ok.ensures in
     let whole = rw (rest_part s c.args.place) at says in
     let stops = rule_stops s c.args.place c.requires.1 whole.0 whole.1 whole.2 in (
       says.2,
@@ -18,29 +18,29 @@ take_whole-requires c =
       rw (rest_part s c.args.place) stops,
     )
 
-pub returns-in-Missing : goal.returns-in-Missing
-returns-in-Missing c =
+pub returns-in-Err-NoKindByte : goal.returns-in-Err-NoKindByte
+returns-in-Err-NoKindByte c =
     let s = c.args.input.now in
-    let says = rw (c.in-Missing.is, rest_part s c.args.place) at c.read_head-h.ensures in
+    let says = rw (c.in-Err-NoKindByte.field-0-is, rest_part s c.args.place) at c.in-Err-NoKindByte.ensures in
     record_missing s c.args.place c.args.tree says
 
-pub returns-in-Strange : goal.returns-in-Strange
-returns-in-Strange c =
+pub returns-in-Err-StrangeKind : goal.returns-in-Err-StrangeKind
+returns-in-Err-StrangeKind c =
     let s = c.args.input.now in
-    let says = rw (c.in-Strange.is, rest_part s c.args.place) at c.read_head-h.ensures in
+    let says = rw (c.in-Err-StrangeKind.field-0-is, rest_part s c.args.place) at c.in-Err-StrangeKind.ensures in
     record_unknown s c.args.place c.args.tree says.0 says.1
 
-pub returns-in-Cut : goal.returns-in-Cut
-returns-in-Cut c =
+pub returns-in-Err-CutBody : goal.returns-in-Err-CutBody
+returns-in-Err-CutBody c =
     let s = c.args.input.now in
-    let says = rw (c.in-Cut.is, rest_part s c.args.place) at c.read_head-h.ensures in
+    let says = rw (c.in-Err-CutBody.field-0-is, rest_part s c.args.place) at c.in-Err-CutBody.ensures in
     record_cut s c.args.place c.args.tree says.0 says.1 says.2
 
-pub returns-in-Whole : goal.returns-in-Whole
-returns-in-Whole c =
+pub returns-in-Ok : goal.returns-in-Ok
+returns-in-Ok c =
     let s = c.args.input.now in
     let place = c.args.place in
-    let says = rw (c.in-Whole.is, rest_part s place) at c.read_head-h.ensures in
+    let says = rw (rest_part s place) at c.in-Ok.ensures in
     let done = rw (rest_part s place) at c.take_whole.ensures in
     whole_to_step s place c.args.tree c.take_whole.result.tree c.take_whole.result.next c.requires.0
     says.0 says.1 says.2 (there_length (drop place s) says.0) done

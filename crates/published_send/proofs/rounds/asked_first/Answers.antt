@@ -8,5 +8,5 @@ use Rattle.published_send.proofs.rounds.asked_first.Goals as goal
 pub returns-then-surplus : goal.returns-then-surplus
 returns-then-surplus c = c.with.ensures ∙ ap (λ (b : Bool). asked_first (kind_is b)) (sym c.if-surplus.true)
 
-pub returns : goal.returns
-returns c = ap (λ (b : Bool). asked_first (kind_is b)) (sym c.if-surplus.false)
+pub returns-else-surplus : goal.returns-else-surplus
+returns-else-surplus c = ap (λ (b : Bool). asked_first (kind_is b)) (sym c.if-surplus.false)

@@ -23,6 +23,3 @@ invariant-loop-i l =
     (l.i ≤ 64) × (l.parent ≡ table (parent_at l.shape) l.i ++ replicate (64 - l.i) 0)
     × (l.weight ≡ table (weight_at l.shape) l.i ++ replicate (64 - l.i) no_weight)
     × (l.longest ≡ table (longest_at l.shape) l.i ++ replicate (64 - l.i) 0)
-
-abbrev pub decreases-loop-i : goal.decreases-loop-i
-decreases-loop-i l = 64 - l.i

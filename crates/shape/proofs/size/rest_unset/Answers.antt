@@ -8,13 +8,9 @@ pub returns-then-not-unset_at : goal.returns-then-not-unset_at
 returns-then-not-unset_at c =
     exactly_no (λ p. not_true_and_false (c.unset_at.ensures.complete p.root) c.if-not-unset_at.true)
 
-pub overflow_add-i : goal.overflow_add-i
-overflow_add-i c =
-    omega (arith, c.count-last.ensures, c.requires)
-
 pub loop-i-init : goal.loop-i-init
 loop-i-init c =
-    let e = c.count-last.ensures in
+    let e = c.count-i.ensures in
     (omega (arith, e), omega (arith, e, c.requires), λ k u l. absurd (omega (arith, u, l, e)))
 
 pub returns-then-not-unset_at-2 : goal.returns-then-not-unset_at-2

@@ -1,8 +1,8 @@
 -- `size::round_size` meets its contract.
-use mathlib.Core.Path.{refl, ◌∙◌}
 use Rattle.shape.proofs.size.round_size.Goals as goal
 
+pub unwrap-requires : goal.unwrap-requires
+unwrap-requires c = c.plan_size.ensures.right.complete c.requires
+
 pub returns : goal.returns
-returns c =
-    let p = c.plan_size-judged.ensures in
-    p.size ∙ rw (p.right.complete c.requires) refl
+returns c = rw c.unwrap.ensures at c.plan_size.ensures.size

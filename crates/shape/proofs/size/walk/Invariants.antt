@@ -23,6 +23,3 @@ invariant-loop-i l =
     × (l.packets ≡ sum_to (longest_cost tree) tree.count - sum_to (longest_cost tree) l.i)
     × ((k : ℕ) → l.i < k → k ≤ tree.count → ClassObeys tree k (children_after tree k))
     × FamiliesAfter tree l.i l.children
-
-abbrev pub decreases-loop-i : goal.decreases-loop-i
-decreases-loop-i l = l.i

@@ -8,10 +8,10 @@ returns c =
     c.wrapping_add_u16.ensures.value
     ∙ rw (
       c.wrapping_add_u16-last.ensures.value,
-      c.above-4.ensures,
-      c.above-3.ensures,
+      c.saturating_sub-4.ensures,
+      c.saturating_sub-3.ensures,
       c.wrapping_add_u16-first.ensures.value,
-      c.above-2.ensures,
-      c.above.ensures,
+      c.saturating_sub-2.ensures,
+      c.saturating_sub.ensures,
     )
     (four_wraps (c.args.a - 59) (c.args.b - 59) (c.args.c - 59) (c.args.d - 59))

@@ -29,8 +29,8 @@ loop-k-preserved c =
     let d' = c.seen_at-d.ensures in
     let over : c.above_of-over.result ≡ four_over x k = c.above_of-over.ensures ∙ rw (a, b, c', d') refl in (
       omega arith,
-      c.larger-most.ensures
-          ∙ rw (c.larger-in-loop-k-2.ensures, c.larger-in-loop-k.ensures, c.larger.ensures, a, b, c', d', c.loop-k.invariant.1)
+      c.max-most.ensures
+          ∙ rw (c.max-in-loop-k-2.ensures, c.max-in-loop-k.ensures, c.max.ensures, a, b, c', d', c.loop-k.invariant.1)
           (sym (most_more x k)),
       omega (arith, c.loop-k.invariant.2, over, over_more x k),
       omega (arith, c.loop-k.invariant.3),

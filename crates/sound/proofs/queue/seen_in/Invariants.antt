@@ -11,6 +11,3 @@ invariant-loop-k l =
     × (l.high * 256 + l.low ≡ sum_to (λ j. four_over (seen_at l.lengths l.class l.start l.held) (j - 1)) l.k)
     × (l.low ≤ l.k * 255)
     × (l.high ≤ l.k * 255)
-
-abbrev pub decreases-loop-k : goal.decreases-loop-k
-decreases-loop-k l = 8 - l.k

@@ -17,7 +17,6 @@ ruled h =
 pub loop-n-init : goal.loop-n-init
 loop-n-init c =
     let l = c.args.link in (
-      omega arith,
       opened_apart l c.requires.0 (shaped l _ c.well_formed.0).accounts _
           c.shape_of-shape.ensures _ _ c.balances-balance.ensures c.residuals-residual.ensures,
       refl,
@@ -25,30 +24,23 @@ loop-n-init c =
 
 pub open_next-active-requires : goal.open_next-active-requires
 open_next-active-requires c =
-    ((_, opened_fields _ _ _ c.loop-n.invariant.1), ruled (goal.at.open_next-active-requires c).At-loop-n, c.loop-n.invariant.2)
-
-pub overflow_add-n : goal.overflow_add-n
-overflow_add-n c = omega (arith, c.loop-n-test.true)
-
-pub loop-n-smaller : goal.loop-n-smaller
-loop-n-smaller c = omega (arith, c.loop-n-test.true)
+    ((_, opened_fields _ _ _ c.loop-n.invariant.0), ruled (goal.at.open_next-active-requires c).At-loop-n, c.loop-n.invariant.1)
 
 pub loop-n-preserved : goal.loop-n-preserved
 loop-n-preserved c = (
-  omega (arith, c.loop-n-test.true),
-  opened_more _ _ c.loop-n.n _ c.loop-n.invariant.1 (ruled (goal.at.loop-n-preserved c).At-loop-n) (c.open_next-active.ensures.totals_after _ (opened_fields _ _ _ c.loop-n.invariant.1)),
+  opened_more _ _ c.loop-n._n _ c.loop-n.invariant.0 (ruled (goal.at.loop-n-preserved c).At-loop-n) (c.open_next-active.ensures.totals_after _ (opened_fields _ _ _ c.loop-n.invariant.0)),
   c.open_next-active.ensures.kept_len,
 )
 
 pub zipped-accounts-requires : goal.zipped-accounts-requires
-zipped-accounts-requires c = c.loop-n.invariant.1.many
+zipped-accounts-requires c = c.loop-n.invariant.0.many
 
 pub returns : goal.returns
 returns c =
     let a = c.args in
     let l = a.link in
-    let e : c.loop-n.n ≡ a.times = omega (arith, c.loop-n-test.false, c.loop-n.invariant.0) in
+    let e : c.loop-n._n ≡ a.times = omega (arith, c.loop-n-test.false) in
     let tree = ap (λ (t : Tree). lent_link t l.round.size c.loop-n.active c.loop-n.place c.loop-n.balance c.loop-n.residual
     l.start
     l.held l.lengths l.tags l.marks l.totals) (sym c.shape_of-shape.ensures) in
-    rw c.zipped-accounts.ensures (tree ∙ c.loop-n.invariant.1.same ∙ ap (λ (n : ℕ). opened_times n l) e)
+    rw c.zipped-accounts.ensures (tree ∙ c.loop-n.invariant.0.same ∙ ap (λ (n : ℕ). opened_times n l) e)

@@ -1,5 +1,5 @@
 -- `speed::opening::open_times` meets its contract.
-use Rattle.std.proofs.Common.{◌≡◌, ◌-◌, ◌≤◌, length}
+use Rattle.std.proofs.Common.{◌≡◌, length}
 use Rattle.shape.specs.Shape.{tree_in}
 use Rattle.steps.specs.Fields.{lent_link}
 use Rattle.speed.proofs.Steps.{Opened}
@@ -7,10 +7,6 @@ use Rattle.speed.proofs.opening_times.open_times.Given as goal
 
 abbrev pub invariant-loop-n : goal.invariant-loop-n
 invariant-loop-n l =
-    (l.n ≤ l.times)
-    × Opened l.link l.n (lent_link (tree_in l.shape) l.link.round.size l.active l.place l.balance l.residual l.link.start l.link.held l.link.lengths
+    Opened l.link l._n (lent_link (tree_in l.shape) l.link.round.size l.active l.place l.balance l.residual l.link.start l.link.held l.link.lengths
     l.link.tags l.link.marks l.link.totals)
     × (length l.kept ≡ 64)
-
-abbrev pub decreases-loop-n : goal.decreases-loop-n
-decreases-loop-n l = l.times - l.n

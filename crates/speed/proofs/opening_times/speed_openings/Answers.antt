@@ -6,7 +6,7 @@ use Rattle.run.specs.Run.{begin_of}
 use Rattle.speed.specs.Openings.{root_left, left_after}
 use Rattle.speed.proofs.Served.{begun_sound}
 use Rattle.speed.proofs.opening_times.speed_openings.Goals as goal
-use Rattle.speed.proofs.opening_times.speed_openings.Goals.{After-begin-begun}
+use Rattle.speed.proofs.opening_times.speed_openings.Goals.{After-begin-begun, then-not-begun-via-then-not-begun, then-not-begun-via-else-not-begun+then-tree}
 
 -- nothing is left where the plan is refused, or is one of rule 2
 left_refused : (s : Step) (n : ℕ) → s.more ≡ false → left_after s n ≡ 0
@@ -25,11 +25,12 @@ as_begun b r e = sym e ∙ ap (λ (s : Step). left_after s b.args.times) b.begin
 
 pub returns-then-not-begun : goal.returns-then-not-begun
 returns-then-not-begun c =
-    as_begun (goal.at.returns-then-not-begun c).After-begin-begun 0 (left_refused c.begin-begun.result _ (not-true _ c.if-not-begun.true))
-
-pub returns-then-tree : goal.returns-then-tree
-returns-then-tree c =
-    as_begun (goal.at.returns-then-tree c).After-begin-begun 0 (left_ruled c.begin-begun.result _ (not-false _ c.if-not-begun.false) c.if-tree.true)
+    let b = (goal.at.returns-then-not-begun c).After-begin-begun in
+    elim c.then-not-begun.branch [
+      | then-not-begun-via-then-not-begun w ↦ as_begun b 0 (left_refused c.begin-begun.result _ (not-true _ w.if-not-begun.true))
+      | then-not-begun-via-else-not-begun+then-tree w ↦
+          as_begun b 0 (left_ruled c.begin-begun.result _ (not-false _ w.if-not-begun.false) w.if-tree.true)
+    ]
 
 pub root_left-requires : goal.root_left-requires
 root_left-requires c =

@@ -7,5 +7,5 @@ use Rattle.state.proofs.queue.first.Goals as goal
 pub returns : goal.returns
 returns c =
     let a = c.args in
-    λ l held. rw (c.slot-at.ensures.0, c.wide.ensures.0)
+    λ l held. rw (c.slot-at.ensures.0, c.from.ensures)
     (sym (packet_first (queued l a.start.now held a.lengths.now a.tags.now a.marks.now) a.class c.requires.1))

@@ -4,9 +4,9 @@ use mathlib.Core.Path.{◌≡◌, refl, sym, ap, ap₂, ◌∙◌}
 use Prim.Native.Nat.{ℕ, ◌<◌}
 use native.Mathlib.Omega.{arith}
 use lib.ListN.{get_or}
-use Rattle.checks.specs.declared.Verdict.{Verdict}
-use Rattle.checks.specs.declared.Verdict.TheVariants.{Refused}
-use Rattle.checks.specs.Check.{first_broken}
+use Rattle.checks.specs.declared.Refusal.{Refusal}
+use Rattle.std.specs.Prelude.{Err}
+use Rattle.checks.specs.Check.{first_broken, Verdict, refusal_at}
 use Rattle.sets.specs.Set.{has}
 use Rattle.units.specs.Cost.{cost_of}
 use Rattle.tree.specs.declared.Tree.{Tree}
@@ -30,8 +30,8 @@ use Rattle.steps.proofs.arrival.arrive.Goals as goal
 use Rattle.steps.proofs.arrival.arrive.Goals.{After-judge-verdict}
 
 -- a refused arrival answers 0 bytes, and leaves the link
-refuses : (sound : Bool) (l : Link) (i : ℕ) (p : Packet) (v : Verdict) (r : Arrival) {n q : ℕ} → r ≡ arrival_answer v 0
-    → v ≡ first_broken (arrival_checks sound (meaning l) i p) → v ≡ Refused n q → ArrivesOn sound l i p r l
+refuses : (sound : Bool) (l : Link) (i : ℕ) (p : Packet) (v : Verdict) (r : Arrival) {n : Refusal} {q : ℕ} → r ≡ arrival_answer v 0
+    → v ≡ first_broken (arrival_checks sound (meaning l) i p) → v ≡ Err (refusal_at n q) → ArrivesOn sound l i p r l
 refuses sound l i p v r is said e =
     ap (λ (x : Arrival). arrival_leaves x l) (is ∙ ap (λ (w : Verdict). arrival_answer w 0) e)
     ∙ sym (arrival_refused sound l i p (sym said ∙ e))
@@ -108,7 +108,7 @@ sounds j = j.if-not-sound.false
 
 pub put-requires : goal.put-requires
 put-requires c =
-    (inside (goal.at.put-requires c).After-judge-verdict, c.judge-verdict.ensures.room c.in-Passed.is)
+    (inside (goal.at.put-requires c).After-judge-verdict, c.judge-verdict.ensures.room c.in-Ok.is)
 
 pub count-requires : goal.count-requires
 count-requires c =
@@ -125,27 +125,27 @@ offset_bounds-bytes-class c = omega (arith, inside (goal.at.offset_bounds-bytes-
 pub bounds-bytes-class : goal.bounds-bytes-class
 bounds-bytes-class c = omega (arith, inside (goal.at.bounds-bytes-class c).After-judge-verdict)
 
-pub returns-in-Passed : goal.returns-in-Passed
-returns-in-Passed c =
+pub returns-in-Ok : goal.returns-in-Ok
+returns-in-Ok c =
     let a = c.args in record {
       arrives_on = (λ l same takes.
-          let passed = c.in-Passed.is in
-          let passes = sym (said (goal.at.returns-in-Passed c).After-judge-verdict l same) ∙ passed in
+          let passed = c.in-Ok.is in
+          let passes = sym (said (goal.at.returns-in-Ok c).After-judge-verdict l same) ∙ passed in
           let waits = queued l a.start.now a.held.now a.lengths.now a.tags.now a.marks.now in
           let laid = c.put.ensures l ∙ ap (laid_last waits a.class) c.marked_with.ensures in
           let t = tree_in a.shape.now in
-          let rules = (c.requires (sounds (goal.at.returns-in-Passed c).After-judge-verdict)).0 in
-          let link = ap₂ with_totals laid (c.count.ensures.0 t a.charged rules (leaf_in (goal.at.returns-in-Passed c).After-judge-verdict) ∙ ap (λ (t : Tree). recounted false t
+          let rules = (c.requires (sounds (goal.at.returns-in-Ok c).After-judge-verdict)).0 in
+          let link = ap₂ with_totals laid (c.count.ensures.0 t a.charged rules (leaf_in (goal.at.returns-in-Ok c).After-judge-verdict) ∙ ap (λ (t : Tree). recounted false t
           a.class (cost_of a.packet.length)
           (totals_for true (tree_in a.shape.now) a.packets.now a.bytes.now a.charged)) (sym same)) in
-          let on = rw (sounds (goal.at.returns-in-Passed c).After-judge-verdict) at (takes (sounds (goal.at.returns-in-Passed c).After-judge-verdict)) in
+          let on = rw (sounds (goal.at.returns-in-Ok c).After-judge-verdict) at (takes (sounds (goal.at.returns-in-Ok c).After-judge-verdict)) in
           let bytes =
-          sym (worked_out_own t _ a.class (inside (goal.at.returns-in-Passed c).After-judge-verdict) (leaf_not_inner t a.class (leaf_in (goal.at.returns-in-Passed c).After-judge-verdict)))
+          sym (worked_out_own t _ a.class (inside (goal.at.returns-in-Ok c).After-judge-verdict) (leaf_not_inner t a.class (leaf_in (goal.at.returns-in-Ok c).After-judge-verdict)))
           ∙ ap (λ (x : Link). get_or x.totals.bytes a.class 0) link
-          ∙ bytes_read (here (goal.at.returns-in-Passed c).After-judge-verdict l) a.class a.packet on.wide on.sound passes
+          ∙ bytes_read (here (goal.at.returns-in-Ok c).After-judge-verdict l) a.class a.packet on.wide on.sound passes
           in
-          rw (sounds (goal.at.returns-in-Passed c).After-judge-verdict)
-          (ap₂ arrival_leaves (ap₂ arrival_answer passed bytes) link ∙ sym (arrival_taken true (here (goal.at.returns-in-Passed c).After-judge-verdict l) a.class a.packet passes)));
+          rw (sounds (goal.at.returns-in-Ok c).After-judge-verdict)
+          (ap₂ arrival_leaves (ap₂ arrival_answer passed bytes) link ∙ sym (arrival_taken true (here (goal.at.returns-in-Ok c).After-judge-verdict l) a.class a.packet passes)));
       near = (c.count.ensures.1, c.count.ensures.2);
     }
 

@@ -5,6 +5,7 @@ use Prim.Native.Nat.{ℕ}
 use lib.Dec.{leb, ltb}
 use lib.ListN.{length}
 use borrow.Author.Tests.{le-leb, lt-leb}
+use native.Mathlib.Omega.{arith}
 use Rattle.checks.proofs.Laws.{not_both}
 use Rattle.tree.specs.Class.{longest_of}
 use Rattle.state.specs.declared.Packet.{Packet}
@@ -33,14 +34,14 @@ returns-then-out_of_range c =
       room = λ e. absurd (not_both e refl);
     }
 
-pub returns-then-held : goal.returns-then-held
-returns-then-held c =
+pub returns-then-from-ge-PLACES : goal.returns-then-from-ge-PLACES
+returns-then-from-ge-PLACES c =
     let a = c.args in
     record {
       verdict = λ s p leaf x y z.
           sym (full_number s a.class p leaf
           (ranged s a.class a.length a.longest p c.out_of_range.result x y c.out_of_range.ensures ∙ c.if-out_of_range.false)
-          (filled s a.class a.held z ∙ le-leb 32 a.held c.if-held.true));
+          (filled s a.class a.held z ∙ le-leb 32 a.held (omega (arith, c.from.ensures, c.if-from-ge-PLACES.true))));
       room = λ e. absurd (not_both e refl);
     }
 
@@ -51,6 +52,6 @@ returns c =
       verdict = λ s p leaf x y z.
           sym (no_number s a.class p leaf
           (ranged s a.class a.length a.longest p c.out_of_range.result x y c.out_of_range.ensures ∙ c.if-out_of_range.false)
-          (filled s a.class a.held z ∙ lt-leb 32 a.held c.if-held.false));
-      room = λ e. c.if-held.false;
+          (filled s a.class a.held z ∙ lt-leb 32 a.held (omega (arith, c.from.ensures, c.if-from-ge-PLACES.false))));
+      room = λ e. omega (arith, c.from.ensures, c.if-from-ge-PLACES.false);
     }

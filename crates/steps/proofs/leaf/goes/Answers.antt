@@ -36,7 +36,7 @@ returns-then-waiting-gt1 c =
         goes_more s c.first-packet.ensures c.cost-cost.ensures _ _ c.pay.ensures (λ l. c.take.ensures l a.lengths.now a.tags.now
             a.marks.now)
             (c.count.ensures.0 (tree_in a.shape.now) a.charged (goes_rules s) (goes_leaf s)) c.grown-total.ensures (omega
-            (arith, c.wide-waiting.ensures, c.if-waiting-gt1.true)),
+            (arith, c.from-waiting.ensures, c.if-waiting-gt1.true)),
       ));
       near = (c.count.ensures.1, c.count.ensures.2);
     }
@@ -55,7 +55,7 @@ returns c =
         goes_last s c.first-packet.ensures c.cost-cost.ensures _ _ c.pay.ensures (λ l. c.take.ensures l a.lengths.now a.tags.now
             a.marks.now)
             (c.count.ensures.0 (tree_in a.shape.now) a.charged (goes_rules s) (goes_leaf s)) c.grown-total.ensures (omega
-            (arith, c.wide-waiting.ensures, c.if-waiting-gt1.false)) _ _ _ c.turn_off-off.ensures,
+            (arith, c.from-waiting.ensures, c.if-waiting-gt1.false)) _ _ _ c.turn_off-off.ensures,
       ));
       near = (c.count.ensures.1, c.count.ensures.2);
     }

@@ -16,13 +16,9 @@ returns-then-i-eq-CLASSES c =
     λ l s. sym (c.loop-leaves.invariant.1 l s ∙ seek_skips l _ _ _ _ _ s c.loop-leaves.at c.next-i.result c.next-i.ensures
     ∙ first_end (ready (meaning l)) c.next-i.result (omega arith))
 
-pub overflow_cast-s : goal.overflow_cast-s
-overflow_cast-s c =
-    omega (arith, c.requires.1 c.next-i.result (omega arith))
-
 pub slot-requires : goal.slot-requires
 slot-requires c =
-    (omega arith, c.requires.1 c.next-i.result (omega arith))
+    (omega arith, omega (arith, c.from-s.ensures, c.requires.1 c.next-i.result (omega arith)))
 
 pub returns-then-covers : goal.returns-then-covers
 returns-then-covers c =
@@ -31,7 +27,7 @@ returns-then-covers c =
     λ l s.
     sym (c.loop-leaves.invariant.1 l s ∙ seek_skips l _ _ _ _ _ s c.loop-leaves.at i c.next-i.ensures
     ∙ first_hit (ready (meaning l)) i u
-    (seek_ready l _ _ _ _ _ s c.loop-leaves.at i _ c.next-i.ensures u (rw c.slot.ensures.0 at c.cost-cost.ensures)
+    (seek_ready l _ _ _ _ _ s c.loop-leaves.at i _ c.next-i.ensures u (rw (c.slot.ensures.0, c.from-s.ensures) at c.cost-cost.ensures)
     ∙ sym c.covers.ensures ∙ c.if-covers.true))
 
 pub loop-leaves-preserved : goal.loop-leaves-preserved
@@ -42,6 +38,6 @@ loop-leaves-preserved c =
       λ l s.
           c.loop-leaves.invariant.1 l s ∙ seek_skips l _ _ _ _ _ s c.loop-leaves.at i c.next-i.ensures
           ∙ first_pass (ready (meaning l)) i u
-          (seek_ready l _ _ _ _ _ s c.loop-leaves.at i _ c.next-i.ensures u (rw c.slot.ensures.0 at c.cost-cost.ensures)
+          (seek_ready l _ _ _ _ _ s c.loop-leaves.at i _ c.next-i.ensures u (rw (c.slot.ensures.0, c.from-s.ensures) at c.cost-cost.ensures)
           ∙ sym c.covers.ensures ∙ c.if-covers.false),
     )

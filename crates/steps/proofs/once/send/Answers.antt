@@ -10,20 +10,20 @@ use Rattle.steps.specs.declared.Went.{Went}
 use Rattle.steps.specs.Fields.{lent_link, link_at}
 use Rattle.steps.specs.Rounds.{InFields, Departs}
 use Rattle.steps.proofs.once.send.Goals as goal
-use Rattle.steps.proofs.once.send.Goals.{After-lent_64-wide}
+use Rattle.steps.proofs.once.send.Goals.{Start}
 
 -- the totals are worked out
-all : (w : After-lent_64-wide) → let a = w.args in InTotal (tree_in a.shape.now) a.packets.now
+all : (w : Start) → let a = w.args in InTotal (tree_in a.shape.now) a.packets.now
     a.bytes.now
 all w =
     let a = w.args in
     sound_total (link_at false (tree_in a.shape.now) a.stand a.balance.now a.residual.now a.start.now a.held.now
     a.lengths.now a.tags.now a.marks.now a.packets.now a.bytes.now) w.requires.0.sound
-    w.lent_64-many.ensures
-    w.lent_64-wide.ensures
+    w.told-packets
+    w.told-bytes
 
 -- the link with other totals
-abbrev with-totals : After-lent_64-wide → Totals → Link
+abbrev with-totals : Start → Totals → Link
 with-totals w totals =
     let a = w.args in
     lent_link (tree_in a.shape.now) a.stand.size a.stand.active a.stand.place a.balance.now a.residual.now
@@ -31,7 +31,7 @@ with-totals w totals =
     a.held.now a.lengths.now a.tags.now a.marks.now totals
 
 -- and so they are those of a link that is told to be sound
-out : (w : After-lent_64-wide) → let a = w.args in
+out : (w : Start) → let a = w.args in
     totals_for false (tree_in a.shape.now) a.packets.now a.bytes.now a.stand.charged
     ≡ totals_for true (tree_in a.shape.now) a.packets.now a.bytes.now a.stand.charged
 out w =
@@ -43,7 +43,7 @@ departs_at on {r = r} {after = after} e d = subst (λ (x : Totals). Departs (on 
 
 pub send-went-requires : goal.send-went-requires
 send-went-requires c =
-    (subst (λ (x : Totals). InFields (with-totals (goal.at.send-went-requires c).After-lent_64-wide x)) (out (goal.at.send-went-requires c).After-lent_64-wide) c.requires.0, c.requires.1, c.requires.2)
+    (subst (λ (x : Totals). InFields (with-totals (goal.at.send-went-requires c).Start x)) (out (goal.at.send-went-requires c).Start) c.requires.0, c.requires.1, c.requires.2)
 
 pub work_out-requires : goal.work_out-requires
 work_out-requires c =
@@ -54,11 +54,11 @@ work_out-requires c =
     λ on. (
       rules,
       c.requires.1,
-      light_near t rules a.packets.now (all (goal.at.work_out-requires c).After-lent_64-wide).room.packets near.0,
-      light_near t rules a.bytes.now (all (goal.at.work_out-requires c).After-lent_64-wide).room.bytes near.1,
+      light_near t rules a.packets.now (all (goal.at.work_out-requires c).Start).room.packets near.0,
+      light_near t rules a.bytes.now (all (goal.at.work_out-requires c).Start).room.bytes near.1,
     )
 
 pub returns : goal.returns
 returns c =
     rw (c.work_out.ensures.0, c.work_out.ensures.1)
-    (departs_at (with-totals (goal.at.returns c).After-lent_64-wide) (sym (out (goal.at.returns c).After-lent_64-wide)) c.send-went.ensures.departs)
+    (departs_at (with-totals (goal.at.returns c).Start) (sym (out (goal.at.returns c).Start)) c.send-went.ensures.departs)

@@ -22,22 +22,23 @@ pub bounds-tree-i-in-loop-i : goal.bounds-tree-i-in-loop-i
 bounds-tree-i-in-loop-i c = omega (arith, c.requires.few)
 
 pub offset_bounds-sums-p : goal.offset_bounds-sums-p
-offset_bounds-sums-p c = omega (arith, c.wide-p.ensures)
+offset_bounds-sums-p c = omega (arith, c.from-p.ensures)
 
 pub bounds-sums-p : goal.bounds-sums-p
-bounds-sums-p c = omega (arith, c.wide-p.ensures)
+bounds-sums-p c = omega (arith, c.from-p.ensures)
 
 pub plus-requires : goal.plus-requires
 plus-requires c =
     let t = c.args.tree in
     let i = c.loop-i.i in
-    let p = c.wide-p.result in
+    let p = c.from-p.result in
+    let below : p < 256 = omega arith in
     let fits : (get_or c.loop-i.sums p no_weight).0 + weight_of t i < 2 ^ 32 =
     omega (
       arith,
       c.requires.few,
       c.requires.light i (class_in_lem t i (omega (arith, c.loop-i-test.true)) c.loop-i.invariant.0),
-      c.loop-i.invariant.1.at p c.wide-p.ensures.1,
+      c.loop-i.invariant.1.at p below,
       sum_bound (of_child t (weight_of t) p) 1_000_000 t.count (λ k a b. child_light t (weight_of t) p k 1_000_000
           (c.requires.light k (class_in_lem t k a b))),
     )
@@ -45,21 +46,22 @@ plus-requires c =
     fits
 
 pub offset_bounds-sums-p-in-loop-i : goal.offset_bounds-sums-p-in-loop-i
-offset_bounds-sums-p-in-loop-i c = omega (arith, c.wide-p.ensures)
+offset_bounds-sums-p-in-loop-i c = omega (arith, c.from-p.ensures)
 
 pub bounds-sums-p-in-loop-i : goal.bounds-sums-p-in-loop-i
-bounds-sums-p-in-loop-i c = omega (arith, c.wide-p.ensures)
+bounds-sums-p-in-loop-i c = omega (arith, c.from-p.ensures)
 
 pub loop-i-preserved : goal.loop-i-preserved
 loop-i-preserved c =
     let t = c.args.tree in
     let i = c.loop-i.i in
-    let p = c.wide-p.result in
-    let e : parent_of t i ≡ p = sym c.wide-p.ensures.0 in (
+    let p = c.from-p.result in
+    let below : p < 256 = omega arith in
+    let e : parent_of t i ≡ p = sym c.from-p.ensures in (
       omega arith,
       sums_more t.count 256 (of_child t (weight_of t)) c.loop-i.sums i p (weight_of t i) c.plus.result c.loop-i.invariant.1
           (omega (arith, c.loop-i-test.true)) c.loop-i.invariant.0
-          c.wide-p.ensures.1 (rw e at (child_own t (weight_of t) i)) (λ k ne. child_other t (weight_of t) i k (λ z. ne (sym e ∙ z)))
+          below (rw e at (child_own t (weight_of t) i)) (λ k ne. child_other t (weight_of t) i k (λ z. ne (sym e ∙ z)))
           c.plus.ensures,
     )
 

@@ -6,6 +6,3 @@ use Rattle.tree.proofs.after_end.children_weights.Given as goal
 
 abbrev pub invariant-loop-i : goal.invariant-loop-i
 invariant-loop-i l = (l.i ≤ l.tree.count) × SumsAbove l.tree.count 256 (of_child l.tree (weight_of l.tree)) l.sums l.i
-
-abbrev pub decreases-loop-i : goal.decreases-loop-i
-decreases-loop-i l = l.i

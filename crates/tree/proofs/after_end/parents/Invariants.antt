@@ -9,6 +9,3 @@ use Rattle.tree.proofs.after_end.parents.Given as goal
 abbrev pub invariant-loop-child : goal.invariant-loop-child
 invariant-loop-child l =
     (1 ≤ l.child) × (l.child ≤ l.tree.count + 1) × ((p : ℕ) → p < 64 → has l.parents p ≡ some_to (is_child l.tree p) (l.child - 1))
-
-abbrev pub decreases-loop-child : goal.decreases-loop-child
-decreases-loop-child l = l.tree.count + 1 - l.child

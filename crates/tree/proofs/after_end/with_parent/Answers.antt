@@ -18,9 +18,10 @@ has_with s i k = go (ℕ_discrete k i)
     go (yes e) = rw (e, has_with_same s i, eq-eqb i i refl) (sym (or-true (has s i)))
     go (no e) = rw (has_with_other s i k e, ne_eqb i k (λ z. e (sym z))) (sym (or-false (has s k)))
 
-pub returns-then-p-ge-CLASSES : goal.returns-then-p-ge-CLASSES
-returns-then-p-ge-CLASSES c = λ p u. rw (ne_eqb c.args.parent p (λ e. omega (arith, e, u, c.if-p-ge-CLASSES.true)))
-    (sym (or-false (has c.args.parents p)))
+pub returns-then-p-lt-CLASSES : goal.returns-then-p-lt-CLASSES
+returns-then-p-lt-CLASSES c = λ p u. rw (c.with.ensures, c.from-p.ensures) (has_with _ _ p)
 
-pub returns : goal.returns
-returns c = λ p u. rw c.with.ensures (has_with _ _ p)
+pub returns-else-p-lt-CLASSES : goal.returns-else-p-lt-CLASSES
+returns-else-p-lt-CLASSES c = λ p u.
+    rw (ne_eqb c.args.parent p (λ e. omega (arith, e, u, c.from-p.ensures, c.if-p-lt-CLASSES.false)))
+    (sym (or-false (has c.args.parents p)))

@@ -5,15 +5,10 @@ use Rattle.tree.specs.Class.{is_leaf}
 use Rattle.tree.specs.Rules.{bad_parent}
 use Rattle.tree.proofs.class_rules.bad_parent.Goals as goal
 
-pub returns-then-i-p : goal.returns-then-i-p
+pub returns-then-i-parent : goal.returns-then-i-parent
 unfolding bad_parent
-returns-then-i-p c = λ t e p. rw (p, le-leb c.args.i c.args.parent (omega (arith, c.if-i-p.true)))
+returns-then-i-parent c = λ t e p. rw (p, le-leb _ _ c.if-i-parent.true)
 
-pub returns : goal.returns
+pub returns-else-i-parent : goal.returns-else-i-parent
 unfolding bad_parent is_leaf
-returns c = λ t e p. rw (
-  p,
-  e,
-  lt-leb c.args.i c.args.parent
-      (omega (arith, c.if-i-p.false)),
-) c.has.ensures
+returns-else-i-parent c = λ t e p. rw (p, e, lt-leb c.args.i c.args.parent (omega (arith, c.if-i-parent.false))) c.has.ensures

@@ -8,6 +8,6 @@ pub returns-then-weight-lt1 : goal.returns-then-weight-lt1
 unfolding bad_weight
 returns-then-weight-lt1 c = λ t i w. rw (w, lt-ltb _ _ c.if-weight-lt1.true) refl
 
-pub returns : goal.returns
+pub returns-else-weight-lt1 : goal.returns-else-weight-lt1
 unfolding bad_weight
-returns c = λ t i w. rw (w, le-ltb _ _ c.if-weight-lt1.false) refl
+returns-else-weight-lt1 c = λ t i w. rw (w, le-ltb _ _ c.if-weight-lt1.false) refl

@@ -18,10 +18,9 @@ said : (c : After-bad_longest-longest)
     c.args.i)
 unfolding is_leaf
 said c = (
-  c.bad_parent-parent.ensures _ refl refl,
-  c.bad_weight-weight.ensures _ _ refl,
-  c.bad_longest-longest.ensures _ _
-      (sym c.has.ensures) refl,
+  c.bad_parent-parent.ensures _ refl (sym c.from.ensures),
+  c.bad_weight-weight.ensures _ _ (sym c.from-2.ensures),
+  c.bad_longest-longest.ensures.0 _ _ (sym c.has.ensures) (sym c.from-3.ensures),
 )
 
 pub returns-then-parent : goal.returns-then-parent

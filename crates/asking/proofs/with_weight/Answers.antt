@@ -1,9 +1,0 @@
--- `with_weight` meets its contract.
-use native.Mathlib.Omega.{arith}
-use Rattle.asking.proofs.with_weight.Goals as goal
-
-pub returns-then-on : goal.returns-then-on
-returns-then-on c = rw c.if-on.true c.plus.ensures
-
-pub returns : goal.returns
-returns c = rw c.if-on.false (omega arith)
