@@ -1,17 +1,16 @@
--- `row::lay` meets its contract: the row takes the place of the numbers between the two places.
-use mathlib.Core.Path.{refl, ◌∙◌}
+-- `row::lay` meets its contract: one half of the row after the other.
+use mathlib.Core.Path.{sym, ap₂}
+use mathlib.Core.List.{[], ◌∷◌}
+use Prim.Native.Nat.{ℕ}
 use native.Mathlib.Omega.{arith}
-use Rattle.std.proofs.lemmas.Slice.{put_mid-paste}
-use Rattle.digits.proofs.Laying.{over_paste}
-use Rattle.answers.specs.Reply.{row_of}
+use Rattle.digits.proofs.Laying.{laid_as}
+use Rattle.answers.specs.Reply.{kind_number}
 use Rattle.answers.proofs.row.lay.Goals as goal
 
 pub returns : goal.returns
 returns c =
-    let a = c.args in
-    let row = row_of a.reply in (
-      refl,
-      put_mid-paste _ _ a.out.now _ row 8
-          (rw (c.copy_from_slice.ensures.after, c.number.ensures, c.number-2.ensures, c.place.ensures) refl) (omega arith) refl
-          ∙ over_paste a.at row a.out.now,
-    )
+    let r = c.args.reply in
+    let numbers = ap₂ (λ (n p : ℕ). kind_number r.kind ∷ n ∷ p ∷ r.class ∷ r.length ∷ r.tag ∷ r.bytes ∷ r.rounds ∷ [])
+    (sym c.number-number.ensures) (sym c.place-place.ensures) in
+    let first = rw c.number-kind.ensures at c.put_four-next.ensures in
+    laid_as _ _ _ _ _ _ _ _ _ numbers (omega arith) first c.put_four.ensures
