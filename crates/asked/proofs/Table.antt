@@ -41,7 +41,7 @@ good_taken [] a b h = tt
 good_taken (word ∷ words) a b h = go (pair_of word) (λ x. good_taken words x b) h
   where
     go : (p : Option (ℕ × ℕ)) → ((x : Asked) → heeded_all (Some x) words ≡ Some b → AllTaken words)
-        → heeded_all (heeded a p) words ≡ Some b → TakenPair p × AllTaken words
+        → heeded_all (heeded (Some a) p) words ≡ Some b → TakenPair p × AllTaken words
     go (Some (class, request)) rest g = (tt, rest (requested a class request) g)
     go None rest g = absurd (none-some b g)
 
@@ -55,7 +55,7 @@ pub taken_good : (words : List (List ℕ)) (a : Asked) → AllTaken words → Go
 taken_good [] a all = record { asked = a; is = refl }
 taken_good (word ∷ words) a all = go (pair_of word) (λ x. taken_good words x all.1) all.0
   where
-    go : (p : Option (ℕ × ℕ)) → ((x : Asked) → Good (heeded_all (Some x) words)) → TakenPair p → Good (heeded_all (heeded a p) words)
+    go : (p : Option (ℕ × ℕ)) → ((x : Asked) → Good (heeded_all (Some x) words)) → TakenPair p → Good (heeded_all (heeded (Some a) p) words)
     go (Some (class, request)) rest t = rest (requested a class request)
     go None rest t = absurd t
 
@@ -90,7 +90,7 @@ entry_last (word ∷ words) a b k few h = go (pair_of word) (λ x long. entry_la
     go : (p : Option (ℕ × ℕ))
         → ((x : Asked) → k < length x.requests → heeded_all (Some x) words ≡ Some b
         → get_or b.requests k 0 ≡ last_request k (get_or x.requests k 0) words)
-        → heeded_all (heeded a p) words ≡ Some b
+        → heeded_all (heeded (Some a) p) words ≡ Some b
         → get_or b.requests k 0 ≡ last_request k (request_after k (get_or a.requests k 0) p) words
     go (Some (class, request)) rest g =
         rest (requested a class request) (omega (arith, few, length-set a.requests class request)) g
@@ -103,7 +103,7 @@ same_capacity [] a b h = ap (λ (x : Asked). x.capacity) (sym (same_Some a b h))
 same_capacity (word ∷ words) a b h = go (pair_of word) (λ x. same_capacity words x b) h
   where
     go : (p : Option (ℕ × ℕ)) → ((x : Asked) → heeded_all (Some x) words ≡ Some b → b.capacity ≡ x.capacity)
-        → heeded_all (heeded a p) words ≡ Some b → b.capacity ≡ a.capacity
+        → heeded_all (heeded (Some a) p) words ≡ Some b → b.capacity ≡ a.capacity
     go (Some (class, request)) rest g = rest (requested a class request) g
     go None rest g = absurd (none-some b g)
 

@@ -16,15 +16,16 @@ begun_by None = None
 abbrev pub requested : Asked → ℕ → ℕ → Asked
 requested asked class request = record { capacity = asked.capacity; requests = set asked.requests class request }
 
-abbrev pub heeded : Asked → Option (ℕ × ℕ) → Option Asked
-heeded asked (Some (class, request)) = Some (requested asked class request)
-heeded asked None = None
+abbrev pub heeded : Option Asked → Option (ℕ × ℕ) → Option Asked
+heeded None pair = None
+heeded (Some asked) (Some (class, request)) = Some (requested asked class request)
+heeded (Some asked) None = None
 
 -- the words after the first, in order (R179)
 abbrev pub heeded_all : Option Asked → List (List ℕ) → Option Asked
 heeded_all None words = None
 heeded_all (Some asked) [] = Some asked
-heeded_all (Some asked) (word ∷ words) = heeded_all (heeded asked (pair_of word)) words
+heeded_all (Some asked) (word ∷ words) = heeded_all (heeded (Some asked) (pair_of word)) words
 
 -- all the words (R176, R181)
 abbrev pub asked_by : List (List ℕ) → Option Asked

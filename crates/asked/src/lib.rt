@@ -47,12 +47,13 @@ fn requested(mut asked: Asked, class: usize, request: u64) -> Asked
     asked
 }
 
-// Each other word: a class and its request; nothing is asked where it is not taken.
-pub fn heed(asked: Asked, word: &[u8]) -> Option<Asked>
+// Each other word: a class and its request; nothing is asked where it is not taken, nor where nothing was asked before it.
+pub fn heed(asked: Option<Asked>, word: &[u8]) -> Option<Asked>
     ensures { result ≡ heeded asked (pair_of word.now) }
 {
+    let before = asked?;
     match words::read_pair(word) {
-        Some((class, request)) => Some(requested(asked, class, request)),
+        Some((class, request)) => Some(requested(before, class, request)),
         None => None,
     }
 }

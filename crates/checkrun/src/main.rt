@@ -25,6 +25,18 @@ struct At {
     from: usize,
 }
 
+impl At {
+    // The next window begins with what the last one's entries left.
+    fn moved_on(self) -> At
+        ensures { result.from ≡ 0 }
+    {
+        At {
+            check: self.check,
+            from: 0,
+        }
+    }
+}
+
 // Where a check goes on; where it has ended, what it gives is printed.
 fn stands(rt: &impl Print, check: Checked, from: usize, last: bool) -> io::Result<Option<At>>
     ensures { IfOk result (λ o. IfSome o (λ (r : At). r.from ≡ from)) }
@@ -67,11 +79,7 @@ fn main(rt: HostRuntime) -> io::Result<()> {
         };
         let kept = stream::carry(&mut window, next.from, n);
         n = shown::read_after(&rt, &mut window, kept)?;
-        // The next window begins with what the last one's entries left.
-        at = At {
-            check: next.check,
-            from: 0,
-        };
+        at = next.moved_on();
     }
     Ok(())
 }

@@ -56,11 +56,15 @@ module _ (input : List ℕ) (room : ℕ) where
     unfolding turn_at
     call_there x on = call_is _ (event_at (drop t.place input) t.place) x (sym (ap (λ (y : Turn). y.call) is) ∙ on)
 
-    turn_calls : (l m : Link) (line : Line) (x : Event) → t.call ≡ Some x → Called l x line m
+    call_read : (x : Event) → t.call ≡ Some x → t.read ≡ Ok (Some x)
+    unfolding turn_at
+    call_read x on = ap (λ (y : Turn). y.read) is ∙ (call_there x on).1
+
+    turn_goes : (l m : Link) (line : Line) (x : Event) → t.read ≡ Ok (Some x) → Called l x line m
         → GoesOn l input t.place (gone_on line m t.after)
     unfolding turn_at
-    turn_calls l m line x on called =
-        let there = (call_there x on).1 in
+    turn_goes l m line x read called =
+        let there : event_at (drop t.place input) t.place ≡ Ok (Some x) = sym (ap (λ (y : Turn). y.read) is) ∙ read in
         let after : t.after ≡ t.place + used_of (Ok (Some x)) =
         ap (λ (y : Turn). y.after) is ∙ ap (λ (e : EventRead). t.place + used_of e) there in
         subst (λ (n : ℕ). GoesOn l input t.place (gone_on line m n)) (sym after)
@@ -114,10 +118,15 @@ module _ (first : Link) (input : List ℕ) (place : ℕ) (before : List ℕ) whe
     pub serving_within : t.laid ≤ length now
     serving_within = omega (arith, s.laying.within, s.laying.long)
 
+    -- an event that was read, whether there is room for its line or not
+    pub event_goes : (m : Link) (line : Line) (x : Event) → t.read ≡ Ok (Some x) → Called l x line m
+        → GoesOn l input t.place (gone_on line m t.after)
+    event_goes m line x = turn_goes input (length before) t s.comes l m line x
+
     -- a call
     pub call_goes : (m : Link) (line : Line) (x : Event) → t.call ≡ Some x → Called l x line m
         → GoesOn l input t.place (gone_on line m t.after)
-    call_goes m line x = turn_calls input (length before) t s.comes l m line x
+    call_goes m line x on = event_goes m line x (call_read input (length before) t s.comes x on)
 
     -- its line is laid, and the next event is read
     module _ (m : Link) (line : Line) (r : Turn) (next : List ℕ) (x : Event) (on : t.call ≡ Some x)

@@ -24,7 +24,7 @@ fn refuse(stderr: &impl Print, i: usize, word: &[u8]) -> io::Result<()> {
 fn with_word(asked: Option<Asked>, word: &[u8]) -> Option<Asked> {
     match asked {
         None => asked::open(word),
-        Some(before) => asked::heed(before, word),
+        Some(_) => asked::heed(asked, word),
     }
 }
 

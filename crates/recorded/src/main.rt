@@ -28,7 +28,9 @@ impl Tally {
     }
 
     // One byte more; it may end a line.
-    fn add_byte(&mut self, byte: u8) {
+    fn add_byte(&mut self, byte: u8)
+        ensures { self.new.sum < 4_294_967_291 }
+    {
         if byte == b'\n' {
             self.lines = self.lines % 1_000_000 + 1;
         }

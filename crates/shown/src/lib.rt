@@ -1,10 +1,11 @@
 // A line of a run, a word or a number, printed on standard output, and on standard error the message for a word that a program does not
-// take: every program prints them here, and reads its input and counts its words here too. Entries for callers outside: they ask nothing.
+// take: every program prints them here, and reads its input and counts its words here too. Entries for callers outside: they ask
+// nothing, but `read_after`, that the buffer holds so much, and `with_input` and `with_whole`, that the closure may be called.
 // What was read or written no contract can say; the bytes of a line are those of `lines::lay`, and the answer is how many they are. An
 // error is that of the read or the write that failed; nothing is read or printed after it.
 #![tactic(auto)]
 
-ghost use Rattle.std.specs.Prelude.{◌≡◌, ◌≤◌, length, IfOk};
+ghost use Rattle.std.specs.Prelude.{◌≡◌, ◌≤◌, length, take, IfOk};
 ghost use Rattle.io.specs.Counts.{IsPrefixLen};
 ghost use Rattle.lines.specs.Line.{bytes_of};
 
@@ -23,7 +24,9 @@ pub const WINDOWS: u64 = 140_737_488_355_328;
 // Reads standard input behind the first bytes of a buffer, until it is full or the input ends, and answers how many bytes it then holds.
 pub fn read_after(rt: &impl Input, buf: &mut [u8], held: usize) -> io::Result<usize>
     requires { held ≤ length buf.old }
-    ensures { IfOk result (λ n. IsPrefixLen n buf.new) }
+    ensures within { IfOk result (λ n. IsPrefixLen n buf.new) }
+    ensures after { IfOk result (λ n. held ≤ n) }
+    ensures kept { take held buf.new ≡ take held buf.old }
 {
     let mut reader = rt.reader();
     let mut done = held;

@@ -4,7 +4,7 @@ ghost use Rattle.std.specs.Prelude.{◌≡◌, ℕ, ◌<◌, List, length, if◌
 ghost use Rattle.state.specs.Account.{account_of, balance_of, residual_of, zip_accounts};
 ghost use Rattle.tree.specs.Sum.{table};
 
-use crate::Account;
+use crate::{Account, Link};
 use units::Bytes;
 
 // The account of a class.
@@ -37,17 +37,26 @@ pub fn keep_balance(i: usize, account: Account, balance: &mut [u64; 64])
     balance[i] = account.balance.0;
 }
 
-// The balances of the accounts, and their residuals.
+// The balances of the accounts, and their residuals. Loops, and no `map`: a `map` of an array moves it whole, several times, and each call on
+// a record by itself goes through both (docs/DESIGN-PASS.md).
 pub fn balances(accounts: [Account; 64]) -> [u64; 64]
     ensures { result ≡ table (balance_of accounts) 64 }
 {
-    accounts.map(|account| account.balance.0)
+    let mut out = [0u64; 64];
+    for i in 0..Link::CLASSES {
+        out[i] = accounts[i].balance.0;
+    }
+    out
 }
 
 pub fn residuals(accounts: [Account; 64]) -> [u64; 64]
     ensures { result ≡ table (residual_of accounts) 64 }
 {
-    accounts.map(|account| account.residual.0)
+    let mut out = [0u64; 64];
+    for i in 0..Link::CLASSES {
+        out[i] = accounts[i].residual.0;
+    }
+    out
 }
 
 // And the accounts of both.

@@ -11,4 +11,5 @@ returns-clause-place c =
     let found =
     IsFirst-from_position _ _ c.position.result (λ b. b ≡ a.byte) (λ b. b ≡ a.byte → ⊥) c.position.ensures.ran (YieldsList-from_slice text cc)
     (λ x q k. search (rules, tests)) (λ x q k. search (rules, tests)) in
-    c.unwrap_or.ensures ∙ place_is a.byte text c.position.result found
+    let stops = place_is a.byte text c.position.result found in
+    search (rules, tests)
