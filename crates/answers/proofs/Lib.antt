@@ -2,3 +2,5 @@
 pub mod Events
 pub mod Bursts
 pub mod Lent
+pub mod KindLaws
+pub mod Listed

@@ -3,7 +3,7 @@ use Rattle.std.specs.Prelude.{List, [], ◌∷◌, ◌++◌, ℕ}
 use Rattle.checks.specs.Check.{number_of, place_of, Verdict}
 use Rattle.calls.specs.Run.{arrival, send, Made, made}
 use Rattle.answers.specs.declared.Kind.{Kind}
-use Rattle.answers.specs.declared.Kind.TheVariants.{Last, Arrival, Send}
+use Rattle.answers.specs.declared.Kind.TheVariants.{Last, Arrival, Send, Other}
 use Rattle.answers.specs.declared.Reply.{Reply}
 
 -- the number of each kind: those of the events, and 0 of one that is no call (R339)
@@ -11,6 +11,7 @@ abbrev pub kind_number : Kind → ℕ
 kind_number Last = 0
 kind_number Arrival = 16
 kind_number Send = 17
+kind_number (Other other) = other.number
 
 -- of an arrival: its verdict, its class, length and tag as they came, and the charged bytes then waiting in its leaf; of a send: its
 -- verdict, the class, the length and the tag of the packet that goes, what it waited, and the rounds opened. The kinds are those of the

@@ -6,6 +6,7 @@
 pub mod call;
 pub mod event;
 pub mod lent_arrays;
+mod other_kind;
 pub mod row;
 
 ghost use Rattle.checks.specs.declared.Refusal.TheVariants.{NotSound};
@@ -19,6 +20,7 @@ ghost use Rattle.answers.specs.Steps.{Laid, ended_by, Told, Served};
 
 use checks::{Refusal, Refused, Verdict};
 use event::Heard;
+pub use other_kind::OtherKind;
 use row::ROW;
 use state::Link;
 use steps::Stand;
@@ -28,9 +30,11 @@ use units::Bytes;
 // malformed.
 #[derive(Clone, Copy, Debug, PartialEq, Eq)]
 pub enum Kind {
-    Last = 0,
-    Arrival = 16,
-    Send = 17,
+    Last,
+    Arrival,
+    Send,
+    // What a caller made up: no event has it.
+    Other(OtherKind),
 }
 
 impl Kind {
@@ -38,7 +42,24 @@ impl Kind {
     pub fn number(self) -> u64
         ensures { result ≡ kind_number self }
     {
-        self as u64
+        match self {
+            Kind::Last => 0,
+            Kind::Arrival => 16,
+            Kind::Send => 17,
+            Kind::Other(other) => other.number,
+        }
+    }
+
+    // The kind that has a number.
+    pub fn of(n: u64) -> Kind
+        ensures { kind_number result ≡ n }
+    {
+        match n {
+            0 => Kind::Last,
+            16 => Kind::Arrival,
+            17 => Kind::Send,
+            _ => Kind::Other(OtherKind { number: n }),
+        }
     }
 }
 

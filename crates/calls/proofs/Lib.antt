@@ -5,3 +5,4 @@ pub mod FreshLinks
 pub mod Progress
 pub mod Runs
 pub mod Panels
+pub mod Listed

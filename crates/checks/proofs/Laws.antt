@@ -5,10 +5,12 @@ use mathlib.Core.Logic.{◌⊎◌, inl, inr}
 use mathlib.Core.Path.{◌≡◌, refl, sym, ap, ap₂, ◌∙◌}
 use Prim.Native.Nat.{ℕ, zero, suc, ◌+◌, ◌-◌, ◌≤◌, ◌<◌}
 use native.Mathlib.Decide.{dec_le}
+use native.Mathlib.Bridge.{le_prop}
 use native.Mathlib.Omega.{arith}
 use Rattle.checks.specs.declared.Refusal.{Refusal}
 use Rattle.checks.specs.declared.Refusal.TheVariants.{Cut, UnknownKind, TooMany, BadParent, BadWeight, BadLongest, TooHeavy, Childless, NoClass, TooLong, NotSound}
-use Rattle.checks.specs.declared.Refusal.TheVariants.{NoLeaf, BadLength, Full, NothingWaits, NoRoom, BadRule, LateRule, Unpaired, BadCapacity, BadRequest, NeedsMore}
+use Rattle.checks.specs.declared.Refusal.TheVariants.{NoLeaf, BadLength, Full, NothingWaits, NoRoom, BadRule, LateRule, Unpaired, BadCapacity, BadRequest, NeedsMore, Other}
+use Rattle.checks.specs.declared.unlisted.Unlisted.{Unlisted, beyond-type}
 use Rattle.checks.specs.declared.Refused.{Refused}
 use Rattle.std.specs.Prelude.{Ok, Err, slice_index_or}
 use Rattle.checks.specs.Check.{number, Check, first_broken, class_by_class, Exactly, Verdict, refusal_at}
@@ -194,30 +196,57 @@ all_refusals = Cut ∷ UnknownKind ∷ TooMany ∷ BadParent ∷ BadWeight ∷ B
 with_number : ℕ → Refusal
 with_number n = slice_index_or all_refusals (n - 1) Cut
 
-told_by_number : (r : Refusal) → with_number (number r) ≡ r
+-- one of the 22, or another number
+told_by_number : (r : Refusal) → ((with_number (number r) ≡ r) × (1 ≤ number r) × (number r ≤ 22)) ⊎ ((u : Unlisted) × (r ≡ Other u))
 unfolding with_number all_refusals
-told_by_number Cut = refl
-told_by_number UnknownKind = refl
-told_by_number TooMany = refl
-told_by_number BadParent = refl
-told_by_number BadWeight = refl
-told_by_number BadLongest = refl
-told_by_number TooHeavy = refl
-told_by_number Childless = refl
-told_by_number NoClass = refl
-told_by_number TooLong = refl
-told_by_number NotSound = refl
-told_by_number NoLeaf = refl
-told_by_number BadLength = refl
-told_by_number Full = refl
-told_by_number NothingWaits = refl
-told_by_number NoRoom = refl
-told_by_number BadRule = refl
-told_by_number LateRule = refl
-told_by_number Unpaired = refl
-told_by_number BadCapacity = refl
-told_by_number BadRequest = refl
-told_by_number NeedsMore = refl
+told_by_number Cut = inl (refl, omega arith, omega arith)
+told_by_number UnknownKind = inl (refl, omega arith, omega arith)
+told_by_number TooMany = inl (refl, omega arith, omega arith)
+told_by_number BadParent = inl (refl, omega arith, omega arith)
+told_by_number BadWeight = inl (refl, omega arith, omega arith)
+told_by_number BadLongest = inl (refl, omega arith, omega arith)
+told_by_number TooHeavy = inl (refl, omega arith, omega arith)
+told_by_number Childless = inl (refl, omega arith, omega arith)
+told_by_number NoClass = inl (refl, omega arith, omega arith)
+told_by_number TooLong = inl (refl, omega arith, omega arith)
+told_by_number NotSound = inl (refl, omega arith, omega arith)
+told_by_number NoLeaf = inl (refl, omega arith, omega arith)
+told_by_number BadLength = inl (refl, omega arith, omega arith)
+told_by_number Full = inl (refl, omega arith, omega arith)
+told_by_number NothingWaits = inl (refl, omega arith, omega arith)
+told_by_number NoRoom = inl (refl, omega arith, omega arith)
+told_by_number BadRule = inl (refl, omega arith, omega arith)
+told_by_number LateRule = inl (refl, omega arith, omega arith)
+told_by_number Unpaired = inl (refl, omega arith, omega arith)
+told_by_number BadCapacity = inl (refl, omega arith, omega arith)
+told_by_number BadRequest = inl (refl, omega arith, omega arith)
+told_by_number NeedsMore = inl (refl, omega arith, omega arith)
+told_by_number (Other u) = inr (u, refl)
+
+same_beyond : (n : ℕ) → IsProp (beyond-type n)
+same_beyond n = hlevel le_prop
+
+same_unlisted : {u v : Unlisted} → u.number ≡ v.number → u ≡ v
+same_unlisted {u} {v} e = go u.number v.number e u.beyond v.beyond
+  where
+    go : (n m : ℕ) → n ≡ m → (b : beyond-type n) (c : beyond-type m)
+        → ◌≡◌ {A = Unlisted} (record { number = n; beyond = b }) (record { number = m; beyond = c })
+    go n m e = rw e (λ b c. ap (λ (x : beyond-type m). record { number = m; beyond = x }) (same_beyond m b c))
 
 pub one_number : {r s : Refusal} → number r ≡ number s → r ≡ s
-one_number {r} {s} e = sym (told_by_number r) ∙ ap with_number e ∙ told_by_number s
+one_number {r} {s} e = go (told_by_number r) (told_by_number s)
+  where
+    Told : Refusal → Type 0
+    Told r = ((with_number (number r) ≡ r) × (1 ≤ number r) × (number r ≤ 22)) ⊎ ((u : Unlisted) × (r ≡ Other u))
+
+    go : Told r → Told s → r ≡ s
+    go (inl a) (inl b) = sym a.0 ∙ ap with_number e ∙ b.0
+    go (inl a) (inr b) =
+        let n : number r ≡ b.0.number = e ∙ ap number b.1 in
+        let beyond = b.0.beyond (omega arith) in
+        absurd (omega arith)
+    go (inr a) (inl b) =
+        let n : number s ≡ a.0.number = sym e ∙ ap number a.1 in
+        let beyond = a.0.beyond (omega arith) in
+        absurd (omega arith)
+    go (inr a) (inr b) = a.1 ∙ ap Other (same_unlisted (sym (ap number a.1) ∙ e ∙ ap number b.1)) ∙ sym b.1

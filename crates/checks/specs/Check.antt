@@ -1,9 +1,9 @@
 -- Checks in a fixed order (R4 to R7): the first that is broken gives its number and its place. Demand 1.
-use Rattle.std.specs.Prelude.{Bool, true, false, List, [], ◌∷◌, ◌++◌, ◌≡◌, ℕ, zero, suc, ltb, Result, Ok, Err}
+use Rattle.std.specs.Prelude.{Bool, true, false, List, [], ◌∷◌, ◌++◌, ◌≡◌, ◌≤◌, ⊤, ℕ, zero, suc, ltb, Result, Ok, Err}
 use Rattle.checks.specs.declared.Refusal.{Refusal}
 use Rattle.checks.specs.declared.Refusal.TheVariants.{Cut, UnknownKind, TooMany, BadParent, BadWeight, BadLongest, TooHeavy, Childless, NoClass}
 use Rattle.checks.specs.declared.Refusal.TheVariants.{TooLong, NotSound, NoLeaf, BadLength, Full, NothingWaits, NoRoom, BadRule, LateRule}
-use Rattle.checks.specs.declared.Refusal.TheVariants.{Unpaired, BadCapacity, BadRequest, NeedsMore}
+use Rattle.checks.specs.declared.Refusal.TheVariants.{Unpaired, BadCapacity, BadRequest, NeedsMore, Other}
 use Rattle.checks.specs.declared.Refused.{Refused}
 
 -- the number of each refusal (R4; docs/refusals.md)
@@ -30,6 +30,7 @@ number Unpaired = 19
 number BadCapacity = 20
 number BadRequest = 21
 number NeedsMore = 22
+number (Other unlisted) = unlisted.number
 
 -- what is refused, and the place of what breaks the rule (R4)
 abbrev pub refusal_at : Refusal → ℕ → Refused
@@ -52,6 +53,11 @@ place_of (Err e) = e.1
 abbrev pub passed : Verdict → Bool
 passed (Ok _) = true
 passed (Err _) = false
+
+-- what is refused, if anything, is one of the 22 that docs/refusals.md tells of (R4)
+abbrev pub Listed : Verdict → Type 0
+Listed (Ok _) = ⊤
+Listed (Err e) = (1 ≤ number e.0) × (number e.0 ≤ 22)
 
 -- a check: whether it is broken here, what is refused then, and the place it names (R5)
 pub record Check : Type 0 where

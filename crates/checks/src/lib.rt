@@ -2,55 +2,61 @@
 // Serves demand 1: a refusal is a number and a place, for the first check that fails.
 #![tactic(auto)]
 
+mod unlisted;
+
 ghost use Rattle.std.specs.Prelude.{◌≡◌};
 ghost use Rattle.checks.specs.Check.{number, number_of, place_of, first_broken, input_checks};
+
+pub use unlisted::Unlisted;
 
 // What is refused; each has the number that docs/refusals.md tells of (R7).
 #[derive(Clone, Copy, Debug, PartialEq, Eq)]
 pub enum Refusal {
     // The input ends before the kind byte, or inside a body.
-    Cut = 1,
-    UnknownKind = 2,
+    Cut,
+    UnknownKind,
     // A 64th class record.
-    TooMany = 3,
+    TooMany,
     // Parent not lower than the class, or a leaf.
-    BadParent = 4,
+    BadParent,
     // Weight outside its range.
-    BadWeight = 5,
+    BadWeight,
     // Longest outside its range.
-    BadLongest = 6,
+    BadLongest,
     // Children's weights exceed their inner parent's.
-    TooHeavy = 7,
+    TooHeavy,
     // Inner class without a child.
-    Childless = 8,
+    Childless,
     // No class at all.
-    NoClass = 9,
+    NoClass,
     // The program's input exceeds 65,536 bytes.
-    TooLong = 10,
+    TooLong,
     // The state is not sound.
-    NotSound = 11,
+    NotSound,
     // The class is not a leaf of the plan.
-    NoLeaf = 12,
+    NoLeaf,
     // Length 0 or above the leaf's longest.
-    BadLength = 13,
+    BadLength,
     // That leaf already holds 32 packets.
-    Full = 14,
+    Full,
     // Send, and no packet waits.
-    NothingWaits = 15,
+    NothingWaits,
     // The buffer is shorter than the plan.
-    NoRoom = 16,
+    NoRoom,
     // Rule byte not 1 or 2.
-    BadRule = 17,
+    BadRule,
     // A rule record anywhere but first.
-    LateRule = 18,
+    LateRule,
     // A send of a recording without its claim, or a claim without its send.
-    Unpaired = 19,
+    Unpaired,
     // The capacity is outside its range.
-    BadCapacity = 20,
+    BadCapacity,
     // A leaf's request is outside its range.
-    BadRequest = 21,
+    BadRequest,
     // An inner class would need a weight above its range to be mended.
-    NeedsMore = 22,
+    NeedsMore,
+    // What a caller made up: no check refuses with it.
+    Other(Unlisted),
 }
 
 // What is refused, and the place of what breaks the rule.
@@ -65,7 +71,62 @@ impl Refusal {
     pub fn number(self) -> u8
         ensures { result ≡ number self }
     {
-        self as u8
+        match self {
+            Refusal::Cut => 1,
+            Refusal::UnknownKind => 2,
+            Refusal::TooMany => 3,
+            Refusal::BadParent => 4,
+            Refusal::BadWeight => 5,
+            Refusal::BadLongest => 6,
+            Refusal::TooHeavy => 7,
+            Refusal::Childless => 8,
+            Refusal::NoClass => 9,
+            Refusal::TooLong => 10,
+            Refusal::NotSound => 11,
+            Refusal::NoLeaf => 12,
+            Refusal::BadLength => 13,
+            Refusal::Full => 14,
+            Refusal::NothingWaits => 15,
+            Refusal::NoRoom => 16,
+            Refusal::BadRule => 17,
+            Refusal::LateRule => 18,
+            Refusal::Unpaired => 19,
+            Refusal::BadCapacity => 20,
+            Refusal::BadRequest => 21,
+            Refusal::NeedsMore => 22,
+            Refusal::Other(unlisted) => unlisted.number,
+        }
+    }
+
+    // The refusal that has a number.
+    pub fn of(n: u8) -> Refusal
+        ensures { number result ≡ n }
+    {
+        match n {
+            1 => Refusal::Cut,
+            2 => Refusal::UnknownKind,
+            3 => Refusal::TooMany,
+            4 => Refusal::BadParent,
+            5 => Refusal::BadWeight,
+            6 => Refusal::BadLongest,
+            7 => Refusal::TooHeavy,
+            8 => Refusal::Childless,
+            9 => Refusal::NoClass,
+            10 => Refusal::TooLong,
+            11 => Refusal::NotSound,
+            12 => Refusal::NoLeaf,
+            13 => Refusal::BadLength,
+            14 => Refusal::Full,
+            15 => Refusal::NothingWaits,
+            16 => Refusal::NoRoom,
+            17 => Refusal::BadRule,
+            18 => Refusal::LateRule,
+            19 => Refusal::Unpaired,
+            20 => Refusal::BadCapacity,
+            21 => Refusal::BadRequest,
+            22 => Refusal::NeedsMore,
+            _ => Refusal::Other(Unlisted { number: n }),
+        }
     }
 }
 

@@ -8,3 +8,4 @@ pub mod Accepted
 pub mod InParts
 pub mod InPlace
 pub mod Worked
+pub mod Listed

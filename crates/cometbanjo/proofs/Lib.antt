@@ -2,3 +2,4 @@
 pub mod Calling
 pub mod Outcomes
 pub mod Runs
+pub mod Listed

@@ -5,3 +5,4 @@ pub mod Answers
 pub mod Theorems
 pub mod Worked
 pub mod Written
+pub mod Listed

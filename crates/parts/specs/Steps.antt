@@ -10,7 +10,7 @@ use Rattle.lines.specs.Line.{bytes_of, line_room}
 use Rattle.digits.specs.Laid.{LaidAt}
 use Rattle.run.specs.Event.{arrival_says}
 use Rattle.answers.specs.declared.Kind.{Kind}
-use Rattle.answers.specs.declared.Kind.TheVariants.{Last, Arrival, Send}
+use Rattle.answers.specs.declared.Kind.TheVariants.{Last, Arrival, Send, Other}
 use Rattle.answers.specs.declared.Reply.{Reply}
 use Rattle.parts.specs.declared.PartRun.{PartRun}
 use Rattle.parts.specs.Part.{Parts}
@@ -38,6 +38,7 @@ abbrev pub kind_says : Kind → Reply → ℕ → Line
 kind_says Arrival r waiting = arrival_says r.verdict r.class (packet_with r.length r.tag) r.bytes
 kind_says Send r waiting = gone_says r.verdict r.class r.length r.tag r.rounds r.bytes
 kind_says Last r waiting = end_says r.verdict waiting
+kind_says (Other _) r waiting = end_says r.verdict waiting
 
 abbrev pub reply_says : Reply → ℕ → Line
 reply_says r waiting = kind_says r.kind r waiting

@@ -97,7 +97,7 @@ fn lay_reply(reply: Reply, waiting: u64, at: usize, out: &mut [u8]) -> usize
             at,
             out,
         ),
-        Kind::Last => lay_last(verdict, waiting, at, out),
+        Kind::Last | Kind::Other(_) => lay_last(verdict, waiting, at, out),
     }
 }
 

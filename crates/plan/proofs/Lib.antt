@@ -6,3 +6,4 @@ pub mod Longer
 pub mod EntryLaws
 pub mod Lying
 pub mod Told
+pub mod Listed

@@ -9,3 +9,4 @@ pub mod Changes
 pub mod ByParent
 pub mod AfterEnd
 pub mod Growth
+pub mod Listed
