@@ -2,3 +2,4 @@
 pub mod Judging
 pub mod Answers
 pub mod Wholes
+pub mod Listed
