@@ -1,21 +1,15 @@
 -- A number tells its kind of events: no two have the same (R339). Demand 1.
 use mathlib.Core.Path.{◌≡◌, refl, sym, ap}
-use Prim.Native.Nat.{ℕ}
 use native.Mathlib.Omega.{arith}
+use Rattle.checks.proofs.Laws.{same_by_number}
 use Rattle.answers.specs.declared.Kind.{Kind}
 use Rattle.answers.specs.declared.Kind.TheVariants.{Last, Arrival, Send, Other}
 use Rattle.answers.specs.declared.other_kind.OtherKind.{OtherKind, no_event-type}
 use Rattle.answers.specs.Reply.{kind_number}
 
-same_no_event : (n : ℕ) → IsProp (no_event-type n)
-same_no_event n = hlevel
-
 same_other : {a b : OtherKind} → a.number ≡ b.number → a ≡ b
-same_other {a} {b} e = go a.number b.number e a.no_event b.no_event
-  where
-    go : (n m : ℕ) → n ≡ m → (h : no_event-type n) (k : no_event-type m)
-        → ◌≡◌ {A = OtherKind} (record { number = n; no_event = h }) (record { number = m; no_event = k })
-    go n m e = rw e (λ h k. ap (λ (x : no_event-type m). record { number = m; no_event = x }) (same_no_event m h k))
+same_other {a} {b} e =
+    same_by_number {P = no_event-type} {T = OtherKind} (λ n h. record { number = n; no_event = h }) (λ n. hlevel) e a.no_event b.no_event
 
 pub one_kind : {a b : Kind} → kind_number a ≡ kind_number b → a ≡ b
 one_kind {a} {b} e = go a b e

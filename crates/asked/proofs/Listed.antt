@@ -1,6 +1,6 @@
 -- A question about rates is refused, if at all, with one of the 22 that docs/refusals.md tells of (R4). Demand 1.
 use mathlib.Core.List.{List}
-use Prim.Native.Nat.{ℕ, ◌≤◌}
+use Prim.Native.Nat.{ℕ}
 use native.Mathlib.Omega.{arith}
 use Rattle.std.specs.Prelude.{length, Ok, Err}
 use Rattle.checks.specs.Check.{first_broken, input_checks, Verdict, Listed}

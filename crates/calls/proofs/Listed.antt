@@ -1,7 +1,6 @@
 -- What a call is refused with is one of the 22 that docs/refusals.md tells of, on any link and whatever is handed in (R4). Demand 1.
 use mathlib.Core.Bool.{Bool, true, false}
-use mathlib.Core.Path.{◌≡◌, refl, sym, ap}
-use Prim.Native.Nat.{ℕ, ◌≤◌}
+use Prim.Native.Nat.{ℕ}
 use native.Mathlib.Omega.{arith}
 use Rattle.std.specs.Prelude.{Ok, Err}
 use Rattle.checks.specs.Check.{first_broken, Verdict, Listed}
@@ -47,23 +46,23 @@ send_of_listed sound l =
 pub send_listed : {l : Link} {r : AfterSend} → Sends l r → Listed r.answer.verdict
 send_listed {l} {r} a = rw a.answer (send_of_listed a.sound l)
 
+pub fresh_of_listed : (obeys : Bool) (t : Tree) → Listed (fresh_of obeys t).verdict
+fresh_of_listed true t = tt
+fresh_of_listed false t = (omega arith, omega arith)
+
 pub fresh_listed : {t : Tree} {r : AfterFresh} → MakesFresh t r → Listed r.verdict
-fresh_listed {t} {r} a = rw a.answer (go a.obeys)
-  where
-    go : (b : Bool) → Listed (fresh_of b t).verdict
-    go true = tt
-    go false = (omega arith, omega arith)
+fresh_listed {t} {r} a = rw a.answer (fresh_of_listed a.obeys t)
+
+panel_gives_listed : (sound : Bool) (l : Link) → Listed (panel_gives sound l).verdict
+panel_gives_listed true l = tt
+panel_gives_listed false l = (omega arith, omega arith)
 
 pub totals_listed : {l : Link} {r : PanelTotals} → TellsTotals l r → Listed r.verdict
-totals_listed {l} {r} a = rw a.answer (go a.sound)
-  where
-    go : (b : Bool) → Listed (panel_gives b l).verdict
-    go true = tt
-    go false = (omega arith, omega arith)
+totals_listed {l} {r} a = rw a.answer (panel_gives_listed a.sound l)
 
-pub class_listed : {l : Link} {i : ℕ} {r : ClassTotals} → TellsClass l i r → Listed r.verdict
-class_listed {l} {i} {r} a = rw a.answer (go a.sound)
-  where
-    go : (b : Bool) → Listed (class_gives b l i).verdict
-    go true = tt
-    go false = (omega arith, omega arith)
+class_gives_listed : (sound : Bool) (l : Link) (i : ℕ) → Listed (class_gives sound l i).verdict
+class_gives_listed true l i = tt
+class_gives_listed false l i = (omega arith, omega arith)
+
+pub class_totals_listed : {l : Link} {i : ℕ} {r : ClassTotals} → TellsClass l i r → Listed r.verdict
+class_totals_listed {l} {i} {r} a = rw a.answer (class_gives_listed a.sound l i)

@@ -193,11 +193,11 @@ broken_or_later c cs {n} {p} e = go c.broken refl
 all_refusals : List Refusal
 all_refusals = Cut ∷ UnknownKind ∷ TooMany ∷ BadParent ∷ BadWeight ∷ BadLongest ∷ TooHeavy ∷ Childless ∷ NoClass ∷ TooLong ∷ NotSound ∷ NoLeaf ∷ BadLength ∷ Full ∷ NothingWaits ∷ NoRoom ∷ BadRule ∷ LateRule ∷ Unpaired ∷ BadCapacity ∷ BadRequest ∷ NeedsMore ∷ []
 
-with_number : ℕ → Refusal
+pub with_number : ℕ → Refusal
 with_number n = slice_index_or all_refusals (n - 1) Cut
 
 -- one of the 22, or another number
-told_by_number : (r : Refusal) → ((with_number (number r) ≡ r) × (1 ≤ number r) × (number r ≤ 22)) ⊎ ((u : Unlisted) × (r ≡ Other u))
+pub told_by_number : (r : Refusal) → ((with_number (number r) ≡ r) × (1 ≤ number r) × (number r ≤ 22)) ⊎ ((u : Unlisted) × (r ≡ Other u))
 unfolding with_number all_refusals
 told_by_number Cut = inl (refl, omega arith, omega arith)
 told_by_number UnknownKind = inl (refl, omega arith, omega arith)
@@ -223,15 +223,14 @@ told_by_number BadRequest = inl (refl, omega arith, omega arith)
 told_by_number NeedsMore = inl (refl, omega arith, omega arith)
 told_by_number (Other u) = inr (u, refl)
 
-same_beyond : (n : ℕ) → IsProp (beyond-type n)
-same_beyond n = hlevel le_prop
+-- a number with a fact that has one proof: what is made of both is told by the number
+pub same_by_number : {P : ℕ → Type 0} {T : Type 0} (make : (n : ℕ) → P n → T) → ((n : ℕ) → IsProp (P n)) → {n m : ℕ} → n ≡ m → (h : P n) (k : P m)
+    → make n h ≡ make m k
+same_by_number make once {n} {m} e = rw e (λ h k. ap (make m) (once m h k))
 
 same_unlisted : {u v : Unlisted} → u.number ≡ v.number → u ≡ v
-same_unlisted {u} {v} e = go u.number v.number e u.beyond v.beyond
-  where
-    go : (n m : ℕ) → n ≡ m → (b : beyond-type n) (c : beyond-type m)
-        → ◌≡◌ {A = Unlisted} (record { number = n; beyond = b }) (record { number = m; beyond = c })
-    go n m e = rw e (λ b c. ap (λ (x : beyond-type m). record { number = m; beyond = x }) (same_beyond m b c))
+same_unlisted {u} {v} e =
+    same_by_number {P = beyond-type} {T = Unlisted} (λ n h. record { number = n; beyond = h }) (λ n. hlevel le_prop) e u.beyond v.beyond
 
 pub one_number : {r s : Refusal} → number r ≡ number s → r ≡ s
 one_number {r} {s} e = go (told_by_number r) (told_by_number s)

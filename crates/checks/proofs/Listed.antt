@@ -1,16 +1,35 @@
--- Checks made in order refuse, if at all, with one of the 22 numbers that docs/refusals.md tells of (R4). Demand 1.
+-- What is listed is one of the 22 that docs/refusals.md tells of, and no other number; and checks made in order refuse, if at all, with one
+-- of them (R4). Demand 1.
 use mathlib.Core.Bool.{Bool, true, false}
 use mathlib.Core.List.{List, [], ◌∷◌, ◌++◌}
+use mathlib.Core.Logic.{◌⊎◌, inl, inr}
 use mathlib.Core.Path.{◌≡◌, refl}
 use Prim.Native.Nat.{ℕ, zero, suc, ◌≤◌}
 use native.Mathlib.Omega.{arith}
-use Rattle.checks.specs.Check.{number, Check, first_broken, class_by_class, input_checks, Listed}
-use Rattle.checks.proofs.Laws.{decides, pass_over, none_broken}
+use Rattle.std.specs.Prelude.{Err}
+use Rattle.checks.specs.declared.Refusal.{Refusal}
+use Rattle.checks.specs.declared.Refusal.TheVariants.{Other}
+use Rattle.checks.specs.declared.unlisted.Unlisted.{Unlisted}
+use Rattle.checks.specs.Check.{number, Check, first_broken, class_by_class, input_checks, Listed, refusal_at}
+use Rattle.checks.proofs.Laws.{decides, pass_over, none_broken, with_number, told_by_number}
+
+-- a refusal is listed, or a number that a caller made up, and not both
+pub listed_or_other : (r : Refusal) (place : ℕ) → Listed (Err (refusal_at r place)) ⊎ ((u : Unlisted) × (r ≡ Other u))
+listed_or_other r place = go (told_by_number r)
+  where
+    go : ((with_number (number r) ≡ r) × (1 ≤ number r) × (number r ≤ 22)) ⊎ ((u : Unlisted) × (r ≡ Other u)) → Listed (Err (refusal_at r place)) ⊎ ((u : Unlisted) × (r ≡ Other u))
+    go (inl a) = inl (a.1, a.2)
+    go (inr b) = inr b
+
+pub other_not_listed : (u : Unlisted) (place : ℕ) → Listed (Err (refusal_at (Other u) place)) → ⊥
+other_not_listed u place h =
+    let beyond = u.beyond h.0 in
+    absurd (omega arith)
 
 -- each check of a list has one of them
 abbrev pub EachListed : List Check → Type 0
 EachListed [] = Unit {0}
-EachListed (c ∷ cs) = ((1 ≤ number c.refusal) × (number c.refusal ≤ 22)) × EachListed cs
+EachListed (c ∷ cs) = Listed (Err (refusal_at c.refusal c.place)) × EachListed cs
 
 pub first_listed : (cs : List Check) → EachListed cs → Listed (first_broken cs)
 first_listed [] h = rw none_broken tt

@@ -2,15 +2,13 @@
 -- Demand 1.
 use mathlib.Core.Bool.{Bool, true, false}
 use mathlib.Core.List.{List}
-use mathlib.Core.Path.{◌≡◌, refl}
-use Prim.Native.Nat.{ℕ, zero, suc, ◌+◌, ◌≤◌}
+use Prim.Native.Nat.{ℕ, zero, suc}
 use native.Mathlib.Omega.{arith}
 use Rattle.std.specs.Prelude.{cond, drop, length, Some, None, Ok, Err}
 use Rattle.checks.specs.Check.{Verdict, Listed}
-use Rattle.plan.specs.declared.Arrived.{Arrived}
 use Rattle.plan.specs.declared.PlanRead.{PlanRead}
 use Rattle.plan.specs.declared.entry.Entry.TheVariants.{Arrives, Claims}
-use Rattle.plan.specs.Entry.{EntryRead, Claim, entry_at}
+use Rattle.plan.specs.Entry.{EntryRead, entry_at}
 use Rattle.plan.specs.Reader.{plan_of}
 use Rattle.plan.proofs.Listed.{plan_listed, entry_listed, stops_with}
 use Rattle.state.specs.declared.Link.{Link}

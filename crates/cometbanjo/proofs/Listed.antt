@@ -2,7 +2,7 @@
 -- rates, a mended plan, a recording and a burst it is said in the files of this name in plan, calls, asked, mended, claims and answers.
 -- Demand 1.
 use mathlib.Core.List.{List}
-use Prim.Native.Nat.{ℕ, ◌≤◌}
+use Prim.Native.Nat.{ℕ}
 use native.Mathlib.Omega.{arith}
 use Rattle.std.specs.Prelude.{Ok, Err}
 use Rattle.checks.specs.Check.{first_broken, Verdict, Listed}

@@ -1,6 +1,6 @@
 -- A plan that is to be mended is refused, if at all, with one of the 22 that docs/refusals.md tells of (R4). Demand 1.
-use mathlib.Core.List.{List, ◌++◌}
-use Prim.Native.Nat.{ℕ, zero, suc, ◌≤◌}
+use mathlib.Core.List.{List}
+use Prim.Native.Nat.{ℕ, zero, suc}
 use native.Mathlib.Omega.{arith}
 use Rattle.std.specs.Prelude.{Ok, Err}
 use Rattle.checks.specs.Check.{Check, first_broken, class_by_class, Verdict, Listed}

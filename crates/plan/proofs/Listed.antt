@@ -1,23 +1,22 @@
 -- What the readers refuse with is one of the 22 that docs/refusals.md tells of, whatever bytes they are given (R4). Demand 1.
 use mathlib.Core.Bool.{Bool, true, false}
-use mathlib.Core.List.{List, [], ◌∷◌, ◌++◌}
-use mathlib.Core.Path.{◌≡◌, refl}
-use Prim.Native.Nat.{ℕ, ◌+◌, ◌≤◌}
+use mathlib.Core.List.{List, []}
+use Prim.Native.Nat.{ℕ, ◌+◌}
 use native.Mathlib.Omega.{arith}
 use Rattle.std.specs.Prelude.{cond, drop, Option, Some, None, Ok, Err}
-use Rattle.checks.specs.Check.{Check, first_broken, Verdict, Listed}
+use Rattle.checks.specs.Check.{first_broken, Verdict, Listed}
 use Rattle.checks.proofs.Listed.{EachListed, first_listed, both_listed}
 use Rattle.tree.specs.declared.Tree.{Tree}
 use Rattle.tree.specs.Class.{added}
 use Rattle.tree.specs.Rules.{closing_checks}
-use Rattle.tree.proofs.Listed.{class_listed, closing_listed}
+use Rattle.tree.proofs.Listed.{class_checks_listed, closing_checks_listed}
 use Rattle.plan.specs.declared.entry.Entry.TheVariants.{Arrives, Claims}
 use Rattle.plan.specs.declared.event.Event.{Event}
 use Rattle.plan.specs.declared.event.Event.TheVariants.{Arrive, SendNext}
 use Rattle.plan.specs.Kind.{gives_class, gives_arrival}
 use Rattle.plan.specs.Record.{kind_at, missing, class_at, body_of}
 use Rattle.plan.specs.Reader.{head_checks, rule_checks, new_class_checks, whole_checks, record_checks, tree_of, after, checks_of, passed_over, deciding_checks, outcome, plan_of, records_of}
-use Rattle.plan.specs.Event.{EventRead, arrived_of, event_checks, verdict_of, event_of, judged, event_at}
+use Rattle.plan.specs.Event.{arrived_of, event_checks, verdict_of, event_of, judged, event_at}
 use Rattle.plan.specs.Entry.{EntryRead, claim_in, claim_checks, entry_checks, stopped_by, claim_after, entry_of, entry_at}
 
 -- the verdict of each case of the answer of the reader of recordings
@@ -27,7 +26,7 @@ stops_with (Err e) = Err e
 
 -- a plan's records, and what comes after the end record
 new_class_listed : (t : Tree) (place : ℕ) → EachListed (new_class_checks t place)
-new_class_listed t place = ((omega arith, omega arith), class_listed t t.count place)
+new_class_listed t place = ((omega arith, omega arith), class_checks_listed t t.count place)
 
 whole_listed : (rest : List ℕ) (place : ℕ) (t : Tree) → EachListed (whole_checks rest place t)
 whole_listed rest place t =
@@ -56,7 +55,7 @@ plan_listed input =
     let k = passed_over input in
     outcome_listed (first_broken (deciding_checks input k)) (tree_of input k) (after input k + 1)
     (first_listed (deciding_checks input k)
-    (both_listed (checks_of input k) (closing_checks (tree_of input k)) (record_listed input k) (closing_listed (tree_of input k))))
+    (both_listed (checks_of input k) (closing_checks (tree_of input k)) (record_listed input k) (closing_checks_listed (tree_of input k))))
 
 pub records_listed : (input : List ℕ) → Listed (records_of input).verdict
 unfolding records_of

@@ -1,7 +1,6 @@
 -- A call of the second engine is refused, if at all, with one of the 22 that docs/refusals.md tells of, on any record (R4). Demand 1.
-use mathlib.Core.Bool.{Bool, true, false}
+use mathlib.Core.Bool.{Bool}
 use mathlib.Core.Path.{◌≡◌, ap}
-use Prim.Native.Nat.{◌≤◌}
 use native.Mathlib.Omega.{arith}
 use Rattle.std.specs.Prelude.{Ok, Err}
 use Rattle.checks.specs.Check.{first_broken, Verdict, Listed}
@@ -10,11 +9,11 @@ use Rattle.tree.specs.declared.Tree.{Tree}
 use Rattle.state.specs.State.{meaning}
 use Rattle.calls.specs.Run.{Call, arrival, send}
 use Rattle.calls.specs.Send.{send_checks}
-use Rattle.calls.proofs.Listed.{arrival_of_listed}
+use Rattle.calls.proofs.Listed.{arrival_of_listed, fresh_of_listed}
 use Rattle.published.specs.declared.Second.{Second}
 use Rattle.published.specs.declared.SecondFresh.{SecondFresh}
 use Rattle.published.specs.Second.{send_given}
-use Rattle.published.specs.Contract.{fresh_given, MakesSecond, MadeSecond, made_second, made_by, call_made, MeetsSecond}
+use Rattle.published.specs.Contract.{MakesSecond, MadeSecond, made_second, made_by, call_made, MeetsSecond}
 
 abbrev pub second_verdict : MadeSecond → Verdict
 second_verdict (made_second (arrival class p) answer after) = answer.verdict
@@ -36,8 +35,4 @@ second_listed {l} {m} a =
     rw same (call_listed a.sound l (call_made m))
 
 pub second_fresh_listed : {t : Tree} {r : SecondFresh} → MakesSecond t r → Listed r.verdict
-second_fresh_listed {t} {r} a = rw a.answer (go a.obeys)
-  where
-    go : (b : Bool) → Listed (fresh_given b t).verdict
-    go true = tt
-    go false = (omega arith, omega arith)
+second_fresh_listed {t} {r} a = rw a.answer (fresh_of_listed a.obeys t)
